@@ -86,7 +86,7 @@ static void arrive(struct link *link, struct packet packet, uint64_t now) {
     }
 }
 
-/* Sends the oldest packet, and answers its size, 0 with none. */
+/* Sends the oldest packet, and returns its size, 0 with none. */
 static uint32_t depart(struct link *link, uint64_t now) {
     struct pie_event event = {.caller = LINK, .moment = now};
     if (link->packets == 0) {

@@ -20,7 +20,7 @@ struct fwd_options {
     uint64_t segments;     /* that are kept, 0: all */
     const char *flight;    /* the file of the flight recorder's text, never NULL */
     const char *flows;     /* the file that lists flows, or NULL */
-    const char *records;   /* of the records of periods, or NULL */
+    const char *records;   /* of the records of intervals, or NULL */
 };
 
 enum { FWD_READ, FWD_HELP, FWD_WRONG };

@@ -1,4 +1,4 @@
-/* The records of a stage's periods, written to a file as they end. */
+/* The records of a stage's intervals, written to a file as they end. */
 #ifndef FWD_RECORDS_H
 #define FWD_RECORDS_H
 

@@ -230,7 +230,7 @@ static bool write_texts(void) {
     return is_any;
 }
 
-/* A line a second, histories, records of periods and flows, and the flight recorder's text, until the end. */
+/* A line a second, histories, records of intervals and flows, and the flight recorder's text, until the end. */
 static void report(void) {
     char port[RTE_ETH_NAME_MAX_LEN];
     struct pie_stage_stats before[FWD_QUEUES] = {0}, after[FWD_QUEUES];

@@ -34,7 +34,7 @@
 #define MBUFS 16383u
 #define BURST 32
 #define EVENTS (1u << 17) /* pending for the history */
-#define EVERY 10000000    /* ns of a period */
+#define EVERY 10000000    /* ns of an interval */
 #define STANDING 512
 #define ROOM 1024u
 

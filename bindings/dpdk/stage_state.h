@@ -25,7 +25,7 @@ struct waiting {
 
 #define TAG_MASK ((UINT64_C(1) << 46) - 1)
 
-/* The time of day beside the stage's clock. */
+/* The wall-clock time beside the stage's clock. */
 struct clock {
     uint64_t moment, unix_time; /* nanoseconds since 1970 */
 };

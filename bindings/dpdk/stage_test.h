@@ -42,7 +42,7 @@ struct pie_stage *stage_of(struct pie_stage_params *params);
 struct told {
     uint64_t lines, lost, gaps; /* lines except clock records; events that its lines `lost` report, and the number
                                    of these lines */
-    uint64_t clocks;            /* lines of the time of day */
+    uint64_t clocks;            /* lines of the wall-clock time */
 };
 
 /* Writes the present part of the history, or all of it to its end, into a file. */

@@ -15,7 +15,7 @@ void expect_all_back(void) {
     EXPECT(rte_mempool_avail_count(pool) == MBUFS);
 }
 
-/* A frame with this many VLAN tags, an IP header of this version and this ECN field; answers its size. */
+/* Writes a frame with this number of VLAN tags and an IP header of this version and this ECN field; returns its size. */
 static uint32_t write_frame(uint8_t *bytes, int tags, int version, uint8_t ecn) {
     uint32_t at = 12;
     memset(bytes, 0, 256);

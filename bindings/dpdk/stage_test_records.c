@@ -118,7 +118,7 @@ static void sum_up(const char *kind, uint64_t every, uint64_t profile, uint32_t 
     expect_all_back();
 }
 
-/* Events less than a nanosecond apart, so that some are at the very end of a period: they are the next one's. */
+/* Events less than a nanosecond apart, so that some are at the very end of an interval: they are the next one's. */
 static void sum_up_closely(void) {
     struct pie_stage_params params;
     struct told told = {0};

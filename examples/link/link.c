@@ -54,7 +54,7 @@ struct bottleneck {
     _Atomic uint64_t missed; /* missing events so far */
     struct records records;
     struct flows flows;
-    struct flow_top top;   /* the last complete period with packets, until it is reported; protected by `telling` */
+    struct flow_top top;   /* the last complete interval with packets, until it is reported; protected by `telling` */
     pthread_mutex_t telling;
     pthread_t writer;      /* of the history, of flows, of the metrics, and of the flight recorder's text */
     atomic_bool is_closed; /* the writer has to end */
@@ -136,8 +136,8 @@ static void release(struct bottleneck *link, struct packets *packets, int device
         send_packet(link, device, pop(packets));
 }
 
-/* Returns the packet's tag: its number among the arrivals, and with --flows its flow's number above it. A period
- * that ended is passed to the writer. */
+/* Returns the packet's tag: its number among the arrivals, and with --flows its flow's number above it. A
+ * complete interval is passed to the writer. */
 static uint64_t tag_of(struct bottleneck *link, const struct packet *packet, uint64_t now) {
     struct flow_top ended;
     uint64_t tag = note_flow(&link->flows, packet->bytes, packet->length, packet->size, now, link->counted.arrived + 1, &ended);
@@ -333,7 +333,7 @@ static void write_if_asked(const struct bottleneck *link) {
     fprintf(stderr, "link: %s.history: %s\n", flight->name, flight_text(answer));
 }
 
-/* Writes the new flows, and reports the flow with the most bytes of the last complete period. */
+/* Writes the new flows, and reports the flow with the most bytes of the last complete interval. */
 static void tell_flows(struct bottleneck *link) {
     char words[LONGEST_FLOW];
     write_flows(&link->flows);

@@ -20,8 +20,8 @@ struct options {
     const char *flight;     /* the file of the flight recorder; NULL with none */
     const char *metrics;    /* the file of the metrics; NULL with none */
     const char *flows;      /* the file that lists flows; NULL if there is none */
-    const char *records;    /* the file for the records of periods; NULL with none */
-    uint64_t every;         /* ns that a period lasts */
+    const char *records;    /* the file for the records of intervals, or NULL */
+    uint64_t every;         /* the length of an interval in ns */
     uint64_t rtt;           /* ns on the way back */
     uint64_t grant;         /* ns from one grant to the next; 0: the link sends whenever it is free */
     bool at_start;          /* a packet leaves when its transmission begins, not when it ends */

@@ -35,7 +35,7 @@ static inline void tell_flight(const struct flight_file *file, uint64_t moment, 
         pie_flight_clock(file->memory, moment, unix_time);
 }
 
-/* Writes the recorder's text to NAME.history, while other threads may keep events; one thread at a time. Answers as pie_flight_dump. */
+/* Writes the recorder's text to NAME.history, while other threads may keep events; one thread at a time. Returns the result of pie_flight_dump. */
 int write_flight(const struct flight_file *file);
 
 /* Writes the text of a file that an earlier run left to this stream. Returns the status of

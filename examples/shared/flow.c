@@ -154,7 +154,7 @@ static struct flow_row *row_of(struct flows *flows, const struct flow *flow, uin
     return &flows->rows[count];
 }
 
-/* Adds bytes to this flow in its period. */
+/* Adds bytes to this flow in its interval. */
 static void count_bytes(struct flows *flows, struct flow_row *row, uint32_t size, uint64_t period, struct flow_top *ended) {
     struct flow_top *top = &flows->top;
     if (period != top->period) {

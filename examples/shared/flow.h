@@ -36,7 +36,7 @@ uint32_t flow_number(const struct flow *flow);
 /* The flow in words, as udp 192.0.2.1:53 > 198.51.100.7:4242. */
 void flow_words(const struct flow *flow, char words[LONGEST_FLOW]);
 
-/* The arrivals of a flow in one period. */
+/* The arrivals of a flow in one interval. */
 struct flow_top {
     uint64_t period;       /* its number, from 0 on */
     uint32_t place;        /* of the flow with the most bytes */
@@ -46,7 +46,7 @@ struct flow_top {
 struct flow_row {
     struct flow flow;
     uint32_t number;
-    uint64_t period, bytes; /* the last period with a packet of it, and the bytes since its begin */
+    uint64_t period, bytes; /* the last interval with a packet of it, and the bytes since its beginning */
 };
 
 /* All flows that were seen. One thread notes them, and the same or another one writes them. */
@@ -57,7 +57,7 @@ struct flows {
     uint32_t count;       /* of the rows: stored last by the thread that notes, and loaded first by that which writes */
     uint32_t written;
     uint64_t missing;     /* packets of flows without a row, because there are too many flows */
-    struct flow_top top;  /* of this period */
+    struct flow_top top;  /* of this interval */
 };
 
 /* Opens the file (NULL: none), and writes its header. Returns false if that fails. */
@@ -65,7 +65,7 @@ bool open_flows(struct flows *flows, const char *name);
 
 /* Counts a packet of this many bytes on the wire, which arrives at this moment in ns and begins with its IP header.
  * Returns the tag: the flow's number, 0 without an IP header, above the lower 32 bits of the counter. Without a
- * file the counter is the tag. If a period with packets ended before this packet, `ended` receives its arrivals;
+ * file the counter is the tag. If an interval with packets ended before this packet, `ended` receives its arrivals;
  * otherwise its total is 0. */
 uint64_t note_flow(struct flows *flows, const uint8_t *bytes, size_t caught, uint32_t size, uint64_t moment, uint64_t counter,
                    struct flow_top *ended);

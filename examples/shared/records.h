@@ -25,7 +25,7 @@ struct records {
  * Returns false if that fails. */
 bool open_records(struct records *records, const char *name, uint64_t every, uint64_t moment, const uint64_t *unix_time);
 
-/* Makes the record of the period under way. */
+/* Makes the record of the current interval. */
 void make_record(struct records *records);
 
 /* Writes the completed record, and makes it visible to readers. */
@@ -43,7 +43,7 @@ static inline bool are_summed(struct records *records, const struct pie_event *e
     return true;
 }
 
-/* After an event that is summed up: writes the record of the period that it ended. A call that was refused ended none. Returns the answer. */
+/* After an event that is summed up: writes the record of the interval that it ended. A refused call ends none. Returns the answer. */
 static inline uint32_t summed(struct records *records, uint32_t answer) {
     if (records->period.begun != records->begun)
         write_record(records);

@@ -203,7 +203,7 @@ class Cluster:
             self.wait_for(f"worker {name}", lambda: any(f"name: {name}," in line for line in self.log(0).splitlines() if "Register worker" in line))
 
     def fleet(self, *words):
-        """Begins pie-fleet; answers its process, and the number of its log."""
+        """Begins pie-fleet; returns its process, and the number of its log."""
         return self.begin([PYTHON, "-m", "pie_fleet", *words], cwd=f"{TOP}/fleet", env=os.environ), len(self.processes) - 1
 
     def wait_for_row(self, begun, log, journal):

@@ -33,8 +33,8 @@ LINE = re.compile(rf'{NAME_OF}:|\t(\.\w+)(?:\t.*)?|\t(?:(?:lock|rep|notrack)\t\t
 # functions of the C library and of libgcc, whose stack is not counted
 OUTSIDE = {"memcpy", "memmove", "memset", "memcmp", "bcmp", "__divti3", "__udivti3", "__umodti3", "__modti3", "rattle_alloc", "rattle_realloc", "rattle_dealloc"}
 
-# functions that call themselves, and the greatest depth: a row of 512 bytes has room for 24 numbers (crates/pie_text/src/words.rt); a period has 9
-# answers (crates/pie_summary/src/record.rt)
+# functions that call themselves, and the greatest depth: a row of 512 bytes has room for 24 numbers (crates/pie_text/src/words.rt); an interval has
+# 9 answers (crates/pie_summary/src/record.rt)
 ROUNDS = {"pie_text::words::put_numbers": 25, "pie_summary::record::together": 10}
 
 

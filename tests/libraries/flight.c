@@ -57,7 +57,7 @@ static int has_no_event(void) {
     return at != NULL && at + 1 == end;
 }
 
-/* Dumps, decides again, and answers the number of the last event. */
+/* Dumps, decides again, and returns the number of the last event. */
 static uint64_t dump(const void *memory, size_t bytes, void *scratch, struct owner *owner, uint64_t *first) {
     uint64_t last;
     int answer;

@@ -1,10 +1,10 @@
-/* Makes the events of a history anew by the calls that sum up, and writes the records of their periods by the loop of include/pie.h: what
+/* Makes the events of a history anew by the calls that sum up, and writes the records of their intervals by the loop of include/pie.h: what
  * `pie explain --every --csv` writes of the history. Each answer is the history's, no record is lost, and one that doesn't fit is not written.
- * Between the events calls are refused that would end the period.
+ * Between the events calls are refused that would end the interval.
  *
- * usage: period EVERY WALL [WRONG] < HISTORY     EVERY: the length of a period in ns; WALL: 1 with times of day, 0 without;
- *                                                WRONG: `late` makes a period's record after the next one's first event; `early` writes it before
- *                                                the call that may end the period, also if that is refused */
+ * usage: period EVERY WALL [WRONG] < HISTORY     EVERY: the length of an interval in ns; WALL: 1 with wall-clock times, else 0;
+ *                                                WRONG: `late` makes an interval's record after the next one's first event; `early` writes it before
+ *                                                the call that may end the interval, also if that is refused */
 #include "pie.h"
 
 #include <inttypes.h>
@@ -84,7 +84,7 @@ static void open_by_record(void) {
     CHECK(pie_open(&state, &opening) == PIE_DONE);
 }
 
-/* Makes the record of the period under way: none before the first event; into a byte too little room nothing, and the bytes behind it stay. */
+/* Makes the record of the current interval: none before the first event; into a byte too little room nothing, and the bytes behind it stay. */
 static void make_record(void) {
     memset(record, '#', sizeof record);
     size = pie_write_period(&period, record, sizeof record);
@@ -99,14 +99,14 @@ static void make_record(void) {
     CHECK(pie_write_period(&period, out, size) == size && memcmp(out, record, size) == 0 && out[size] == '#');
 }
 
-/* Writes the record that was made of the period with this number. */
+/* Writes the record of the interval with this number. */
 static void write_record(uint64_t number) {
     CHECK(number == written + 1);
     fwrite(record, 1, size, stdout);
     written = number;
 }
 
-/* Before a call: the record of a period that it may end. */
+/* Before a call: makes the record of the interval that it may end. */
 static void before(uint64_t moment) {
     begun = period.begun;
     if (moment >= period.end && !is_late)

@@ -62,7 +62,7 @@ def timed(text, chance):
 
 
 class History:
-    """A history, the records of its explanations, also with times of day, and its records of these."""
+    """A history, the records of its explanations, also with wall-clock times, and its records of these."""
 
     def __init__(self, name, text, book=None):
         self.name, self.text, self.book = name, text, book

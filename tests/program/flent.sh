@@ -3,7 +3,7 @@
 # its queue: `ping` (ICMP, and UDP by irtt) and `voip` (a packet each 20 ms, by irtt). flent must
 # load and plot its data file without a display. No round trip may be below the link's delay, and
 # the link's history must be clean. flent's tests of TCP need netperf, which is not free software,
-# and are left out. Prints a line NOT RUN if a requirement is missing.
+# and are omitted. Prints a line NOT RUN if a requirement is missing.
 # usage: tests/program/flent.sh [PROGRAM]      PROGRAM: crates/pie/out/pie by default
 # needs: program, library, root
 . "$(dirname "$0")/../shared/script.sh"

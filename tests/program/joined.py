@@ -1,6 +1,6 @@
 #!/usr/bin/env python3
 """Audits segments of random histories with `pie audit --joined`, in order and out of order: each follows the one
-before it, or the gap or the difference is reported. Segments are left out, exchanged and repeated, and replaced by
+before it, or the gap or the difference is reported. Segments are omitted, exchanged and repeated, and replaced by
 segments of another history with the same numbers. Each field of a preamble and of its queued packets is changed;
 tests/shared/reference_resumed.py gives the expected finding. Texts with a change, or with parameters out of their
 ranges, are cut into segments by `pie cut`: each segment must be clean and follow, except the last if the text

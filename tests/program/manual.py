@@ -132,7 +132,7 @@ def main():
         hold_script(script)
     zsh = zsh_options(names)
     for name in ["", *names]:
-        # Each subcommand has --help; the manual page says so once.
+        # Each subcommand has --help; the manual page has it once.
         compare("man/pie.1:", name, {**man.get(name, {}), **({"help": False} if name else {})}, {**wanted[name], **({"help": False} if name else {})})
         if name not in ("", "help"):
             options = {option for option in wanted[name] if option != "help" and (name not in cut or option in listed[name])}

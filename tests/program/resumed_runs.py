@@ -126,7 +126,7 @@ def check_other(seed, whole, n, chance):
 
 
 def changed(rows, beginning, chance):
-    """Returns the records with one field changed, one record left out, or two exchanged."""
+    """Returns the records with one field changed, one record omitted, or two exchanged."""
     rows = [list(row) for row in rows]
     kind, place = chance.randrange(4), chance.choice((0, chance.randrange(beginning), chance.randrange(len(rows))))
     if kind == 0:

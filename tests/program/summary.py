@@ -193,7 +193,7 @@ def hold(name, history, words):
 
 
 def lengths():
-    """Texts that are no length of a period."""
+    """Texts that are no length of an interval."""
     history = "open,0,4,16,100\nreset,1,1500000,done\n"
     for text in ("0", "0ms", "0.000000s"):
         expect(f"--every {text}", pie(history, "--every", text), (1, "", "pie: --every: the interval must be at least 1 ns\n"))

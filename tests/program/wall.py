@@ -207,7 +207,7 @@ def hold_ends():
 
 
 def hold_texts():
-    """Texts that are no times of day, and options that don't go together."""
+    """Texts that are no wall-clock times, and options that don't go together."""
     history = f"{OPENING}clock,0,0\nreset,1,0,done\n"
     form = "pie: --from: a wall-clock time must have the form 2026-11-24T20:00:00Z, with at most nine decimals of a second\n"
     for text in ("2026-11-24", "2026-11-24T20:00Z", "2026-11-24T20:00:00", "2026-11-24T20:00:00z", "2026-11-24t20:00:00Z", "2026-11-24 20:00:00Z",

@@ -102,7 +102,7 @@ def broken(folder):
 
 
 def unusual(folder):
-    """Histories with times of day, with the greatest numbers and over the longest time, and with one event."""
+    """Histories with wall-clock times, with the greatest numbers and over the longest time, and with one event."""
     beginning = "open3,1,rate,derandomized,capped,unscaled,rolling,0,1,32,100000\n"
     last, tag = 2**60 - 1, 2**64 - 1
     texts = {

@@ -2,7 +2,7 @@
 
 enum { LINK = 2, TIMER = 3 };
 
-/* Decides an arriving packet, and queues it if the verdict says so. */
+/* Decides on an arriving packet, and queues it if its verdict is to queue or mark it. */
 static uint32_t arrive(struct pie_state *state, struct pie_array_queue *queue, struct pie_event *event) {
     uint32_t answer = pie_arrive_event(state, queue->bytes, queue->most_packets - queue->packets, event);
     if (answer == PIE_ENQUEUE || answer == PIE_MARK) {

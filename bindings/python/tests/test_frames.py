@@ -143,7 +143,7 @@ def test_flows(options, tmp_path):
 
 
 def test_times_of_day_past_pandas_own(tmp_path):
-    """pandas's nanoseconds end on 2262-04-11. Later times of day are texts."""
+    """pandas's nanoseconds end on 2262-04-11. Later wall-clock times are texts."""
     last = 2**63 - 1
     for name, times in (("all", [last - 9, last]), ("none", [last - 9, last + 1]), ("late", [2**64 - 10**9, 2**64 - 2])):
         place = tmp_path / name

@@ -130,7 +130,7 @@ impl RawCore {
         self.tally.queue_is(self.queue.bytes());
     }
 
-    /// Decides an arriving packet and queues it if the verdict says so.
+    /// Decides on an arriving packet, and queues it if its verdict is to queue or mark it.
     #[inline(always)]
     #[tactic(auto, using(std::proofs::lemmas::Bool::Decides::nat_tests))]
     pub(crate) fn arrive(
@@ -173,7 +173,7 @@ impl RawCore {
         }
     }
 
-    /// Queues the packet if its verdict says so.
+    /// Queues the packet if its verdict is to queue or mark it.
     #[inline(always)]
     fn admit(&mut self, verdict: Verdict, packet: Packet, now: Nanos)
         requires size { IsSize packet.size }

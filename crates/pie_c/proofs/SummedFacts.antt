@@ -1,4 +1,4 @@
--- Facts about the events that the summing calls add to a period.
+-- Facts about the events that the summing calls add to an interval's sums.
 use Rattle.std.specs.Prelude.{Option}
 use Rattle.pie_c.specs.{Cause, answer_of, Clock, Explained, LivePeriod, Conditions, Holds, IsSet, HasConditions, clock_of, meter_input_of, updated_by, Adds, ExplainsCall}
 use Rattle.pie_c.specs.{conditions_of, cause_after, held_after, wait_of, deed_of, Setter, explanation, moment_of, with_after}

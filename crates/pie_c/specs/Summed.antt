@@ -1,4 +1,4 @@
--- Events that the summing calls add to a period, as they are explained.
+-- Events that the summing calls add to an interval's sums, as they are explained.
 use Rattle.std.specs.Prelude.{ℕ, ◌≡◌, ◌==◌, ◌||◌, Bool, nat_lt, List, [], ◌∷◌, ◌++◌, Option, Some, if◌then◌else◌}
 use Rattle.pie_c.specs.Names.{Cause, Event, Clock, Explained, LivePeriod, Conditions, Holds, IsSet, HasConditions, clock_of, cause, verdict, last_moment, ecn_at}
 use Rattle.pie_c.specs.Names.{PieEvent, PieState}
@@ -29,8 +29,8 @@ pub record ExplainsCall (before after : PieState) (day : Option Clock) (made : E
   pub clock : one.told.clock ≡ day
   pub meets : HasConditions (conditions_of (before.active == 1) before.params.target before.last after) one
 
--- the period after a call with this refusal: if the period contained some events, it contains one more event with this
--- explanation; after a refusal it is unchanged
+-- the sums after a call with this refusal: if they are those of some events, they are then those of these and one more
+-- event with this explanation; after a refusal they are unchanged
 pub record Adds (refusal : ℕ) (before after : LivePeriod) (told : Explained → Type 0) : Type 0 where
   pub refused : (refusal ≡ 0 → ⊥) → after ≡ before
   pub settings : IsSet before after
@@ -43,6 +43,6 @@ AddsArrival before queued room e period after filled left = let arrival = arriva
     (ExplainsCall before after (clock_of period) (arrival_with filled (ecn_at e.ecn) (verdict (held_in before) arrival))
     (Some (cause (held_in before) arrival packets)) 0)
 
--- the code of the refusal of a length of periods; 0 if it is accepted
+-- the code of the refusal of a length of intervals; 0 if it is accepted
 abbrev pub every_refusal : ℕ → ℕ
 every_refusal every = if (every == 0) || nat_lt last_moment every then 128 else 0

@@ -28,7 +28,7 @@ pub fn written_calls_are_records()
         ≡ rows_text (resumed_rows (opening_in o) (snapshot_in s t count packets bytes) past (set_by_of set_by) (map event_row events)) }
 {}
 
-/// States that the summing calls add to a period their event as pie_explain explains it. `ExplainsCall` holds for that
+/// States that the summing calls add their event to `period` as pie_explain explains it. `ExplainsCall` holds for that
 /// explanation if the states before and after the call contain the controller's state after a history, without the
 /// event and with it (this project's own).
 ///

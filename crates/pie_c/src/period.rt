@@ -1,4 +1,4 @@
-//! A period of a running summary: its opening, the wall-clock time, and its record.
+//! The intervals of a running summary: their opening, the wall-clock time, and their records.
 ghost use Rattle.std.specs.Prelude.{◌≡◌, ◌==◌, [], List, if◌then◌else◌};
 ghost use Rattle.pie_c.specs.{moment_refusal, after_writing, count_written, every_refusal, Explained, LivePeriod, Holds, form_in, length_of};
 ghost use Rattle.pie_summary.specs.Period.{at_last};
@@ -10,10 +10,11 @@ use pie_fixed::MAX_NANOS;
 use pie_summary::LivePeriod;
 use pie_text::LongRow;
 
-/// Refused: a length of periods out of its range.
+/// Refused: a length of intervals out of its range.
 pub const BAD_EVERY: u32 = 128;
 
-/// Opens periods of `every` nanoseconds, 1 to 2^60 - 1. If `wall` is not 0, their records end with the wall-clock time.
+/// Opens `period` for intervals of `every` nanoseconds, 1 to 2^60 - 1. If `wall` is not 0, their records end with the
+/// wall-clock time.
 #[unsafe(no_mangle)]
 pub extern "C" fn pie_open_period(period: &mut LivePeriod, every: u64, wall: u32) -> u32
     ensures code { result ≡ every_refusal every }
@@ -49,7 +50,7 @@ pub extern "C" fn pie_period_clock(period: &mut LivePeriod, moment: u64, unix: u
     DONE
 }
 
-/// Writes the record of the current period, as `pie explain --every --csv` writes it, with `--wall` if the period was
+/// Writes the record of the current interval, as `pie explain --every --csv` writes it, with `--wall` if `period` was
 /// opened so. Before the first event there is no record: returns 0, and `out` is unchanged.
 #[unsafe(no_mangle)]
 pub extern "C" fn pie_write_period(period: &LivePeriod, out: &mut [u8]) -> usize

@@ -377,7 +377,7 @@ fn push_last(page: &mut String, clock: Option<Clock>, updates: u64, last: u64) -
     write!(page, " last update at {last};")
 }
 
-/// Returns the line that says if the event turned the controller on or off.
+/// Returns a line if the event turned the controller on or off, otherwise the empty text.
 #[tactic(auto, unfolding(crate::specs::Words::turned_words))]
 fn turned_text(was_active: bool, is_active: bool) -> &'static str
     ensures { result.now ≡ turned_words was_active is_active }

@@ -8,12 +8,12 @@ use pie_explain::{Explained, Form, Report};
 use pie_text::Page;
 use std::alloc::AllocError;
 
-/// A `Summary` that explains no packets. It reads a few numbers of each event, and the compiler leaves out the others.
+/// A `Summary` that explains no packets. It reads a few numbers of each event, and the compiler omits the others.
 #[derive(Clone, Copy)]
 pub struct SumsAlone {
     /// The form of a `Summary`.
     pub form: Form,
-    /// The period of a `Summary`.
+    /// The length of an interval of a `Summary`.
     pub every: Option<u64>,
 }
 

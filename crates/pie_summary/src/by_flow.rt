@@ -16,7 +16,7 @@ use std::alloc::AllocError;
 /// Sums of the explained events by flow: the arrivals, their verdicts and the waiting times, for each of the flows with the most bytes, and for all
 /// others together. The sums are those of all events, or of each interval that has some; each is written when its last event is known.
 ///
-/// A flow is the upper 32 bits of its packets' tags (this project's own). Memory is taken for each flow of a period.
+/// A flow is the upper 32 bits of its packets' tags (this project's own). Memory is taken for each flow of an interval.
 #[derive(Clone, Copy)]
 pub struct ByFlow {
     /// In words, or as CSV: a header row, and one record for each flow and interval. With wall-clock times the

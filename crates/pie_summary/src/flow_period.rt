@@ -1,4 +1,4 @@
-//! The period that is being summed up by flow.
+//! The current interval, summed up by flow.
 ghost use Rattle.std.specs.Prelude.{◌≡◌, ◌++◌, ◌∷◌, [], ℕ, List, None, OnOk, Option, Some};
 ghost use Rattle.pie_explain.specs.declared.explanation.Explained.{Explained};
 ghost use Rattle.pie_summary.specs.ByFlow.{HoldsFlows};

@@ -1,4 +1,4 @@
-//! A period that is summed up as it goes, in memory that its owner has.
+//! The sums of the current interval, updated with each event, in memory of the owner.
 ghost use Rattle.std.specs.Prelude.{◌≡◌, ◌<◌, ◌++◌, ◌∷◌, [], ℕ, List, not, if◌then◌else◌};
 ghost use Rattle.std.specs.List.{cons_option};
 ghost use Rattle.pie_explain.specs.Selection.{time_of};
@@ -179,7 +179,7 @@ impl LivePeriod {
         }
     }
 
-    /// Adds the record of the period under way to an empty line; before the first event there is none.
+    /// Adds the record of the current interval to an empty line; before the first event there is none.
     #[tactic(auto, using(crate::proofs::LiveFacts::text_live))]
     pub fn put_record(&self, line: &mut LongRow)
         requires { line.old ≡ [] }

@@ -146,7 +146,7 @@ impl Meter {
         }
     }
 
-    /// Counts the event that the meter awaits. The compiler leaves out the numbers that the event's kind does not have.
+    /// Counts the event that the meter awaits. The compiler omits the numbers that the event's kind does not have.
     #[inline(always)]
     pub(crate) fn take(&mut self, noted: &MeterInput)
         requires { noted.now.answer < 9 }

@@ -1,4 +1,4 @@
-//! The period that is being summed up.
+//! The current interval of a summary.
 ghost use Rattle.std.specs.Prelude.{◌≡◌, ◌++◌, ◌∷◌, [], ℕ, List, IfOk, Option, None, Some};
 ghost use Rattle.pie_explain.specs.declared.explanation.Explained.{Explained};
 ghost use Rattle.pie_summary.specs.Period.{Keeps, begins, has_summary, period_of, since, starts};
@@ -53,10 +53,10 @@ pub(crate) fn has_summary(every: Option<u64>, last: Option<u64>) -> bool
     }
 }
 
-/// The numbers of the last events, as far back as they are in the same period.
+/// The numbers of the last events that are in one interval.
 #[derive(Drop)]
 pub struct Period {
-    /// The number of that period; none before the first event.
+    /// The number of that interval; none before the first event.
     pub number: Option<u64>,
     /// The numbers of these events.
     pub sums: Sums,
@@ -106,7 +106,7 @@ impl Period {
         self.add_by_kind(told);
     }
 
-    /// Adds one more event of the interval. Each kind of answer has an arm of its own, in which the compiler leaves out
+    /// Adds one more event of the interval. Each kind of answer has an arm of its own, in which the compiler omits
     /// the numbers that the kind does not have.
     #[inline(always)]
     fn add_by_kind(&mut self, told: &Explained)

@@ -134,7 +134,7 @@ balanced_first opening = record {
   picking = first-picking opening.choices.elements.picking opening;
 }
 
--- the resumed core is accepted at its end if the announced packets and bytes are at least those of its waiting packets
+-- a resumed core from which no announced packet or byte is missing has a balanced snapshot, if the announced numbers are balanced
 pub balanced_ended : (core : CoreView) (packets bytes : ℕ) → length core.waiting ≤ packets → bytes_of core.waiting ≤ bytes
     → end_refusal (record { core = core; packets = packets; bytes = bytes }) ≡ None
     → are_balanced (record { count = core.count; controller = core.held; packets = packets; bytes = bytes; stats = core.stats }) ≡ true

@@ -26,7 +26,7 @@ explained-as before after day made decided wait one met noted is tells notes = (
   tells.clock,
 )
 
--- the addition of a call: a refused call changes nothing, and an accepted one is added
+-- a call adds its event as `Adds` states, if its flag is true exactly without a refusal
 pub adds-by : (refusal : ℕ) (before after : LivePeriod) (explained-as : Explained → Type 0) (taken : Bool) (noted : MeterInput) → IsSet before after
     → (taken ≡ false → after ≡ before)
     → ((all : List Explained) (one : Explained) → taken ≡ true → noted ≡ meter_input_of one → one.told.clock ≡ clock_of before → Holds before all

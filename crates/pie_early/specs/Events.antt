@@ -5,8 +5,8 @@ use Rattle.pie_params.specs.Elements.{accumulates}
 use Rattle.pie_early.specs.declared.early.Choice.{Choice}
 use Rattle.pie_early.specs.Decision.{is_pick}
 
--- an arrival that was not a tail drop: `considered` is true if it was considered. The others are its effective
--- probability, the method of picking, and the choice
+-- an arrival that was not a tail drop: a flag that is true if it was considered, its effective probability, the method of
+-- picking, and the choice
 pub record Arrival : Type 0 where
   pub considered : Bool
   pub prob : ℕ

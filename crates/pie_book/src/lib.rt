@@ -6,10 +6,10 @@
 //!
 //! - `Core::step` and `Book::apply`, for every history that the core or the book represents: the answer is the decision
 //!   after that history, or exactly its refusal (clause `decides`). Afterwards core or book represent the history with
-//!   this event (`shows`, `recorded`). A refusal changes nothing (`refused`). Both allocate nothing.
+//!   this event (`represents`, `recorded`). A refusal changes nothing (`refused`). Both allocate nothing.
 //! - `Book::fold` refuses exactly if the tail holds fewer events or there is no memory. It returns the oldest events,
-//!   and the book represents the same history (`too_many`, `refused`, `folded`, `told`). `Book::fold_into` moves events
-//!   into a vector that has room (`handed`), and never refuses.
+//!   and the book represents the same history (`too_many`, `refused`, `folded`, `represents`). `Book::fold_into` moves
+//!   events into a vector that has room (`returned`), and never refuses.
 //! - `open` and `open_with` refuse only for the listed reasons, in that order, or for lack of memory.
 //! - The readers return the definitions' values: `registers`, `stats`, `count` and `waiting` of the whole history,
 //!   `checkpoint` and `checkpoint_stats` of the history without the tail.

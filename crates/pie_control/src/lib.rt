@@ -3,8 +3,8 @@
 //!
 //! `delay` and `next_probability` are exact over their whole ranges. If a `Control` represents a list of updates, idle
 //! updates and resets, `update`, `idle` and `reset` make it represent that list with this one at its end (clause
-//! `shows`). `update` also returns whether it was calm (clauses `calm`, `look_back`). Each calls `RawControl`, which
-//! has plain numbers.
+//! `represents`). `update` also returns true if it was calm (clauses `calm`, `look_back`). Each calls `RawControl`,
+//! which has plain numbers.
 #![tactic(auto)]
 
 mod control;

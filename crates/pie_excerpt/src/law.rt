@@ -36,8 +36,8 @@ pub fn preambles_are_written_again()
 }
 
 /// The law of preambles. A text begins with the records of registers that represent a history, and of the packets
-/// that waited after it. Then it is an excerpt after that history, whatever follows (`goes_on`), and its preamble
-/// is read back as it was written (`read_back`; this project's own).
+/// that waited after it. Then it is an excerpt (`resumes`) after that history (`continues`), whatever follows, and
+/// its preamble is read back as it was written (`read_back`; this project's own).
 ///
 /// The function does nothing: its contract is the law.
 pub fn preambles_are_resumed()

@@ -8,7 +8,7 @@ ghost use Rattle.pie_audit.specs.Text.{judged};
 /// The law of excerpts. A whole history gives all explanations (`whole`). An excerpt that names the event which set
 /// the probability before it gives exactly the explanations of the whole history for its own events (`rest`). An
 /// excerpt that doesn't name it gives these explanations, except that the event is unknown until an event of the
-/// excerpt sets the probability (`untold`). The function does nothing: its contract is the law.
+/// excerpt sets the probability (`unreported`). The function does nothing: its contract is the law.
 #[tactic(auto, using(crate::proofs::ExplainFacts::since_opening, crate::proofs::ExplainFacts::rest_reported, crate::proofs::ExplainFacts::as_unknown))]
 pub fn excerpts_are_explained_as_the_whole()
     ensures whole { (opening : Opening) (choice : Selection) (lines : List Line)

@@ -13,15 +13,15 @@
 //!   under the pass's numbers (`front`). The state represents the front (`told`) and has the lock's origin (`origin`).
 //!   For a pass with all numbers the front is unchanged (`same`).
 //! - `put` requires that each entry that it appends has the pass's first number (`number`). It requires a state that
-//!   has the lock's origin and represents the front with these entries (`origin`, `told`). The pass then has this
-//!   front. `Held` is not `Drop`: a function that loses a `Held` does not compile.
+//!   has the lock's origin and represents the front with these entries (`origin`, `represents`). The pass then
+//!   has this front. `Held` is not `Drop`: a function that loses a `Held` does not compile.
 //! - A call that may wait (`take`, `take_for`) also returns a `WakeDue`, which is not `Drop`. Only `wake` ends it, and
 //!   `wake` needs the pass that the put returned. So after each such turn a sleeping thread is woken.
 //! - `share` refuses a pass of one number (`one_number`), and `gather` refuses ranges that are not adjacent (`beside`).
 //!   There is no other refusal, and a refusal changes nothing. A gathered pass has both ranges and the longer front,
 //!   which begins with the shorter one.
-//! - `close` returns a state that represents a history which begins with the pass's front (`told`). With all numbers it
-//!   never refuses, and the state represents exactly the front (`alone`, `same`). A refusal returns the lock and the
+//! - `close` returns a state that represents a history which begins with the pass's front (`represents`). With all
+//!   numbers it never refuses, and the state represents exactly the front (`alone`, `same`). A refusal returns the lock and the
 //!   pass unchanged.
 //! - Every call except `take` and `take_for` returns. Only `new` allocates.
 //!

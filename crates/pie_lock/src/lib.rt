@@ -21,8 +21,8 @@
 //!   There is no other refusal, and a refusal changes nothing. A gathered pass has both ranges and the longer front,
 //!   which begins with the shorter one.
 //! - `close` returns a state that represents a history which begins with the pass's front (`represents`). With all
-//!   numbers it never refuses, and the state represents exactly the front (`alone`, `same`). A refusal returns the lock and the
-//!   pass unchanged.
+//!   numbers it never refuses, and the state represents exactly the front (`alone`, `same`). A refusal returns the lock
+//!   and the pass unchanged.
 //! - Every call except `take` and `take_for` returns. Only `new` allocates.
 //!
 //! `LockRule`, the rule of the lock's table, is public with the types that it names (`Place`, `LockOpening`). So the

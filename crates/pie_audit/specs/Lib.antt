@@ -12,15 +12,15 @@ pub mod Follower
 pub mod Lines
 pub mod Preambles
 unfoldable pub use Names.*
-unfoldable pub use Agreeing.*
+unfoldable pub use Agreement.*
 unfoldable pub use Origin.*
 unfoldable pub use Finding.*
 unfoldable pub use Auditor.*
 unfoldable pub use Text.*
 unfoldable pub use Legal.*
-unfoldable pub use Begun.*
+unfoldable pub use TextBegun.*
 unfoldable pub use Setters.*
 unfoldable pub use Start.*
-unfoldable pub use Following.*
+unfoldable pub use Follower.*
 unfoldable pub use Lines.*
 unfoldable pub use Preambles.*

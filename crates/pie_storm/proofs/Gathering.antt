@@ -8,7 +8,7 @@ use Rattle.pie_storm.proofs.Names.{own_none, entries_of, Call, IsSound, total, A
 use Rattle.pie_storm.proofs.Names.{◌⊎◌, AreFolded, IsCutShort, None, Some, Ok, Err, Result, Bounded, Opening, IsLegal, folded_events, senders, IsEndOf, IsFor}
 use Rattle.pie_storm.proofs.Names.{drop-append_seam, tail_in, take-append_seam}
 use Rattle.pie_lock.specs.Promises.{IsBothOf}
-use Rattle.pie_lock.proofs.Owns.{continues, gone_on}
+use Rattle.pie_lock.proofs.Owns.{goes_on, gone_on}
 use Rattle.pie_storm.specs.declared.worker.Folding.{Folding}
 use Rattle.pie_storm.specs.Storms.{Begins, IsWorkOf, IsEntryOf, WasPassedOver, refusal_of}
 unfoldable use Rattle.pie_storm.specs.Storms.{HasFault}
@@ -58,7 +58,7 @@ other_below n caller k below out = grind (arith, nat_tests)
 each_below : (caller n : ℕ) (h k : List Entry) → caller < n → Extends number_of 0 n h k → HasNoMore caller h k
 each_below caller n h k below on =
     let all = gone_on number_of 0 n h k on in
-    continues number_of caller (caller + 1) h all.0 k all.1
+    goes_on number_of caller (caller + 1) h all.0 k all.1
     (λ i d within. other_below n caller (number_of (get_or all.0 i d)) below (all.2 i d within))
 
 -- the front of two gathered callers goes on from the front of each

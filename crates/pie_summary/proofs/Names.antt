@@ -33,7 +33,7 @@ unfoldable pub use Rattle.pie_summary.specs.Ranges.{range_of, ranges_of}
 unfoldable pub use Rattle.pie_summary.specs.Record.{record_of}
 pub use Rattle.pie_summary.specs.Aggregates.{bounds_of, moment_at, peak_of, span_of, time_at, total_in, total_of}
 pub use Rattle.pie_summary.specs.Summary.{HoldsSums, summary_text_of}
-unfoldable pub use Rattle.pie_summary.specs.Summary.{header, noted}
+unfoldable pub use Rattle.pie_summary.specs.Summary.{header, event_words}
 pub use Rattle.pie_summary.specs.Sums.{cause_of, late_at, meter_input_of, reached, size_in, timed_by, wait_in}
 unfoldable pub use Rattle.pie_summary.specs.Sums.{meter_of, meter_input_by, sums_of, waits_of}
 unfoldable pub use Rattle.pie_summary.specs.Words.{cause_words}

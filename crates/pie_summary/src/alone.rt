@@ -45,7 +45,7 @@ impl Report for SumsAlone {
         self.summary().begin(page)
     }
 
-    #[tactic(auto, unfolding(crate::specs::Summary::noted))]
+    #[tactic(auto, unfolding(crate::specs::Summary::event_words))]
     fn report_event(&self, state: &mut Period, told: &Explained, page: &mut Page) -> Written {
         let ends = begins(state.number, period_of(self.every, told.told.moment));
         push_ended(page, self.form, state, ends)?;

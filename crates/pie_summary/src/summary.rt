@@ -2,7 +2,7 @@
 ghost use Rattle.std.specs.Prelude.{◌≡◌, ◌++◌, [], OnOk, if◌then◌else◌};
 ghost use Rattle.pie_summary.specs.Record.{record_of};
 ghost use Rattle.pie_summary.specs.Words.{words};
-ghost use Rattle.pie_summary.specs.Summary.{is_lost_or_marked, noted, summary_text};
+ghost use Rattle.pie_summary.specs.Summary.{is_lost_or_marked, event_words, summary_text};
 
 use crate::meter::Meter;
 use crate::period::{Period, begins, has_summary, period_of};
@@ -75,9 +75,9 @@ fn is_lost_or_marked(told: &Explained) -> bool
 }
 
 /// Writes the words for an event that lost or marked a packet, where packets are explained.
-#[tactic(auto, unfolding(crate::specs::Summary::noted))]
+#[tactic(auto, unfolding(crate::specs::Summary::event_words))]
 fn push_event_words(page: &mut Page, summary: &Summary, told: &Explained) -> Written
-    ensures { OnOk result (page.new ≡ page.old ++ noted summary.now told.now) }
+    ensures { OnOk result (page.new ≡ page.old ++ event_words summary.now told.now) }
 {
     if summary.packets && is_lost_or_marked(told) {
         pie_explain::push_words(page, summary.form.clock(told.told.clock), told)

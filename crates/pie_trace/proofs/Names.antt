@@ -44,4 +44,4 @@ pub use Rattle.pie_record.specs.declared.first_record.Draft.{Draft}
 pub use Rattle.pie_trace.specs.declared.run.RunEnd.{RunEnd}
 pub use Rattle.pie_record.proofs.Laws.{drop-has, event_count-cons, kind-first, records_left-written, rows_text-cons, same-before-three, tested}
 pub use Rattle.pie_record.proofs.Laws.{reads-one, line_in-flaw, line_in-line, line_in-long}
-pub use Rattle.pie_text.proofs.{LostFacts.lost-later, WriteFacts.contents-told}
+pub use Rattle.pie_text.proofs.{LostFacts.lost-later, WriteFacts.contents-read}

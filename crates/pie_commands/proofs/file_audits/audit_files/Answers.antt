@@ -20,7 +20,7 @@ loop-place-preserved g c =
     let more = audits-more works joined input files (take c.loop-place.place names) c.loop-place.unfound c.loop-place.broken c.loop-place.end end before
     (g.W.Write.contents c.loop-place.output) now name c.in-Ok.told c.loop-place.invariant.audits
     (tells-given works joined g.R.Read.remaining c.args.input c.loop-place.given files (take c.loop-place.place names) name c.loop-place.end c.in-Ok.told
-    end c.loop-place.invariant.left c.in-Ok.ensures.told)
+    end c.loop-place.invariant.left c.in-Ok.ensures.writes_line)
     c.in-Ok.ensures.written in
     record {
       left = left-taken c.args.input names c.loop-place.place name c.audit_named.new.input named c.name_at-name.ensures

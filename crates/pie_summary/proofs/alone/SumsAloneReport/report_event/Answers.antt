@@ -1,10 +1,10 @@
-use Rattle.pie_summary.proofs.Names.{[], if◌then◌else◌, ◌++◌, ◌∙◌, append-nil, begins, header, noted, sym}
+use Rattle.pie_summary.proofs.Names.{[], if◌then◌else◌, ◌++◌, ◌∙◌, append-nil, begins, header, event_words, sym}
 use Rattle.pie_summary.specs.Summary.{alone, summary_text, written_at}
 use Rattle.pie_summary.proofs.PeriodFacts.{written-push}
 use Rattle.pie_summary.proofs.alone.SumsAloneReport.report_event.Goals as goal
 
 pub returns : goal.returns
-unfolding noted
+unfolding event_words
 returns c = λ all kept.
     let summary = alone c.args.self.now in
     let period = c.args.state.now in

@@ -35,7 +35,7 @@ pub struct Record {
     // The line of a plain record, without its line feed: the first `len` bytes.
     line: [u8; MAX_LINE],
     len: usize,
-    // The place behind each field of the line: the first `count` places.
+    // The place behind each field of the line: the first `count` places, none if the record is not plain.
     ends: [usize; MAX_FIELDS],
     count: usize,
     // True if the record is plain. Otherwise it is `quoted`.
@@ -46,13 +46,13 @@ pub struct Record {
 
 impl Model for Record {
     ghost use Rattle.std.specs.Prelude.{◌≡◌, ◌≤◌, if◌then◌else◌, length, take};
-    ghost use Rattle.pie_record.specs.{Row, IsLine, fields_of, split_line, true};
+    ghost use Rattle.pie_record.specs.{Row, IsLine, fields_of, split_line, true, false};
 
     ghost Value = { Row };
 
     ghost view = { λ r. if r.is_plain then split_line (take r.len r.line) else fields_of r.quoted };
 
-    ghost invariant = { λ r. (r.len ≤ 2048) × (r.count ≤ 128)
+    ghost invariant = { λ r. (r.len ≤ 2048) × (r.count ≤ 128) × (r.is_plain ≡ false → r.count ≡ 0)
         × (r.is_plain ≡ true → IsLine (take r.len r.line) (take r.count r.ends) × (length (take r.count r.ends) ≡ r.count)) };
 }
 
@@ -188,13 +188,13 @@ impl Record {
     pub fn get(&self, place: usize) -> Option<&[u8]>
         ensures { option_map (λ field. field.now) result ≡ field_at self.now place }
     {
-        if !self.is_plain {
-            return self.quoted.get(place);
+        if place < self.count {
+            return Some(field_between(&self.line[..self.len], &self.ends[..self.count], place));
         }
-        if place >= self.count {
+        if self.is_plain {
             return None;
         }
-        Some(field_between(&self.line[..self.len], &self.ends[..self.count], place))
+        self.quoted.get(place)
     }
 
     /// Returns the text of the record: its line and a line feed, or what csv writes of its fields.
@@ -225,6 +225,7 @@ impl Record {
         ensures { self.new ≡ [] }
     {
         self.is_plain = false;
+        self.count = 0;
         self.quoted.clear();
     }
 
@@ -243,6 +244,7 @@ impl Record {
                 &mut self.quoted,
             )?;
             self.is_plain = false;
+            self.count = 0;
         } else {
             end_fields(&mut self.quoted)?;
         }
@@ -272,6 +274,7 @@ impl Record {
         ensures { IfOk result (λ what. ReadsPlain what is_first input.old self.new input.new) }
     {
         self.is_plain = false;
+        self.count = 0;
         let (len, count, stop) = input.take_line(&mut self.line, &mut self.ends);
         match stop {
             Stop::Feed => {}
@@ -299,6 +302,7 @@ impl Record {
         ensures turned { IfOk result (λ how. Turns how (rows_left R.remaining reader.old) self.new (rows_left R.remaining reader.new)) }
     {
         self.is_plain = false;
+        self.count = 0;
         match reader.read_byte_record(&mut self.quoted) {
             Ok(true) => Ok(ReadStep::Taken),
             Ok(false) => Ok(ReadStep::Over),

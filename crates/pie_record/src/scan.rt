@@ -3,6 +3,7 @@ ghost use Rattle.std.specs.Prelude.{◌≡◌, ◌≤◌, ◌<◌, ◌+◌, ◌+
 ghost use Rattle.pie_record.specs.{length, FindsLine, IsScanned, Scans};
 
 use crate::block::{behind, lowest, marked};
+use std::simd::prelude::*;
 
 /// The number of bytes that are looked at together.
 pub(crate) const BLOCK: usize = 32;
@@ -64,12 +65,13 @@ fn scan_block(
 
 /// Copies the 32 bytes from `at` on.
 #[inline(always)]
-fn copy_block(line: &mut [u8; MAX_LINE], bytes: &[u8], at: usize)
+fn copy_block(line: &mut [u8], bytes: &[u8], at: usize)
     requires within { at + 32 ≤ length bytes.now }
-    requires room { at + 32 ≤ 2048 }
-    ensures { take (at + 32) line.new ≡ take at line.old ++ slice_range bytes.now at (at + 32) }
+    requires room { at + 32 ≤ length line.old }
+    ensures long { length line.new ≡ length line.old }
+    ensures copied { take (at + 32) line.new ≡ take at line.old ++ slice_range bytes.now at (at + 32) }
 {
-    line[at..at + BLOCK].copy_from_slice(&bytes[at..at + BLOCK]);
+    u8x32::from_slice(&bytes[at..]).copy_to_slice(&mut line[at..]);
 }
 
 /// Copies the bytes of a line to `line`, up to its line feed or further, and writes the places of its commas to `ends`. Returns the number of bytes

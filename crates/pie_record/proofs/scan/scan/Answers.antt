@@ -16,7 +16,7 @@ pub returns-in-Feed-clause-found : goal.returns-in-Feed-clause-found
 returns-in-Feed-clause-found c =
     let i = c.loop-at.invariant in
     let scans = rw c.in-Feed.is at c.scan_block-place.ensures.scans in
-    let copied = block-copied c.loop-at.line c.copy_block.new.line c.args.bytes.now c.loop-at.at i.copied c.copy_block.ensures in
+    let copied = block-copied c.loop-at.line c.copy_block.new.line c.args.bytes.now c.loop-at.at i.copied c.copy_block.ensures.copied in
     found-line c.args.bytes.now c.copy_block.new.line (take c.scan_block-place.result.1 c.scan_block-place.new.ends) c.scan_block-place.result.0 (c.loop-at.at + 32)
     copied scans.0 scans.1 scans.2 (search rules)
 
@@ -28,5 +28,5 @@ loop-at-preserved c =
       within = search rules;
       few = c.scan_block-place.ensures.few;
       scanned = scans.0;
-      copied = block-copied c.loop-at.line c.copy_block.new.line c.args.bytes.now c.loop-at.at i.copied c.copy_block.ensures;
+      copied = block-copied c.loop-at.line c.copy_block.new.line c.args.bytes.now c.loop-at.at i.copied c.copy_block.ensures.copied;
     }

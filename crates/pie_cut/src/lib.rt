@@ -8,20 +8,20 @@
 //! the excerpt (`IsCut`). For an excerpt as input both are those of the whole history from there on (`CutsEither`).
 #![tactic(auto)]
 
+mod counting;
 mod cutter;
 mod excerpt_writer;
 pub mod fault;
 pub mod joint_audit;
-mod last_number;
 mod law;
 mod segments;
 mod snapshot_equality;
 pub mod span;
 
+pub use counting::last_number;
 pub use cutter::cut;
 pub use fault::CutFault;
 pub use joint_audit::{Joined, Joint, TextEnd, audit_joined, texts_that_follow_are_one_history};
-pub use last_number::last_number;
 pub use law::{cuts_are_found_as_the_whole, resumed_texts_follow, segments_combine_to_the_whole};
 pub use segments::cut_every;
 pub use span::Span;

@@ -65,5 +65,5 @@ sets (line.Clock clock ∷ lines) all = sets lines (All-tail LineFits (line.Cloc
 pub sets_read : (text : List ℕ) (opening : Opening) (lines : List Line) → IsHistoryText text opening lines
     → All (λ event. SetsInRange event.command) (events_of lines)
 sets_read text opening lines told =
-    sets lines (subst (λ (ls : List Line). All LineFits ls) (ap (λ (c : RemainingLines). c.lines) told.represents_list)
+    sets lines (subst (λ (ls : List Line). All LineFits ls) (ap (λ (c : RemainingLines). c.lines) told.tells)
     (lines-fit (history_version (records_of text)) (2 ^ 32) 2 (after_opening (records_of text))))

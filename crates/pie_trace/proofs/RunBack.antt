@@ -201,11 +201,11 @@ pub record Written (kind : FirstKind) (rest : Row) (rows : List Row) (opening : 
 all-answered : (version : Version) (most number : ℕ) (rows : List Row) (lines : List Line) → number + length rows ≤ most + 1
     → AreLinesOf version rows lines → rows_without_fault version most number rows ≡ rows
 unfolding AreLinesOf lines_from
-all-answered version most number [] lines within book_represents = refl
-all-answered version most number (row ∷ rows) [] within book_represents = absurd book_represents
-all-answered version most number (row ∷ rows) (line ∷ lines) within book_represents =
-    rw (line_in-line version most number row line (omega arith) book_represents.0)
-    (ap (λ (l : List Row). row ∷ l) (all-answered version most (number + 1) rows lines (omega arith) book_represents.1))
+all-answered version most number [] lines within are_lines = refl
+all-answered version most number (row ∷ rows) [] within are_lines = absurd are_lines
+all-answered version most number (row ∷ rows) (line ∷ lines) within are_lines =
+    rw (line_in-line version most number row line (omega arith) are_lines.0)
+    (ap (λ (l : List Row). row ∷ l) (all-answered version most (number + 1) rows lines (omega arith) are_lines.1))
 
 module _ (texts : TextsAreReadBack) (kind : FirstKind) (rest : Row) (rows : List Row) (opening : Opening) (lines : List Line) where
   pub written-tells : Written kind rest rows opening lines → IsHistoryText (rows_text ((kind_word kind ∷ rest) ∷ rows)) opening lines
@@ -367,11 +367,11 @@ pub record AreRuns (opening : Opening) (lines : List Line) (history : List Event
 pub lines-legal : Promises → (opening : Opening) (progress : Progress) (before : List Line) (requests : List Request) → All CanBeMade before
     → events_of before ≡ progress.history → IsLegal opening progress.history
     → AreRuns opening (before ++ lines_of_replies requests (replies opening progress requests)) (progress_after opening progress (steps_of requests)).history
-lines-legal held opening progress before requests made book_represents legal =
+lines-legal held opening progress before requests made are_lines legal =
     let told = lines-all held opening progress requests in
     let lines = lines_of_replies requests (replies opening progress requests) in
     let events : events_of (before ++ lines) ≡ (progress_after opening progress (steps_of requests)).history =
-    events-both before lines ∙ ap (λ (history : List Event). history ++ events_of lines) book_represents ∙ told.0 in
+    events-both before lines ∙ ap (λ (history : List Event). history ++ events_of lines) are_lines ∙ told.0 in
     record {
       legal = record {
         made = All-append CanBeMade before lines made (all-made requests (replies opening progress requests));
@@ -486,7 +486,7 @@ lines-clean : Below → (text : List ℕ) (opening : Opening) (past : List Event
     → IsExcerptText text opening past lines → AreRuns opening (map Made past ++ lines) history → IsFound text opening past (Clean (length history))
 lines-clean law text opening past lines history told runs =
     let same : AreRuns opening (map Made past ++ excerpt_lines (records_of text)) history =
-    subst (λ (ls : List Line). AreRuns opening (map Made past ++ ls) history) (sym told.book_represents) runs in
+    subst (λ (ls : List Line). AreRuns opening (map Made past ++ ls) history) (sym told.tells) runs in
     record {
       resumes = told.resumes;
       goes = told.goes;
@@ -511,13 +511,13 @@ resumed-clean law most rows opening past b few goes fit e =
     let told : AreLinesOf Three more lines = rows-lines Three law.held most b.opening (b.read + 1) (resumed_progress past) b.left few opens sound in
     let within = at.few in
     let count = few-left Three most b.opening (b.read + 1) (resumed_progress past) b.left (omega (arith, within)) in
-    let book_represents : IsExcerptText (rows_text (take b.read rows ++ more)) opening past lines =
+    let is_text : IsExcerptText (rows_text (take b.read rows ++ more)) opening past lines =
     law.behind rows more b opening past lines at.begun goes told (omega (arith, count, few)) in
     let runs = lines-legal law.held b.opening (resumed_progress past) (map Made past) (requests_of Three (before_fault Three most (b.read + 1) b.left))
     (law.events.made past) (law.events.events past) legal in
     subst (λ (text : List ℕ). IsFound text opening past (Clean (length (progress_resumed most past b).history)))
     (sym (text-resumed most past rows b e))
-    (lines-clean law (rows_text (take b.read rows ++ more)) opening past lines (progress_resumed most past b).history book_represents
+    (lines-clean law (rows_text (take b.read rows ++ more)) opening past lines (progress_resumed most past b).history is_text
     (subst (λ (o : Opening). AreRuns o (map Made past ++ lines) (progress_resumed most past b).history) opened runs))
 
 -- ---- one without a fault

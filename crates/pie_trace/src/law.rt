@@ -116,7 +116,7 @@ pub fn lost_records_are_faults_of_excerpts()
 ///
 /// The function does nothing: its contract is the law (this project's own).
 pub fn migrated_histories_are_read_back()
-    ensures book_represents { (rows : List Row) (opening : Opening) → history_opening rows ≡ Ok opening
+    ensures reads { (rows : List Row) (opening : Opening) → history_opening rows ≡ Ok opening
         → IsHistoryText (migrated_text (2 ^ 32) rows) opening (history_lines (2 ^ 32) rows) }
     ensures version { (rows : List Row) (opening : Opening) → history_opening rows ≡ Ok opening
         → history_version (records_of (migrated_text (2 ^ 32) rows)) ≡ migrated_version (history_version rows) }

@@ -13,8 +13,8 @@ use Rattle.pie_port.proofs.Handles.{both, BoxPointer, loose_good, loose_in, Z, h
 use Rattle.pie_port.proofs.handle.PiePort.into_pointer.Statement.{statement}
 use Rattle.pie_port.proofs.handle.PiePort.into_pointer.Code as code
 
-pub into_loose_spec : {M : Type 1} → statement M
-into_loose_spec 𝓤 𝓛 𝓜 𝓡 wired =
+pub into_pointer_spec : {M : Type 1} → statement M
+into_pointer_spec 𝓤 𝓛 𝓜 𝓡 wired =
     let H = 𝓛.H in let 𝓣 = tables 𝓤 H 𝓜 𝓡 𝓡.env in let En = ended in let c = clauses 𝓛 𝓜.mem 𝓡.returns in
     let fn = code.function in let LZ = heap_laws.the_row_laws in let Lr : RattleType = BoxPointer R Z LZ ghosts in
     let hs : Stays En.signature.params En.kept = (stay_dropped (plain (λ _. Handle)) yes, tt) in

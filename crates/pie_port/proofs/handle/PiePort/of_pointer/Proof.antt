@@ -11,8 +11,8 @@ use Rattle.pie_port.proofs.Handles.{both, BoxPointer, loose_good, loose_out, Z, 
 use Rattle.pie_port.proofs.handle.PiePort.of_pointer.Statement.{statement}
 use Rattle.pie_port.proofs.handle.PiePort.of_pointer.Code as code
 
-pub of_loose_spec : {M : Type 1} → statement M
-of_loose_spec 𝓤 𝓛 𝓜 𝓡 wired =
+pub of_pointer_spec : {M : Type 1} → statement M
+of_pointer_spec 𝓤 𝓛 𝓜 𝓡 wired =
     let H = 𝓛.H in let 𝓣 = tables 𝓤 H 𝓜 𝓡 𝓡.env in let En = ended in let c = clauses 𝓛 𝓜.mem 𝓡.returns in
     let fn = code.function in let LZ = heap_laws.the_row_laws in let Lr : RattleType = BoxPointer R Z LZ ghosts in
     let hs : Stays En.signature.params En.kept = (stay_dropped (plain (λ _. Lr)) yes, tt) in

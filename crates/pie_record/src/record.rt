@@ -35,25 +35,23 @@ pub struct Record {
     // The line of a plain record, without its line feed: the first `len` bytes.
     line: [u8; MAX_LINE],
     len: usize,
-    // The place behind each field of the line: the first `count` places, none if the record is not plain.
+    // The place behind each field of the line: the first `count` places. None if the record is not plain but `quoted`.
     ends: [usize; MAX_FIELDS],
     count: usize,
-    // True if the record is plain. Otherwise it is `quoted`.
-    is_plain: bool,
     // A record as csv read it.
     quoted: ByteRecord,
 }
 
 impl Model for Record {
-    ghost use Rattle.std.specs.Prelude.{◌≡◌, ◌≤◌, if◌then◌else◌, length, take};
-    ghost use Rattle.pie_record.specs.{Row, IsLine, fields_of, split_line, true, false};
+    ghost use Rattle.std.specs.Prelude.{◌≡◌, ◌≤◌, ◌<◌, if◌then◌else◌, length, take};
+    ghost use Rattle.pie_record.specs.{Row, IsLine, fields_of, nat_lt, split_line};
 
     ghost Value = { Row };
 
-    ghost view = { λ r. if r.is_plain then split_line (take r.len r.line) else fields_of r.quoted };
+    ghost view = { λ r. if nat_lt 0 r.count then split_line (take r.len r.line) else fields_of r.quoted };
 
-    ghost invariant = { λ r. (r.len ≤ 2048) × (r.count ≤ 128) × (r.is_plain ≡ false → r.count ≡ 0)
-        × (r.is_plain ≡ true → IsLine (take r.len r.line) (take r.count r.ends) × (length (take r.count r.ends) ≡ r.count)) };
+    ghost invariant = { λ r. (r.len ≤ 2048) × (r.count ≤ 128)
+        × (0 < r.count → IsLine (take r.len r.line) (take r.count r.ends) × (length (take r.count r.ends) ≡ r.count)) };
 }
 
 /// Returns where the field at `place` begins, by the `ends` of the fields before it.
@@ -167,7 +165,6 @@ impl Record {
             len: 0,
             ends: [0; MAX_FIELDS],
             count: 0,
-            is_plain: false,
             quoted: ByteRecord::new(alloc),
         }
     }
@@ -176,7 +173,7 @@ impl Record {
     pub fn len(&self) -> usize
         ensures { result ≡ length self.now }
     {
-        if self.is_plain {
+        if self.count > 0 {
             self.count
         } else {
             self.quoted.len()
@@ -191,7 +188,7 @@ impl Record {
         if place < self.count {
             return Some(field_between(&self.line[..self.len], &self.ends[..self.count], place));
         }
-        if self.is_plain {
+        if self.count > 0 {
             return None;
         }
         self.quoted.get(place)
@@ -206,7 +203,7 @@ impl Record {
         ensures text { IfOk result (λ bytes. bytes.items ≡ text_of self.now) }
         ensures memory { IfErr result (λ why. why ≡ TraceFault.Memory) }
     {
-        if !self.is_plain {
+        if self.count == 0 {
             return quoted_text(alloc, &self.quoted);
         }
         let mut bytes = Vec::new(alloc);
@@ -224,7 +221,6 @@ impl Record {
     pub fn clear(&mut self)
         ensures { self.new ≡ [] }
     {
-        self.is_plain = false;
         self.count = 0;
         self.quoted.clear();
     }
@@ -237,13 +233,12 @@ impl Record {
     pub fn push(&mut self, field: &[u8]) -> Result<(), AllocError>
         ensures { OnOk result (self.new ≡ self.old ++ field.now ∷ []) }
     {
-        if self.is_plain {
+        if self.count > 0 {
             copy_fields(
                 &self.line[..self.len],
                 &self.ends[..self.count],
                 &mut self.quoted,
             )?;
-            self.is_plain = false;
             self.count = 0;
         } else {
             end_fields(&mut self.quoted)?;
@@ -256,7 +251,7 @@ impl Record {
     pub fn line(&self) -> Option<&[u8]>
         ensures { IfSome result (λ line. text_of self.now ≡ line.now ++ 10 ∷ []) }
     {
-        if self.is_plain {
+        if self.count > 0 {
             Some(&self.line[..self.len])
         } else {
             None
@@ -273,7 +268,6 @@ impl Record {
     ) -> Result<Found, ReadFailure>
         ensures { IfOk result (λ what. ReadsPlain what is_first input.old self.new input.new) }
     {
-        self.is_plain = false;
         self.count = 0;
         let (len, count, stop) = input.take_line(&mut self.line, &mut self.ends);
         match stop {
@@ -287,7 +281,6 @@ impl Record {
         self.ends[count] = len;
         self.len = len;
         self.count = count + 1;
-        self.is_plain = true;
         Ok(Found::Plain)
     }
 
@@ -301,7 +294,6 @@ impl Record {
         ensures reading { IsReading reader.new }
         ensures turned { IfOk result (λ how. Turns how (rows_left R.remaining reader.old) self.new (rows_left R.remaining reader.new)) }
     {
-        self.is_plain = false;
         self.count = 0;
         match reader.read_byte_record(&mut self.quoted) {
             Ok(true) => Ok(ReadStep::Taken),

@@ -1,6 +1,7 @@
 -- csv's reading and writing of plain lines.
 use Rattle.std.proofs.Common.{sym, ap, ◌∙◌, arith, get_or, take, take_all}
-use Rattle.pie_record.specs.{◌≡◌, ◌<◌, ◌+◌, ◌++◌, ◌∷◌, ℕ, ◌==◌, List, [], length, refl, true, false, Bool, Some, Row}
+use Rattle.pie_record.specs.{◌≡◌, ◌<◌, ◌+◌, ◌++◌, ◌∷◌, ℕ, ◌==◌, List, [], length, refl, true, false, Bool, Some, Row, nat_lt}
+use Rattle.std.proofs.lemmas.Bool.Decides.{nat_tests}
 use Rattle.std.specs.Prelude.{slice_range}
 use Rattle.pie_record.specs.{start_of, zero, suc, ◌-◌, ◌≤◌, commas, field_at, IsLine, None}
 use Rattle.pie_record.specs.{split_line, with_byte}
@@ -185,3 +186,7 @@ fields-more (first ∷ fields) (suc i) field e =
 
 pub fields-whole : (line ends : List ℕ) → IsLine line ends → take (length ends) (split_line line) ≡ split_line line
 fields-whole line ends is = take_all (length ends) (split_line line) (omega (arith, line-long line ends is))
+
+-- a record with a plain line
+pub some-fields : (count : ℕ) → 0 < count → nat_lt 0 count ≡ true
+some-fields count some = grind (arith, nat_tests, some)

@@ -1,10 +1,10 @@
 //! The bytes of a reader, read many at a time.
-ghost use Rattle.std.specs.Prelude.{◌≡◌, ◌+◌, ◌++◌, ◌∷◌, ◌≤◌, ◌<◌, take};
-ghost use Rattle.pie_record.specs.{ℕ, List, [], Option, Some, true, false, IfOk, IfErr, IfSome, OnOk, length, drop, IsRead, Keeps, IsAtEnd, Consumes, prepend_known};
-ghost use Rattle.pie_record.specs.{TakesBytes, TakesLine, commas, IsPlainLine};
+ghost use Rattle.std.specs.Prelude.{◌≡◌, ◌+◌, ◌∷◌, ◌≤◌, ◌<◌, slice_range, take};
+ghost use Rattle.pie_record.specs.{[], IfOk, OnOk, length, Keeps, IsAtEnd, Consumes, prepend_known, TakesLine};
 
 use crate::fault::ReadFailure;
-use crate::scan::{Stop, scan};
+use crate::record::Found;
+use crate::scan::{BLOCK, MAX_FIELDS, MAX_LINE, Stop, scan};
 use std::alloc::Global;
 use std::io;
 use std::io::Read;
@@ -35,21 +35,25 @@ impl<R: Read> Model for Input<R> {
     ghost invariant = { λ input. (input.at ≤ input.end) × (input.end ≤ length input.bytes.items) };
 }
 
-// Reads once over `bytes`. Returns the number of bytes read.
+// Reads once, behind the first `kept` bytes. Returns the number of bytes read. The last bytes are left out, so that a scan of a line before them does
+// not end with the buffer.
 #[inline(never)]
-fn read_over<R: Read>(reader: &mut R, bytes: &mut Vec<u8>) -> io::Result<usize>
-    ensures len { length bytes.new.items ≡ length bytes.old.items }
-    ensures bound { IfOk result (λ count. count ≤ length bytes.new.items) }
-    ensures taken { IfOk result (λ count. Consumes (R.remaining reader.old) (R.remaining reader.new) (take count bytes.new.items)) }
-    ensures end { IfOk result (λ count. count ≡ 0 → 0 < length bytes.old.items → IsAtEnd (R.remaining reader.new)) }
+fn read_behind<R: Read>(reader: &mut R, bytes: &mut [u8], kept: usize) -> io::Result<usize>
+    requires { kept ≤ length bytes.old }
+    ensures len { length bytes.new ≡ length bytes.old }
+    ensures bound { IfOk result (λ count. kept + count ≤ length bytes.new) }
+    ensures kept { take kept bytes.new ≡ take kept bytes.old }
+    ensures taken { IfOk result (λ count. Consumes (R.remaining reader.old) (R.remaining reader.new) (slice_range bytes.new kept (kept + count))) }
+    ensures end { IfOk result (λ count. count ≡ 0 → kept + 32 < length bytes.new → IsAtEnd (R.remaining reader.new)) }
 {
-    reader.read(bytes.as_mut_slice())
+    let last = bytes.len().saturating_sub(BLOCK).max(kept);
+    reader.read(&mut bytes[kept..last])
 }
 
-// Makes room for one read.
-#[inline(never)]
+// Makes room for what is read at a time.
 fn make_room(bytes: &mut Vec<u8>) -> Result<(), ReadFailure>
-    ensures some { OnOk result (0 < length bytes.new.items) }
+    ensures long { length bytes.old.items ≤ length bytes.new.items }
+    ensures same { 0 < length bytes.old.items → bytes.new.items ≡ bytes.old.items }
 {
     if !bytes.is_empty() {
         return Ok(());
@@ -73,101 +77,68 @@ impl<R: Read> Input<R> {
         }
     }
 
-    /// Reads bytes ahead unless some are ahead already. Returns true if any is.
-    fn fill(&mut self) -> Result<bool, ReadFailure>
+    /// Reads more bytes behind those that are ahead. Returns `More` if there were some, `Nothing` if no byte is left, and otherwise `Odd`.
+    #[cold]
+    #[inline(never)]
+    pub(crate) fn fill(&mut self) -> Result<Found, ReadFailure>
         ensures keeps { OnOk result (Keeps self.old self.new) }
-        ensures none { IfOk result (λ some. some ≡ false → IsAtEnd self.new) }
+        ensures end { IfOk result (λ found. found ≡ Found.Nothing → IsAtEnd self.new) }
     {
-        if self.at < self.end {
-            return Ok(true);
-        }
-        self.at = 0;
-        self.end = 0;
         match make_room(&mut self.bytes) {
             Ok(()) => {}
             Err(why) => return Err(why),
         }
-        match read_over(&mut self.reader, &mut self.bytes) {
+        let kept = self.end - self.at;
+        self.bytes.copy_within(self.at..self.end, 0);
+        self.at = 0;
+        self.end = kept;
+        match read_behind(&mut self.reader, &mut self.bytes, kept) {
             Ok(count) => {
-                self.end = count;
-                Ok(count > 0)
+                self.end = kept + count;
+                if count > 0 {
+                    return Ok(Found::More);
+                }
+                if kept > 0 || self.bytes.len() <= BLOCK {
+                    return Ok(Found::Odd);
+                }
+                Ok(Found::Nothing)
             }
             Err(_) => Err(ReadFailure::Device),
         }
     }
 
-    /// Takes the bytes that are ahead up to the end of a line, or up to a byte that csv has to read, and adds them to the line.
-    fn take_bytes(&mut self, line: &mut Vec<u8>, ends: &mut Vec<usize>) -> Result<Stop, ReadFailure>
-        ensures { IfOk result (λ stop. TakesBytes stop self.old line.old.items ends.old.items line.new.items ends.new.items self.new) }
-    {
-        let ahead = &self.bytes[self.at..self.end];
-        let (count, stop) = match scan(ahead, line.len(), ends) {
-            Ok(found) => found,
-            Err(_) => return Err(ReadFailure::Memory),
-        };
-        match line.extend_from_slice(&ahead[..count]) {
-            Ok(()) => {}
-            Err(_) => return Err(ReadFailure::Memory),
-        }
-        match stop {
-            Stop::Feed => {
-                self.at += count + 1;
-                Ok(Stop::Feed)
-            }
-            Stop::Odd => {
-                self.at += count;
-                Ok(Stop::Odd)
-            }
-            Stop::End => {
-                self.at += count;
-                Ok(Stop::End)
-            }
-        }
-    }
-
-    /// Reads a line up to its line feed, or up to a byte that csv has to read, or up to the end.
+    /// Reads a line up to its line feed from the bytes that are ahead: its bytes, and the places of its commas. Returns the number of both, and `Feed`.
+    /// Returns `End` if more bytes are needed, and `Odd` if csv has to read the line, or if it may begin with a byte order mark.
+    #[inline(always)]
     pub(crate) fn take_line(
         &mut self,
-        line: &mut Vec<u8>,
-        ends: &mut Vec<usize>,
-    ) -> Result<Stop, ReadFailure>
-        ensures { IfOk result (λ stop. TakesLine stop self.old line.new.items ends.new.items self.new) }
+        line: &mut [u8; MAX_LINE],
+        ends: &mut [usize; MAX_FIELDS],
+    ) -> (usize, usize, Stop)
+        ensures few { result.1 < 128 }
+        ensures takes { TakesLine result.2 self.old (take result.0 line.new) (take result.1 ends.new) result.0 self.new }
     {
-        line.clear();
-        ends.clear();
-        for turn in 0..u64::MAX {
-            match self.fill() {
-                Ok(true) => {}
-                Ok(false) => return Ok(Stop::End),
-                Err(why) => return Err(why),
-            }
-            match self.take_bytes(line, ends) {
-                Ok(Stop::End) => {}
-                Ok(Stop::Feed) => return Ok(Stop::Feed),
-                Ok(Stop::Odd) => return Ok(Stop::Odd),
-                Err(why) => return Err(why),
-            }
+        let (place, count, stop) = scan(&self.bytes[self.at..], line, ends);
+        if place >= self.end - self.at {
+            return (place, count, Stop::End);
         }
-        Err(ReadFailure::Device)
+        match stop {
+            Stop::Feed => {}
+            Stop::Odd | Stop::End => return (place, count, Stop::Odd),
+        }
+        if line[0] == 0xEF {
+            return (place, count, Stop::Odd);
+        }
+        self.at += place + 1;
+        (place, count, Stop::Feed)
     }
 
-    /// Puts bytes back before those that are left.
-    #[cold]
-    #[inline(never)]
-    pub(crate) fn put_back(
-        &mut self,
-        alloc: Global,
-        first: &[u8],
-        line: &[u8],
-    ) -> Result<(), ReadFailure>
-        ensures { OnOk result (self.new ≡ prepend_known (first.now ++ line.now) self.old) }
+    /// Puts a line feed back before the bytes that are left.
+    pub(crate) fn put_feed_back(&mut self, alloc: Global) -> Result<(), ReadFailure>
+        ensures { OnOk result (self.new ≡ prepend_known (10 ∷ []) self.old) }
     {
         let mut bytes = Vec::new(alloc);
-        match bytes.extend_from_slice(first) {
-            Ok(()) => {}
-            Err(_) => return Err(ReadFailure::Memory),
-        }
-        match bytes.extend_from_slice(line) {
+        match bytes.push(b'\n') {
             Ok(()) => {}
             Err(_) => return Err(ReadFailure::Memory),
         }

@@ -1,14 +1,14 @@
 //! One record of a text.
-ghost use Rattle.std.specs.Prelude.{◌≡◌, ◌<◌, ◌+◌, ◌-◌, ◌^◌, ◌++◌, ◌∷◌, get_or, if◌then◌else◌, ◌==◌};
-ghost use Rattle.pie_record.specs.{[], ℕ, IfSome, Some, length, option_map, field_at, text_of, IsLine, split_line, start_of};
-ghost use Rattle.pie_record.specs.{true, false, OnOk, IfOk, IfErr, IsRead, ReadsPlain, TraceFault, prepend_known, IsReading, rows_left, fields_of, partial_of};
+ghost use Rattle.std.specs.Prelude.{◌≡◌, ◌<◌, ◌+◌, ◌-◌, ◌^◌, ◌++◌, ◌∷◌, get_or};
+ghost use Rattle.pie_record.specs.{[], ℕ, IfSome, Some, length, option_map, field_at, text_of, IsLine, Row, split_line, start_of};
+ghost use Rattle.pie_record.specs.{OnOk, IfOk, IfErr, ReadsPlain, TraceFault, IsReading, rows_left, fields_of, partial_of};
 ghost use Rattle.pie_record.specs.Source.{Turns};
 
 use crate::TraceFault;
 use crate::fault::ReadFailure;
 use crate::input::Input;
 use crate::records::ReadStep;
-use crate::scan::Stop;
+use crate::scan::{MAX_FIELDS, MAX_LINE, Stop};
 use csv::{ByteRecord, ErrorKind, WriterBuilder};
 use std::alloc::{AllocError, Global};
 use std::io::Read;
@@ -21,34 +21,37 @@ pub(crate) enum Found {
     Plain,
     /// An empty line, which is no record.
     Empty,
+    /// No line yet, but more bytes.
+    More,
     /// No byte: there is no further record.
     Nothing,
-    /// Bytes that csv has to read. They were put back, as the beginning of a text.
+    /// Bytes that csv has to read. They are the beginning of a text.
     Odd,
 }
 
 /// The fields of one record, each a list of bytes. A contract sees the list of the fields.
 #[derive(Drop)]
 pub struct Record {
-    // The line of a plain record, without its line feed.
-    line: Vec<u8>,
-    // The place behind each field of the line.
-    ends: Vec<usize>,
-    // True if the record is plain. Otherwise it is `quoted`.
-    is_plain: bool,
+    // The line of a plain record, without its line feed: the first `len` bytes.
+    line: [u8; MAX_LINE],
+    len: usize,
+    // The place behind each field of the line: the first `count` places. None if the record is not plain but `quoted`.
+    ends: [usize; MAX_FIELDS],
+    count: usize,
     // A record as csv read it.
     quoted: ByteRecord,
 }
 
 impl Model for Record {
-    ghost use Rattle.std.specs.Prelude.{◌≡◌, if◌then◌else◌};
-    ghost use Rattle.pie_record.specs.{Row, IsLine, fields_of, split_line, true};
+    ghost use Rattle.std.specs.Prelude.{◌≡◌, ◌≤◌, ◌<◌, if◌then◌else◌, length, take};
+    ghost use Rattle.pie_record.specs.{Row, IsLine, fields_of, nat_lt, split_line};
 
     ghost Value = { Row };
 
-    ghost view = { λ r. if r.is_plain then split_line r.line.items else fields_of r.quoted };
+    ghost view = { λ r. if nat_lt 0 r.count then split_line (take r.len r.line) else fields_of r.quoted };
 
-    ghost invariant = { λ r. r.is_plain ≡ true → IsLine r.line.items r.ends.items };
+    ghost invariant = { λ r. (r.len ≤ 2048) × (r.count ≤ 128)
+        × (0 < r.count → IsLine (take r.len r.line) (take r.count r.ends) × (length (take r.count r.ends) ≡ r.count)) };
 }
 
 /// Returns the place at which the field at `place` begins, by the `ends` of the fields before it.
@@ -73,77 +76,40 @@ fn field_between<'a>(line: &'a [u8], ends: &[usize], place: usize) -> &'a [u8]
     &line[start..ends[place]]
 }
 
-/// Puts the bytes of a line back. With the bytes that are left they begin a text with the same records.
+/// Leaves the bytes to csv, as the beginning of a text with the same records.
 #[cold]
 #[inline(never)]
-fn put_line_back<R: Read>(
+fn leave_to_csv<R: Read>(
     alloc: Global,
     input: &mut Input<R>,
-    line: &[u8],
-    is_first: bool,
-) -> Result<(), ReadFailure>
-    ensures { OnOk result (input.new ≡ prepend_known (if is_first then line.now else 10 ∷ line.now) input.old) }
-{
-    if is_first {
-        input.put_back(alloc, &[], line)
-    } else {
-        input.put_back(alloc, b"\n", line)
-    }
-}
-
-/// Returns true if the line may begin with a byte order mark.
-fn may_be_mark(line: &[u8], is_first: bool) -> bool
-    ensures other { result ≡ false → is_first ≡ true → (get_or line.now 0 0 == 239) ≡ false }
-    ensures first { result ≡ true → is_first ≡ true }
-{
-    match line.first() {
-        Some(byte) => is_first && *byte == 0xEF,
-        None => false,
-    }
-}
-
-/// Reads a line and the ends of its fields.
-fn read_fields<R: Read>(
-    alloc: Global,
-    input: &mut Input<R>,
-    line: &mut Vec<u8>,
-    ends: &mut Vec<usize>,
     is_first: bool,
 ) -> Result<Found, ReadFailure>
-    ensures line { IfOk result (λ what. what ≡ Found.Plain → IsLine line.new.items ends.new.items) }
-    ensures found { IfOk result (λ what. ReadsPlain what is_first input.old (split_line line.new.items) input.new) }
+    ensures { (row : Row) → IfOk result (λ what. ReadsPlain what is_first input.old row input.new) }
 {
-    match input.take_line(line, ends) {
-        Ok(Stop::Feed) => {}
-        Ok(Stop::Odd) => {
-            return match put_line_back(alloc, input, line, is_first) {
-                Ok(()) => Ok(Found::Odd),
-                Err(why) => Err(why),
-            };
-        }
-        Ok(Stop::End) => {
-            if line.is_empty() {
-                return Ok(Found::Nothing);
-            }
-            return match put_line_back(alloc, input, line, is_first) {
-                Ok(()) => Ok(Found::Odd),
-                Err(why) => Err(why),
-            };
-        }
-        Err(why) => return Err(why),
+    if is_first {
+        return Ok(Found::Odd);
     }
-    if line.is_empty() {
-        return Ok(Found::Empty);
+    match input.put_feed_back(alloc) {
+        Ok(()) => Ok(Found::Odd),
+        Err(why) => Err(why),
     }
-    if may_be_mark(line, is_first) {
-        return match input.put_back(alloc, line, b"\n") {
-            Ok(()) => Ok(Found::Odd),
-            Err(why) => Err(why),
-        };
-    }
-    match ends.push(line.len()) {
-        Ok(()) => Ok(Found::Plain),
-        Err(_) => Err(ReadFailure::Memory),
+}
+
+/// Reads more bytes of a line, or finds that there are none.
+#[cold]
+#[inline(never)]
+fn read_on<R: Read>(
+    alloc: Global,
+    input: &mut Input<R>,
+    is_first: bool,
+) -> Result<Found, ReadFailure>
+    ensures { (row : Row) → IfOk result (λ what. ReadsPlain what is_first input.old row input.new) }
+{
+    match input.fill() {
+        Ok(Found::More) => Ok(Found::More),
+        Ok(Found::Nothing) => Ok(Found::Nothing),
+        Ok(_) => leave_to_csv(alloc, input, is_first),
+        Err(why) => Err(why),
     }
 }
 
@@ -195,9 +161,10 @@ impl Record {
         ensures { result ≡ [] }
     {
         Record {
-            line: Vec::new(alloc),
-            ends: Vec::new(alloc),
-            is_plain: false,
+            line: [0; MAX_LINE],
+            len: 0,
+            ends: [0; MAX_FIELDS],
+            count: 0,
             quoted: ByteRecord::new(alloc),
         }
     }
@@ -206,8 +173,8 @@ impl Record {
     pub fn len(&self) -> usize
         ensures { result ≡ length self.now }
     {
-        if self.is_plain {
-            self.ends.len()
+        if self.count > 0 {
+            self.count
         } else {
             self.quoted.len()
         }
@@ -218,13 +185,13 @@ impl Record {
     pub fn get(&self, place: usize) -> Option<&[u8]>
         ensures { option_map (λ field. field.now) result ≡ field_at self.now place }
     {
-        if !self.is_plain {
-            return self.quoted.get(place);
+        if place < self.count {
+            return Some(field_between(&self.line[..self.len], &self.ends[..self.count], place));
         }
-        if place >= self.ends.len() {
+        if self.count > 0 {
             return None;
         }
-        Some(field_between(self.line.as_slice(), self.ends.as_slice(), place))
+        self.quoted.get(place)
     }
 
     /// Returns the text of the record: its line and a line feed, or csv's text of its fields.
@@ -236,11 +203,11 @@ impl Record {
         ensures text { IfOk result (λ bytes. bytes.items ≡ text_of self.now) }
         ensures memory { IfErr result (λ why. why ≡ TraceFault.Memory) }
     {
-        if !self.is_plain {
+        if self.count == 0 {
             return quoted_text(alloc, &self.quoted);
         }
         let mut bytes = Vec::new(alloc);
-        match bytes.extend_from_slice(self.line.as_slice()) {
+        match bytes.extend_from_slice(&self.line[..self.len]) {
             Ok(()) => {}
             Err(_) => return Err(TraceFault::Memory),
         }
@@ -254,7 +221,7 @@ impl Record {
     pub fn clear(&mut self)
         ensures { self.new ≡ [] }
     {
-        self.is_plain = false;
+        self.count = 0;
         self.quoted.clear();
     }
 
@@ -266,9 +233,13 @@ impl Record {
     pub fn push(&mut self, field: &[u8]) -> Result<(), AllocError>
         ensures { OnOk result (self.new ≡ self.old ++ field.now ∷ []) }
     {
-        if self.is_plain {
-            copy_fields(self.line.as_slice(), self.ends.as_slice(), &mut self.quoted)?;
-            self.is_plain = false;
+        if self.count > 0 {
+            copy_fields(
+                &self.line[..self.len],
+                &self.ends[..self.count],
+                &mut self.quoted,
+            )?;
+            self.count = 0;
         } else {
             end_fields(&mut self.quoted)?;
         }
@@ -280,14 +251,15 @@ impl Record {
     pub fn line(&self) -> Option<&[u8]>
         ensures { IfSome result (λ line. text_of self.now ≡ line.now ++ 10 ∷ []) }
     {
-        if self.is_plain {
-            Some(self.line.as_slice())
+        if self.count > 0 {
+            Some(&self.line[..self.len])
         } else {
             None
         }
     }
 
     /// Reads a line into the record.
+    #[inline(always)]
     pub(crate) fn read_line<R: Read>(
         &mut self,
         alloc: Global,
@@ -296,14 +268,20 @@ impl Record {
     ) -> Result<Found, ReadFailure>
         ensures { IfOk result (λ what. ReadsPlain what is_first input.old self.new input.new) }
     {
-        self.is_plain = false;
-        match read_fields(alloc, input, &mut self.line, &mut self.ends, is_first) {
-            Ok(Found::Plain) => {
-                self.is_plain = true;
-                Ok(Found::Plain)
-            }
-            other => other,
+        self.count = 0;
+        let (len, count, stop) = input.take_line(&mut self.line, &mut self.ends);
+        match stop {
+            Stop::Feed => {}
+            Stop::Odd => return leave_to_csv(alloc, input, is_first),
+            Stop::End => return read_on(alloc, input, is_first),
         }
+        if len == 0 {
+            return Ok(Found::Empty);
+        }
+        self.ends[count] = len;
+        self.len = len;
+        self.count = count + 1;
+        Ok(Found::Plain)
     }
 
     /// Lets csv read a record. After a failure no record is left.
@@ -316,7 +294,7 @@ impl Record {
         ensures reading { IsReading reader.new }
         ensures turned { IfOk result (λ how. Turns how (rows_left R.remaining reader.old) self.new (rows_left R.remaining reader.new)) }
     {
-        self.is_plain = false;
+        self.count = 0;
         match reader.read_byte_record(&mut self.quoted) {
             Ok(true) => Ok(ReadStep::Taken),
             Ok(false) => Ok(ReadStep::Over),

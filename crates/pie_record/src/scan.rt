@@ -1,124 +1,103 @@
-//! Scans the bytes of a plain line for the ends of its fields and the end of the line.
-ghost use Rattle.std.specs.Prelude.{◌≡◌, ◌≤◌, ◌<◌, ◌+◌, ◌^◌, ◌++◌, ℕ, List, take};
-ghost use Rattle.pie_record.specs.{IfOk, length, commas, IsPlainLine, IsStop, IsScanned, Scans};
+//! The bytes of a plain line: where its fields end, and where it ends.
+ghost use Rattle.std.specs.Prelude.{◌≡◌, ◌≤◌, ◌<◌, ◌+◌, ◌++◌, slice_range, take};
+ghost use Rattle.pie_record.specs.{length, FindsLine, IsScanned, Scans};
 
 use crate::block::{behind, lowest, marked};
-use std::alloc::AllocError;
+use std::simd::prelude::*;
 
 /// The number of bytes that are looked at together.
-const BLOCK: usize = 32;
+pub(crate) const BLOCK: usize = 32;
+
+/// The greatest number of bytes of a line that is read in place. The longest record that this project writes is shorter.
+pub(crate) const MAX_LINE: usize = 2048;
+
+/// The greatest number of fields of such a line.
+pub(crate) const MAX_FIELDS: usize = 128;
 
 /// The reason why a scan stopped.
 #[derive(Clone, Copy)]
 pub(crate) enum Stop {
     /// The line feed at the end of the line.
     Feed,
-    /// A byte that csv has to read.
+    /// A byte that csv has to read, or too many fields.
     Odd,
-    /// The end of the bytes.
+    /// The end of the bytes, or of the room for a line.
     End,
 }
 
-/// Scans the byte at `place`. Any byte below the comma, except the line feed, is left to csv, the quote and the carriage return with it.
+/// Scans the 32 bytes from `at` on, behind `start` commas. Any byte below the comma, except the line feed, is left to csv, the quote and the
+/// carriage return with it. Returns the place of the stop, the number of commas before it, and the reason.
 #[inline(always)]
-fn scan_byte(
-    bytes: &[u8],
-    place: usize,
-    from: usize,
-    ends: &mut Vec<usize>,
-) -> Result<(usize, Stop), AllocError>
-    requires within { place < length bytes.now }
-    requires fits { from + length bytes.now < 2 ^ 64 }
-    ensures { (before : List ℕ) → IsScanned from bytes.now before ends.old.items place
-        → IfOk result (λ p. Scans from bytes.now before ends.new.items (place + 1) p.0 p.1) }
-{
-    let byte = bytes[place];
-    if byte == b',' {
-        ends.push(from + place)?;
-        return Ok((place + 1, Stop::End));
-    }
-    if byte == b'\n' {
-        return Ok((place, Stop::Feed));
-    }
-    if byte > b',' {
-        return Ok((place + 1, Stop::End));
-    }
-    Ok((place, Stop::Odd))
-}
-
-/// Scans the 32 bytes from `at` on.
 fn scan_block(
     bytes: &[u8],
     at: usize,
-    from: usize,
-    ends: &mut Vec<usize>,
-) -> Result<(usize, Stop), AllocError>
+    ends: &mut [usize; MAX_FIELDS],
+    start: usize,
+) -> (usize, usize, Stop)
     requires within { at + 32 ≤ length bytes.now }
-    requires fits { from + length bytes.now < 2 ^ 64 }
-    ensures { (before : List ℕ) → IsScanned from bytes.now before ends.old.items at
-        → IfOk result (λ p. Scans from bytes.now before ends.new.items (at + 32) p.0 p.1) }
+    requires few { start < 128 }
+    requires scanned { IsScanned bytes.now (take start ends.old) at }
+    ensures few { result.1 < 128 }
+    ensures scans { Scans result.2 bytes.now (take result.1 ends.new) (at + 32) result.0 }
 {
     let mut left = marked(bytes, at);
     let mut next = at;
+    let mut count = start;
     while left != 0 {
         let passed = lowest(left);
-        let (after, stop) = scan_byte(bytes, next + passed, from, ends)?;
-        match stop {
-            Stop::End => {}
-            Stop::Feed => return Ok((after, Stop::Feed)),
-            Stop::Odd => return Ok((after, Stop::Odd)),
+        let place = next + passed;
+        if bytes[place] != b',' {
+            if bytes[place] == b'\n' {
+                return (place, count, Stop::Feed);
+            }
+            return (place, count, Stop::Odd);
         }
+        if count + 1 >= MAX_FIELDS {
+            return (place, count, Stop::Odd);
+        }
+        ends[count] = place;
+        count += 1;
         left = behind(left, passed);
-        next = next + passed + 1;
+        next = place + 1;
     }
-    Ok((at + BLOCK, Stop::End))
+    (at + BLOCK, count, Stop::End)
 }
 
-/// Scans the bytes from `at` on, one after another.
-fn scan_rest(
-    bytes: &[u8],
-    at: usize,
-    from: usize,
-    ends: &mut Vec<usize>,
-) -> Result<(usize, Stop), AllocError>
-    requires within { at ≤ length bytes.now }
-    requires fits { from + length bytes.now < 2 ^ 64 }
-    ensures { (before : List ℕ) → IsScanned from bytes.now before ends.old.items at
-        → IfOk result (λ p. Scans from bytes.now before ends.new.items (length bytes.now) p.0 p.1) }
+/// Copies the 32 bytes from `at` on.
+#[inline(always)]
+fn copy_block(line: &mut [u8], bytes: &[u8], at: usize)
+    requires within { at + 32 ≤ length bytes.now }
+    requires room { at + 32 ≤ length line.old }
+    ensures long { length line.new ≡ length line.old }
+    ensures copied { take (at + 32) line.new ≡ take at line.old ++ slice_range bytes.now at (at + 32) }
 {
-    for place in at..bytes.len() {
-        let (after, stop) = scan_byte(bytes, place, from, ends)?;
-        match stop {
-            Stop::End => {}
-            Stop::Feed => return Ok((after, Stop::Feed)),
-            Stop::Odd => return Ok((after, Stop::Odd)),
-        }
-    }
-    Ok((bytes.len(), Stop::End))
+    u8x32::from_slice(&bytes[at..]).copy_to_slice(&mut line[at..]);
 }
 
-/// Looks for the end of a line in `bytes`, and adds the places of its commas to `ends`. The first byte is at place `from` of the line. Returns the
-/// number of plain bytes before the stop, and the reason for the stop.
+/// Copies the bytes of a line to `line`, up to its line feed or further, and writes the places of its commas to `ends`. Returns the number of bytes
+/// before the stop, the number of commas among them, and the reason for the stop.
+#[inline(always)]
 pub(crate) fn scan(
     bytes: &[u8],
-    from: usize,
-    ends: &mut Vec<usize>,
-) -> Result<(usize, Stop), AllocError>
-    requires fits { from + length bytes.now < 2 ^ 64 }
-    ensures within { IfOk result (λ p. p.0 ≤ length bytes.now) }
-    ensures plain { IfOk result (λ p. IsPlainLine (take p.0 bytes.now)) }
-    ensures ends { IfOk result (λ p. ends.new.items ≡ ends.old.items ++ commas from (take p.0 bytes.now)) }
-    ensures stop { IfOk result (λ p. IsStop p.1 p.0 bytes.now) }
+    line: &mut [u8; MAX_LINE],
+    ends: &mut [usize; MAX_FIELDS],
+) -> (usize, usize, Stop)
+    ensures few { result.1 < 128 }
+    ensures found { FindsLine result.2 bytes.now (take result.0 line.new) (take result.1 ends.new) result.0 }
 {
+    let limit = bytes.len().min(MAX_LINE);
     let mut at = 0;
-    while BLOCK <= bytes.len() - at {
-        let (after, stop) = scan_block(bytes, at, from, ends)?;
+    let mut count = 0;
+    while BLOCK <= limit - at {
+        copy_block(line, bytes, at);
+        let (place, more, stop) = scan_block(bytes, at, ends, count);
         match stop {
             Stop::End => {}
-            Stop::Feed => return Ok((after, Stop::Feed)),
-            Stop::Odd => return Ok((after, Stop::Odd)),
+            Stop::Feed => return (place, more, Stop::Feed),
+            Stop::Odd => return (place, more, Stop::Odd),
         }
+        count = more;
         at += BLOCK;
     }
-    scan_rest(bytes, at, from, ends)
+    (at, count, Stop::End)
 }

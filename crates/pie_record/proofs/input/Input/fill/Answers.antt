@@ -1,15 +1,18 @@
-use Rattle.std.proofs.Common.{arith, ◌≡◌}
-use Rattle.std.proofs.lemmas.Bool.Decides.{nat_tests}
-use Rattle.pie_record.proofs.InputFacts.{fill-keeps, fill-ends}
+use Rattle.std.proofs.Common.{rules, ◌≡◌, ◌-◌, ◌≤◌, ℕ, take, length}
+use Rattle.std.proofs.lemmas.List.{with_items_is, places}
+use Rattle.pie_record.proofs.InputFacts.{fill-keeps, room-made}
 use Rattle.pie_record.proofs.input.Input.fill.Goals as goal
 
-pub returns-in-Ok-read_over-clause-keeps : goal.returns-in-Ok-read_over-clause-keeps
-returns-in-Ok-read_over-clause-keeps g c =
-    rw (← c.self.view_is) (fill-keeps (g.R.Read.remaining c.self.inside.reader) (g.R.Read.remaining c.read_over.new.reader) c.self.inside.bytes.items
-    c.read_over.new.bytes.items c.self.inside.at c.self.inside.end c.in-Ok-read_over.count (omega (arith, c.if-self.false)) c.in-Ok-read_over.ensures.taken)
-
-pub returns-in-Ok-read_over-clause-none : goal.returns-in-Ok-read_over-clause-none
-returns-in-Ok-read_over-clause-none g c = λ zero_.
-    let none : c.in-Ok-read_over.count ≡ 0 = grind (arith, nat_tests, zero_) in
-    fill-ends (g.R.Read.remaining c.read_over.new.reader) c.read_over.new.bytes.items c.in-Ok-read_over.count none
-    (c.in-Ok-read_over.ensures.end none c.in-Ok.ensures.some)
+pub returns-then-count-gt0-clause-keeps : goal.returns-then-count-gt0-clause-keeps
+returns-then-count-gt0-clause-keeps g c =
+    let i = c.self.inside in
+    let n : ℕ = i.end - i.at in
+    let made = c.make_room.new.bytes.items in
+    let moved = c.copy_within.new.self in
+    let now = c.read_behind.new.bytes in
+    let inside : i.end ≤ length made = search rules in
+    let same : take n now ≡ take n moved.items = search rules in
+    rw (← c.self.view_is)
+    (rw (with_items_is moved now (search (rules, places)), room-made i.bytes.items made i.at i.end c.self.invariant.1 c.in-Ok.ensures.same)
+    (fill-keeps made moved.items now i.at i.end c.in-Ok-read_behind.count c.self.invariant.0 inside c.copy_within.ensures.items same
+    (g.R.Read.remaining i.reader) (g.R.Read.remaining c.read_behind.new.reader) c.in-Ok-read_behind.ensures.taken))

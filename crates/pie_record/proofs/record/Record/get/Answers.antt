@@ -1,9 +1,11 @@
-use Rattle.std.proofs.Common.{rules, ◌≤◌, length}
-use Rattle.pie_record.proofs.PlainFacts.{line-past}
+use Rattle.std.proofs.Common.{arith, ◌≤◌, length, take}
+use Rattle.pie_record.proofs.PlainFacts.{line-past, some-fields}
 use Rattle.pie_record.proofs.record.Record.get.Goals as goal
 
-pub returns-then-place-len : goal.returns-then-place-len
-returns-then-place-len c =
-    let is = c.self.invariant c.if-not-self.false in
-    let past : length c.self.inside.ends.items ≤ c.args.place = search rules in
-    rw (← c.self.view_is) (rw c.if-not-self.false (line-past c.self.inside.line.items c.self.inside.ends.items c.args.place is past))
+pub returns-then-self-gt0 : goal.returns-then-self-gt0
+returns-then-self-gt0 c =
+    let i = c.self.inside in
+    let some = c.if-self-gt0.true in
+    let is = c.self.invariant.2 some in
+    let past : length (take i.count i.ends) ≤ c.args.place = omega (arith, is.1, c.if-place-self.false) in
+    rw (← c.self.view_is) (rw (some-fields i.count some) (line-past (take i.len i.line) (take i.count i.ends) c.args.place is.0 past))

@@ -1,10 +1,10 @@
-use Rattle.std.proofs.Common.{rules, sym, ◌∙◌, ◌≡◌, length}
-use Rattle.pie_record.proofs.PlainFacts.{line-long}
+use Rattle.std.proofs.Common.{sym, ◌∙◌, take}
+use Rattle.pie_record.proofs.PlainFacts.{line-long, some-fields}
 use Rattle.pie_record.proofs.record.Record.len.Goals as goal
 
-pub returns-then-self : goal.returns-then-self
-returns-then-self c =
+pub returns-then-self-gt0 : goal.returns-then-self-gt0
+returns-then-self-gt0 c =
     let i = c.self.inside in
-    let is = c.self.invariant c.if-self.true in
-    let long : c.len.result ≡ length i.ends.items = search rules in
-    rw (← c.self.view_is) (rw c.if-self.true (long ∙ sym (line-long i.line.items i.ends.items is)))
+    let some = c.if-self-gt0.true in
+    let is = c.self.invariant.2 some in
+    rw (← c.self.view_is) (rw (some-fields i.count some) (sym is.1 ∙ sym (line-long (take i.len i.line) (take i.count i.ends) is.0)))

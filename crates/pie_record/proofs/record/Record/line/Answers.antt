@@ -1,8 +1,11 @@
+use Rattle.std.proofs.Common.{take}
 use Rattle.pie_record.proofs.LineReads.{line-text}
+use Rattle.pie_record.proofs.PlainFacts.{some-fields}
 use Rattle.pie_record.proofs.record.Record.line.Goals as goal
 
-pub returns-then-self : goal.returns-then-self
-returns-then-self c =
+pub returns-then-self-gt0 : goal.returns-then-self-gt0
+returns-then-self-gt0 c =
     let i = c.self.inside in
-    let is = c.self.invariant c.if-self.true in
-    rw (← c.self.view_is) (rw (c.if-self.true, c.as_slice.ensures.value) (line-text i.line.items is.plain is.some))
+    let some = c.if-self-gt0.true in
+    let is = c.self.invariant.2 some in
+    rw (← c.self.view_is) (rw (some-fields i.count some) (line-text (take i.len i.line) is.0.plain is.0.some))

@@ -28,7 +28,7 @@ pub use Rattle.pie_excerpt.specs.Written.{IsWritten, excerpt_rows, resumed_rows}
 pub use Rattle.pie_params.specs.Range.{first_bad}
 pub use Rattle.pie_record.specs.Fault.{IsOfInput, IsWrite, is_device}
 unfoldable pub use Rattle.pie_record.specs.FirstRecord.{version_of, opening_of}
-pub use Rattle.pie_record.specs.HistoryLines.{RemainingLines, LinesView, remaining_after_opening, remaining_from}
+pub use Rattle.pie_record.specs.HistoryLines.{RemainingLines, IsRecordOf, LinesView, remaining_after_opening, remaining_from}
 unfoldable pub use Rattle.pie_record.specs.HistoryLines.{event_count, fault_from, history_opening, latest_clock, lines_from}
 pub use Rattle.pie_record.specs.ReadBack.{EventFits, IsHistoryText}
 unfoldable pub use Rattle.pie_record.specs.ReadBack.{AreLinesOf}

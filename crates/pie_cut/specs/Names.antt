@@ -34,7 +34,7 @@ unfoldable pub use Rattle.pie_excerpt.specs.Rows.{resume_row}
 pub use Rattle.pie_excerpt.specs.Written.{IsWritten, resumed_rows, resume_with}
 pub use Rattle.pie_queue.specs.declared.packet.Waiting.{Waiting}
 pub use Rattle.pie_record.specs.Fault.{is_device}
-pub use Rattle.pie_record.specs.HistoryLines.{RemainingLines, events_in, history_lines, latest_clock}
+pub use Rattle.pie_record.specs.HistoryLines.{RemainingLines, IsRecordOf, events_in, history_lines, latest_clock}
 unfoldable pub use Rattle.pie_record.specs.HistoryLines.{event_count}
 pub use Rattle.pie_record.specs.ReadBack.{EventFits}
 pub use Rattle.pie_record.specs.Text.{Row, records_of, text_of}

@@ -1,10 +1,11 @@
 -- Facts about the output: numbers with leading zeros, records built from their fields, and reports.
-use Rattle.std.proofs.Common.{List, [], ap, append-nil, append_assoc, arith, codes, length, refl, sym, ℕ, ◌++◌, ◌-◌, ◌∙◌, ◌∷◌, ◌≡◌}
+use Rattle.std.proofs.Common.{List, [], ap, append-nil, append_assoc, arith, codes, drop, length, length-append, refl, sym, ℕ, ◌++◌, ◌-◌, ◌∙◌, ◌∷◌, ◌≡◌}
 use Rattle.std.specs.Prelude.{false}
 use Rattle.std.specs.Fmt.{char_count, decimal, format_spec, padded_integral}
 use Rattle.pie_units.specs.Utc.{with_zeros}
 use Rattle.pie_explain.specs.declared.explanation.Explained.{Explained}
 use Rattle.pie_explain.specs.Record.{active_field, line_of, most_fields, onto, record_of}
+use Rattle.std.proofs.lemmas.List.{drop_at}
 use Rattle.std.specs.List.{flat_map}
 use Rattle.std.proofs.lemmas.List.Concat.{flat_map-append}
 use Rattle.pie_explain.specs.declared.form.Form.{Form}
@@ -32,7 +33,15 @@ pub onto-append : (fields : List (List ℕ)) (front rest : List ℕ) → onto fi
 onto-append [] front rest = refl
 onto-append (f ∷ fs) front rest = append_assoc f (44 ∷ onto fs front) rest ∙ ap (λ (l : List ℕ). f ++ (44 ∷ l)) (onto-append fs front rest)
 
--- a record, and the wall-clock time after it
+-- the last bytes of fields before a text are the text
+pub steady_last : (fields : List (List ℕ)) (steady text : List ℕ) (n : ℕ) → text ≡ onto fields steady → n ≡ length steady
+    → drop (length text - n) text ≡ steady
+steady_last fields steady text n is long =
+    let whole = sym (onto-append fields [] steady) in
+    let both = length-append (onto fields []) steady in
+    rw (is, whole) (drop_at (onto fields []) steady (length (onto fields [] ++ steady) - n) (omega (arith, both, long)))
+
+-- a record, and the time of day behind it
 pub wall-line : (all : Explained) (wall old : List ℕ)
     → ((old ++ onto (most_fields all) (active_field all.after.active ++ codes ",")) ++ wall) ++ codes "\n"
     ≡ old ++ line_of (record_of all ++ wall ∷ [])

@@ -2,7 +2,8 @@
 ghost use Rattle.std.specs.Prelude.{◌≡◌, List};
 ghost use Rattle.pie_event.specs.declared.command.Event.{Event};
 ghost use Rattle.pie_event.specs.declared.opening.Opening.{Opening};
-ghost use Rattle.pie_book.specs.Core.{Represents};
+ghost use Rattle.pie_book.specs.Core.{Represents, cause_in};
+ghost use Rattle.pie_book.specs.Decision.{cause_after};
 ghost use Rattle.pie_event.specs.Deed.{deed_of};
 ghost use Rattle.pie_book.specs.Statistics.{wait_of};
 ghost use Rattle.pie_explain.specs.Explanation.{moment_at, moment_of};
@@ -46,6 +47,22 @@ pub struct Explained {
     pub after: Registers,
     /// The queueing delay after it (RFC 8033, section 5.2).
     pub delay: u64,
+}
+
+/// Returns the cause that would decide the command now, if it is an arrival.
+#[inline(always)]
+fn cause_of(core: &Core, command: &Command) -> Option<Cause>
+    ensures after { (opening : Opening) (history : List Event) → Represents opening core.now history
+        → result ≡ cause_after opening history command.now }
+    ensures in_state { result ≡ cause_in core.now command.now }
+{
+    match command {
+        Command::Arrive { .. } => core.cause(command),
+        Command::Depart { .. }
+        | Command::Update { .. }
+        | Command::Reset { .. }
+        | Command::SetParams { .. } => None,
+    }
 }
 
 /// Returns the departing packet's time in the queue at the effective moment `now`, or 0 for any other event.
@@ -101,7 +118,7 @@ impl Explained {
             moment: now,
             before,
             delay: core.delay(),
-            cause: core.cause(&event.command),
+            cause: cause_of(core, &event.command),
             waited: waited(core, event, now),
             set_by,
             updates: core.stats().updates,

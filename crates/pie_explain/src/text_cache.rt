@@ -1,5 +1,5 @@
-//! Keeps the text of a controller's numbers that often stay unchanged from one event to the next, instead of writing it a second time.
-ghost use Rattle.std.specs.Prelude.{◌≡◌, ◌+◌, ◌≤◌, [], length};
+//! The text of a controller's numbers, which often stay as they are from one event to the next: what did not change is not written a second time.
+ghost use Rattle.std.specs.Prelude.{◌≡◌, ◌≤◌, ◌-◌, [], drop, length};
 ghost use Rattle.pie_explain.specs.Record.{held_fields, onto, steady_fields};
 ghost use Rattle.std.specs.Prelude.{true};
 
@@ -7,59 +7,40 @@ use pie_book::Registers;
 use pie_text::Row;
 use std::marker::Model;
 
-/// The probabilities and the burst allowance that were put last, and their text as fields of a row, each with a comma after it.
-#[derive(Drop)]
-pub(crate) struct Steady {
+/// The probabilities and the burst allowance that were put last, and the length of their text as fields of a row, each with a comma after it.
+#[derive(Clone, Copy)]
+struct Steady {
     prob: u64,
     accu: u64,
     burst: u64,
-    text: Row,
+    len: usize,
 }
 
-impl Model for Steady {
-    ghost use Rattle.std.specs.Prelude.{ℕ, ◌≡◌, ◌≤◌, List, [], length};
-    ghost use Rattle.pie_explain.specs.Record.{onto, steady_fields};
-
-    ghost Value = { List ℕ };
-
-    ghost view = { λ steady. steady.text };
-
-    ghost invariant = { λ steady. (steady.text ≡ onto (steady_fields steady.prob steady.accu steady.burst) []) × (length steady.text ≤ 63) };
-}
-
-impl Steady {
-    /// Returns the text of zeros.
-    pub(crate) fn new() -> Steady {
-        let mut text = Row::new();
-        text.number(0);
-        text.number(0);
-        text.number(0);
-        Steady {
-            prob: 0,
-            accu: 0,
-            burst: 0,
-            text,
-        }
+/// Leaves in `text` only the probabilities and the burst allowance of `held`. The text ends with those of `steady`, which stay where they did not
+/// change.
+#[inline(always)]
+fn begin(text: &mut Row, steady: &mut Steady, held: &Registers)
+    requires ends { drop (length text.old - steady.old.len) text.old ≡ onto (steady_fields steady.old.prob steady.old.accu steady.old.burst) [] }
+    requires within { steady.old.len ≤ length text.old }
+    requires few { steady.old.len ≤ 63 }
+    requires long { steady.old.len ≡ length (onto (steady_fields steady.old.prob steady.old.accu steady.old.burst) []) }
+    ensures text { text.new ≡ onto (steady_fields held.now.prob held.now.accu held.now.burst) [] }
+    ensures numbers { text.new ≡ onto (steady_fields steady.new.prob steady.new.accu steady.new.burst) [] }
+    ensures long { steady.new.len ≡ length text.new }
+    ensures few { steady.new.len ≤ 63 }
+{
+    if steady.prob == held.prob && steady.accu == held.accu && steady.burst == held.burst {
+        text.keep_last(steady.len);
+        return;
     }
-
-    /// Replaces the stored numbers. Returns true if they are unchanged.
-    #[inline(always)]
-    fn take(&mut self, held: &Registers) -> bool
-        ensures text { self.new ≡ onto (steady_fields held.now.prob held.now.accu held.now.burst) [] }
-        ensures same { result ≡ true → self.new ≡ self.old }
-    {
-        if self.prob == held.prob && self.accu == held.accu && self.burst == held.burst {
-            return true;
-        }
-        self.text.clear();
-        self.text.number(held.burst);
-        self.text.number(held.accu);
-        self.text.number(held.prob);
-        self.prob = held.prob;
-        self.accu = held.accu;
-        self.burst = held.burst;
-        false
-    }
+    text.clear();
+    text.number(held.burst);
+    text.number(held.accu);
+    text.number(held.prob);
+    steady.prob = held.prob;
+    steady.accu = held.accu;
+    steady.burst = held.burst;
+    steady.len = text.len();
 }
 
 /// All numbers of a controller that were put last, and their text as fields of a row, each with a comma after it: the numbers after an event mostly
@@ -75,21 +56,27 @@ pub(crate) struct Held {
 
 impl Model for Held {
     ghost use Rattle.std.specs.Prelude.{ℕ, ◌≡◌, ◌≤◌, ◌∷◌, List, [], length, decimal};
-    ghost use Rattle.pie_explain.specs.Record.{onto};
+    ghost use Rattle.pie_explain.specs.Record.{onto, steady_fields};
 
     ghost Value = { List ℕ };
 
     ghost view = { λ held. held.text };
 
-    ghost invariant = { λ held. (held.text ≡ onto (decimal held.bytes ∷ decimal held.packets ∷ decimal held.delay ∷ []) held.steady)
-        × (length held.text ≤ 126) };
+    ghost invariant = { λ held.
+        (held.text ≡ onto (decimal held.bytes ∷ decimal held.packets ∷ decimal held.delay ∷ [])
+        (onto (steady_fields held.steady.prob held.steady.accu held.steady.burst) []))
+        × (held.steady.len ≡ length (onto (steady_fields held.steady.prob held.steady.accu held.steady.burst) []))
+        × (held.steady.len ≤ 63) × (length held.text ≤ 126) };
 }
 
 impl Held {
     /// Returns the text of zeros.
     pub(crate) fn new() -> Held {
-        let (steady, mut text) = (Steady::new(), Row::new());
-        text.text(steady.text.as_bytes());
+        let mut text = Row::new();
+        text.number(0);
+        text.number(0);
+        text.number(0);
+        let (prob, accu, burst, len) = (0, 0, 0, text.len());
         text.number(0);
         text.number(0);
         text.number(0);
@@ -97,9 +84,28 @@ impl Held {
             bytes: 0,
             packets: 0,
             delay: 0,
-            steady,
+            steady: Steady {
+                prob,
+                accu,
+                burst,
+                len,
+            },
             text,
         }
+    }
+
+    /// Returns true if the numbers are those that were put last.
+    #[inline(always)]
+    fn has(&self, held: &Registers, delay: u64) -> bool
+        ensures { result ≡ true → self.now ≡ onto (held_fields held.now delay) [] }
+    {
+        let steady = &self.steady;
+        self.bytes == held.bytes
+            && self.packets == held.packets
+            && self.delay == delay
+            && steady.prob == held.prob
+            && steady.accu == held.accu
+            && steady.burst == held.burst
     }
 
     /// Takes these numbers in place of the earlier ones.
@@ -107,19 +113,15 @@ impl Held {
     pub(crate) fn take(&mut self, held: &Registers, delay: u64)
         ensures { self.new ≡ onto (held_fields held.now delay) [] }
     {
-        let (bytes, packets) = (held.bytes, held.packets);
-        if self.steady.take(held)
-            && (self.bytes == bytes && self.packets == packets && self.delay == delay)
-        {
+        if self.has(held, delay) {
             return;
         }
-        self.text.clear();
-        self.text.text(self.steady.text.as_bytes());
+        begin(&mut self.text, &mut self.steady, held);
         self.text.number(delay);
-        self.text.number(packets);
-        self.text.number(bytes);
-        self.bytes = bytes;
-        self.packets = packets;
+        self.text.number(held.packets);
+        self.text.number(held.bytes);
+        self.bytes = held.bytes;
+        self.packets = held.packets;
         self.delay = delay;
     }
 

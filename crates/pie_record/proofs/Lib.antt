@@ -13,5 +13,6 @@ mod Appended
 mod FieldFacts
 pub mod OpeningBack
 mod LinesBack
+mod LinesAgain
 mod ExamplesLines
 pub mod Laws

@@ -118,7 +118,7 @@ command-read row k asks e =
     by kind.Reset caller moment who when few small e = short caller (Reset moment) (who, (when, tt)) (few, small) e
     by kind.Params caller moment who when few small e = change-read row caller moment asks who when few small e
 
-kind-has : (row : Row) (k : CommandKind) → command_kind row ≡ Some k → Has row 0 (command_word k)
+pub kind-has : (row : Row) (k : CommandKind) → command_kind row ≡ Some k → Has row 0 (command_word k)
 unfolding command_kind
 kind-has row k e =
     let all : List CommandKind = kind.Arrive ∷ kind.Depart ∷ kind.Update ∷ kind.Reset ∷ kind.Params ∷ [] in

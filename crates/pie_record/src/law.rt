@@ -1,7 +1,7 @@
 //! The laws of records and texts: written records are read back, and a record that was read is written again.
 ghost use Rattle.std.specs.Prelude.{◌≡◌};
 ghost use Rattle.pie_record.specs.{Opening, Ok, first_bad, Draft, FirstKind, Checked, checked_opening, AnswersAreReadBack};
-ghost use Rattle.pie_record.specs.{RequestsAreWrittenAgain, TextsAreReadBack};
+ghost use Rattle.pie_record.specs.{IsRecordOf, Line, RequestsAreWrittenAgain, Row, TextsAreReadBack, line_rows, rows_unless_note};
 
 /// The history record of a request is read back as it was written: the event with its answer, the wall-clock time, or a note.
 ///
@@ -17,8 +17,15 @@ pub fn requests_are_written_again()
     ensures { RequestsAreWrittenAgain }
 {}
 
-/// A text of written records is read back as those records. If each record has a line, the text is read back as those lines, with no fault behind
-/// them. The text of an opening and its events is read back as their history.
+/// The record of a line, except a note, is the record that is written for this line.
+///
+/// It does nothing: its contract is the law (this project's own).
+pub fn lines_are_written_again()
+    ensures { (row : Row) (told : Line) → IsRecordOf row told → line_rows told ≡ rows_unless_note told row }
+{}
+
+/// A text of written records is read back as those records, and where each tells a line, as those lines, with no fault behind them. That of an
+/// opening and its events is a history of these.
 ///
 /// It does nothing: its contract is the law (this project's own).
 pub fn texts_are_read_back()

@@ -40,6 +40,7 @@ pub use fault::{ExcerptFault, Flaw, OpenFault, TraceFault};
 pub use history_reader::HistoryLines;
 pub use history_record::Line;
 pub use law::{
-    answers_are_read_back, openings_are_checked, requests_are_written_again, texts_are_read_back,
+    answers_are_read_back, lines_are_written_again, openings_are_checked,
+    requests_are_written_again, texts_are_read_back,
 };
 pub use version::Version;

@@ -62,7 +62,7 @@ impl Bounds {
 
     /// Takes one more number.
     #[tactic(auto, using(crate::proofs::SpanFacts::bounds_push))]
-    #[inline(never)]
+    #[inline(always)]
     pub(crate) fn take(&mut self, number: u64)
         ensures { (numbers : List ℕ) → self.old ≡ bounds_of numbers → self.new ≡ bounds_of (numbers ++ number ∷ []) }
     {
@@ -73,13 +73,21 @@ impl Bounds {
         };
     }
 
+    /// Takes one more number, as `take` does, in a function of its own for rare numbers.
+    #[inline(never)]
+    fn take_rare(&mut self, number: u64)
+        ensures { (numbers : List ℕ) → self.old ≡ bounds_of numbers → self.new ≡ bounds_of (numbers ++ number ∷ []) }
+    {
+        self.take(number);
+    }
+
     /// Takes one more number, or none.
     #[inline(always)]
     pub(crate) fn take_some(&mut self, number: Option<u64>)
         ensures { (numbers : List ℕ) → self.old ≡ bounds_of numbers → self.new ≡ bounds_of (numbers ++ cons_option number []) }
     {
         if let Some(number) = number {
-            self.take(number);
+            self.take_rare(number);
         }
     }
 }

@@ -7,7 +7,6 @@ ghost use Rattle.pie_summary.specs.Summary.{HoldsSums};
 use crate::meter_input::meter_input_of;
 use crate::ranges::{RANGES, clear_counts, count_some};
 use crate::sums::Sums;
-use pie_book::Answer;
 use pie_explain::Explained;
 use std::alloc::{AllocError, Global};
 
@@ -103,22 +102,7 @@ impl Period {
         let number = period_of(every, told.told.moment);
         self.begin(number);
         self.number = Some(number);
-        self.add_by_kind(told);
-    }
-
-    /// Adds one more event of the interval. Each kind of answer has an arm of its own, in which the compiler omits
-    /// the numbers that the kind does not have.
-    #[inline(always)]
-    fn add_by_kind(&mut self, told: &Explained)
-        ensures number { self.new.number ≡ self.old.number }
-        ensures adds { (shown : List Explained) → HoldsSums self.old shown → HoldsSums self.new (shown ++ told.now ∷ []) }
-    {
-        match told.told.event.answer {
-            Answer::Left(_) => self.add(told),
-            Answer::Updated { .. } => self.add(told),
-            Answer::Empty | Answer::Done => self.add(told),
-            _ => self.add(told),
-        }
+        self.add(told);
     }
 
     /// Adds one more event of the interval.

@@ -39,14 +39,21 @@ fn range_place(number: u64) -> u64
     }
 }
 
-/// Returns the range of any number.
+/// Returns the range of any number: of 10,000 to 999,999 by one division.
 #[inline(never)]
 #[tactic(auto, unfolding(crate::specs::Ranges::range_of))]
 fn range_apart(number: u64) -> u64
     ensures place { result ≡ range_of number }
     ensures bound { result < 1720 }
 {
-    range_within(18, number)
+    if number < 10_000 || number >= 1_000_000 {
+        return range_within(18, number);
+    }
+    if number < 100_000 {
+        number / 1_000 + 270
+    } else {
+        number / 10_000 + 360
+    }
 }
 
 /// Returns the first place at which the sum of the counts up to it reaches `rank`.

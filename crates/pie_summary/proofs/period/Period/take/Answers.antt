@@ -11,8 +11,8 @@ returns c = λ shown keeps.
     let begun : HoldsSums c.begin.new.self before =
     subst (λ (p : ℕ). HoldsSums c.begin.new.self (since every (Some p) shown)) c.period_of-number.ensures (c.begin.ensures shown every keeps) in
     let last = sym (last_events-push every shown one) in
-    let added = c.add_by_kind.ensures.adds before (record { sums = begun.sums; waits = begun.waits }) in
+    let added = c.add.ensures.adds before (record { sums = begun.sums; waits = begun.waits }) in
     record {
-      last = c.add_by_kind.ensures.number ∙ ap Some c.period_of-number.ensures ∙ sym (last_period-push every shown one);
+      last = c.add.ensures.number ∙ ap Some c.period_of-number.ensures ∙ sym (last_period-push every shown one);
       kept = record { sums = added.sums ∙ ap sums_of last; waits = added.waits ∙ ap waits_of last };
     }

@@ -15,32 +15,10 @@ pie=${PIE:-$PWD/crates/pie/out/pie}
 build_module . "$work/root/mods/sch_pie_recorded.ko"
 cat > "$work/init" <<'END'
 #!/bin/busybox sh
-box=/bin/busybox
-$box mkdir -p /etc
-$box mount -t proc proc /proc
-$box mount -t sysfs sys /sys
-$box mount -t devtmpfs dev /dev
-$box mount -t tmpfs run /run
-exec > /dev/console 2>&1
-for name in virtio_ring virtio virtio_pci_legacy_dev virtio_pci_modern_dev virtio_pci virtio_blk veth sch_htb sch_netem sch_pie_recorded; do
-    [ ! -e /mods/$name.ko ] || $box insmod /mods/$name.ko || echo "FAILED insmod $name"
-done
-for name in a r b; do
-    /bin/ip netns add $name
-    /bin/ip -n $name link set lo up
-done
-/bin/ip link add a0 netns a type veth peer name ra netns r
-/bin/ip link add b0 netns b type veth peer name rb netns r
-/bin/ip -n a addr add 10.0.1.1/24 dev a0
-/bin/ip -n r addr add 10.0.1.2/24 dev ra
-/bin/ip -n b addr add 10.0.2.1/24 dev b0
-/bin/ip -n r addr add 10.0.2.2/24 dev rb
-for at in a:a0 r:ra r:rb b:b0; do
-    /bin/ip -n ${at%:*} link set ${at#*:} up
-done
-/bin/ip -n a route add default via 10.0.1.2
-/bin/ip -n b route add default via 10.0.2.2
-/bin/ip netns exec r $box sysctl -q -w net.ipv4.ip_forward=1
+. /net.sh
+begins
+loads virtio_ring virtio virtio_pci_legacy_dev virtio_pci_modern_dev virtio_pci virtio_blk veth sch_htb sch_netem sch_pie_recorded
+connects 1
 /bin/tc -n b qdisc add dev b0 root netem delay 10ms limit 100000
 /bin/tc -n r qdisc add dev rb root handle 1: htb default 1
 /bin/tc -n r class add dev rb parent 1: classid 1:1 htb rate $rate

@@ -97,6 +97,19 @@ for words in "limit 0" "limit 2000000" "target 20s" "tupdate 1us" "tupdate 11s" 
     $box echo "TOLD refused: $words ($($box sed -n 's/^Error: //p' /tmp/refused))"
 done
 
+# a record is charged to the cgroup of the process that adds the queue
+$box mkdir /cgroup
+$box mount -t cgroup2 cgroup /cgroup
+echo +memory > /cgroup/cgroup.subtree_control
+$box mkdir /cgroup/small
+echo 16M > /cgroup/small/memory.max
+/bin/tc -n r qdisc add dev rb root handle 2: pie_recorded events 400000 || echo "FAILED tc events 400000"
+/bin/tc -n r qdisc del dev rb root
+if (echo 0 > /cgroup/small/cgroup.procs; exec /bin/tc -n r qdisc add dev rb root handle 2: pie_recorded events 400000) 2> /tmp/refused; then
+    echo "FAILED: not refused: a record above the memory of the cgroup"
+fi
+$box echo "TOLD refused: a record above the memory of the cgroup ($($box tail -n 1 /tmp/refused))"
+
 # one record for each queue of mq, with numbers of their own after a replacement
 /bin/tc -n r qdisc add dev rb root handle 8: mq
 for queue in 8:1 8:2 8:2; do

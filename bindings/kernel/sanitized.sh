@@ -51,7 +51,7 @@ booted() {
     # shellcheck source=guest.sh
     . bindings/kernel/guest.sh
     build_module . "$work/root/mods/sch_pie_recorded.ko"
-    cc -O2 -Wall -Wextra -static -o "$work/root/bin/requests" "$here/requests.c"
+    cc -O2 -Wall -Wextra -Iinclude -static -o "$work/root/bin/requests" "$here/requests.c"
     fill_root "$here/init" veth dummy sch_htb
     # a slow machine stalls the guest, which is no error of it
     local parameters="panic=-1 nowatchdog rcupdate.rcu_cpu_stall_suppress=1"

@@ -191,6 +191,8 @@ static const char *see_update(const struct registers *before, const struct step 
     uint64_t prob = before->control.prob;
     grain /= prob < 1000000 ? 2048 : prob < 10000000 ? 512 : prob < 100000000 ? 128 : prob < 1000000000 ? 32 : prob < 10000000000 ? 8
              : prob < 100000000000 ? 2 : 1;
+    /* Linux rounds each gain down to a unit of MAX_PROB for each tick of 64 ns, in two steps */
+    grain += 2 * (fabs((double)step->delay - (double)before->params.target) + fabs((double)step->delay - (double)before->control.old_delay)) / 64 / MAX_PROB;
     vars->prob = share(prob);
     vars->accu_prob = share(before->accu);
     vars->qdelay_old = PSCHED_NS2TICKS(before->control.old_delay);

@@ -1,10 +1,13 @@
 #!/usr/bin/env bash
-# Compares the module's decisions with those of Linux's sch_pie.c, decision by decision: eight CUBIC flows at RATE pass through pie_recorded in a booted
-# kernel, pie-tap writes the history to a disk, and bench/steps/run.sh gives each step of it, with its random word, to the code of sch_pie.c. Each
-# difference must be one that docs/PARAMETERS.md names. A million arrivals take some minutes of a processor.
+# Compares the module's decisions with those of Linux's sch_pie.c, decision by decision. In a booted kernel, eight CUBIC flows pass through pie_recorded at
+# RATE, and DATAGRAMS a second of the kernel's packet generator beside them. pie-tap writes the history to a disk, and bench/steps/run.sh gives each step of
+# it, with its random word, to the code of sch_pie.c. Each difference must be one that docs/PARAMETERS.md names. In simulated time, an arrival of TCP takes
+# a millisecond of the processor. With CPUS, the kernel has CPUS processors and runs in real time. A million arrivals in some minutes:
+#     CPUS=2 RATE=20mbit DATAGRAMS=4000 SECONDS_OF_TRAFFIC=420 bindings/kernel/beside_pie.sh
 # needs: a request, program
 #
-# usage: [PIE=program] [HEADERS=folder] [KEEP=folder for all files] [RATE=400mbit] [SECONDS_OF_TRAFFIC=45] bindings/kernel/beside_pie.sh [ROOT]
+# usage: [PIE=program] [HEADERS=folder] [KEEP=folder for all files] [CPUS=n] [RATE=100mbit] [SECONDS_OF_TRAFFIC=10] [DATAGRAMS=0]
+#        bindings/kernel/beside_pie.sh [ROOT]
 set -eu
 cd "$(dirname "$0")/../.."
 me=bindings/kernel/beside_pie.sh
@@ -15,32 +18,10 @@ pie=${PIE:-$PWD/crates/pie/out/pie}
 build_module . "$work/root/mods/sch_pie_recorded.ko"
 cat > "$work/init" <<'END'
 #!/bin/busybox sh
-box=/bin/busybox
-$box mkdir -p /etc
-$box mount -t proc proc /proc
-$box mount -t sysfs sys /sys
-$box mount -t devtmpfs dev /dev
-$box mount -t tmpfs run /run
-exec > /dev/console 2>&1
-for name in virtio_ring virtio virtio_pci_legacy_dev virtio_pci_modern_dev virtio_pci virtio_blk veth sch_htb sch_netem sch_pie_recorded; do
-    [ ! -e /mods/$name.ko ] || $box insmod /mods/$name.ko || echo "FAILED insmod $name"
-done
-for name in a r b; do
-    /bin/ip netns add $name
-    /bin/ip -n $name link set lo up
-done
-/bin/ip link add a0 netns a type veth peer name ra netns r
-/bin/ip link add b0 netns b type veth peer name rb netns r
-/bin/ip -n a addr add 10.0.1.1/24 dev a0
-/bin/ip -n r addr add 10.0.1.2/24 dev ra
-/bin/ip -n b addr add 10.0.2.1/24 dev b0
-/bin/ip -n r addr add 10.0.2.2/24 dev rb
-for at in a:a0 r:ra r:rb b:b0; do
-    /bin/ip -n ${at%:*} link set ${at#*:} up
-done
-/bin/ip -n a route add default via 10.0.1.2
-/bin/ip -n b route add default via 10.0.2.2
-/bin/ip netns exec r $box sysctl -q -w net.ipv4.ip_forward=1
+. /net.sh
+begins
+loads virtio_ring virtio virtio_pci_legacy_dev virtio_pci_modern_dev virtio_pci virtio_blk veth sch_htb sch_netem sch_pie_recorded
+connects 1
 /bin/tc -n b qdisc add dev b0 root netem delay 10ms limit 100000
 /bin/tc -n r qdisc add dev rb root handle 1: htb default 1
 /bin/tc -n r class add dev rb parent 1: classid 1:1 htb rate $rate
@@ -49,7 +30,14 @@ done
 tap=$!
 /bin/ip netns exec b /bin/iperf3 -s -D
 $box sleep 1
+if [ $datagrams != 0 ]; then
+    # 300 bytes, to an address at the link that no host has
+    loads pktgen
+    /bin/ip netns exec r $box sh -c "cd /proc/net/pktgen && echo add_device rb > kpktgend_0 && for words in 'count 0' 'pkt_size 300' 'ratep $datagrams' \
+        'dst 10.0.2.9' 'dst_mac 02:00:00:00:00:09' 'xmit_mode queue_xmit'; do echo \$words > rb || echo FAILED pktgen; done; echo start > pgctrl" &
+fi
 /bin/ip netns exec a /bin/iperf3 -c 10.0.2.1 -P 8 -t $seconds -f m | $box grep 'SUM.*receiver'
+[ $datagrams = 0 ] || /bin/ip netns exec r $box sh -c "echo stop > /proc/net/pktgen/pgctrl"
 /bin/tc -n r -s qdisc show dev rb
 /bin/tc -n r qdisc del dev rb root
 wait $tap
@@ -57,10 +45,16 @@ $box sync
 echo ended
 $box poweroff -f
 END
-fill_root "$work/init" virtio virtio_ring virtio_pci_legacy_dev virtio_pci_modern_dev virtio_pci virtio_blk veth sch_htb sch_netem
+fill_root "$work/init" virtio virtio_ring virtio_pci_legacy_dev virtio_pci_modern_dev virtio_pci virtio_blk veth sch_htb sch_netem pktgen
 truncate -s 1G "$work/disk"
+parameters="rate=${RATE:-100mbit} seconds=${SECONDS_OF_TRAFFIC:-10} datagrams=${DATAGRAMS:-0}"
+if [ -n "${CPUS-}" ]; then
+    SIMULATED="-smp $CPUS -accel tcg,thread=multi -cpu Nehalem,+rdrand"
+    # a slow machine stalls the guest, which is no error of it
+    parameters="$parameters nowatchdog rcupdate.rcu_cpu_stall_suppress=1"
+fi
 # shellcheck disable=SC2086
-LIMIT=${LIMIT:-3000} boot "rate=${RATE:-400mbit} seconds=${SECONDS_OF_TRAFFIC:-45}" $SIMULATED -m 1536 -drive "file=$work/disk,format=raw,if=virtio"
+LIMIT=${LIMIT:-3000} boot "$parameters" $SIMULATED -m 1536 -drive "file=$work/disk,format=raw,if=virtio"
 tr -d '\r' < "$work/console" | grep -A 6 -E 'SUM|pie_recorded'
 tr -d '\0' < "$work/disk" > "$work/history"
 echo "$me: Linux $release: $(grep -c '^arrive' "$work/history") arrivals; $("$pie" audit < "$work/history")"

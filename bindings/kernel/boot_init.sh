@@ -1,32 +1,9 @@
 #!/bin/busybox sh
-# The first process of the kernel that boot.sh boots: senders in namespace a, the queue in r, receivers in b. A local sender's queue would stay short, since
-# TCP limits it, so packets are routed.
-box=/bin/busybox
-$box mkdir -p /etc
-$box mount -t proc proc /proc
-$box mount -t sysfs sys /sys
-$box mount -t devtmpfs dev /dev
-$box mount -t tmpfs run /run
-exec > /dev/console 2>&1
-for name in veth sch_htb sch_tbf sch_netem; do
-    $box insmod /mods/$name.ko || echo "FAILED insmod $name"
-done
-for name in a r b; do
-    /bin/ip netns add $name
-    /bin/ip -n $name link set lo up
-done
-/bin/ip link add a0 netns a type veth peer name ra netns r
-/bin/ip link add b0 netns b type veth peer name rb numtxqueues 2 numrxqueues 2 netns r
-/bin/ip -n a addr add 10.0.1.1/24 dev a0
-/bin/ip -n r addr add 10.0.1.2/24 dev ra
-/bin/ip -n b addr add 10.0.2.1/24 dev b0
-/bin/ip -n r addr add 10.0.2.2/24 dev rb
-for at in a:a0 r:ra r:rb b:b0; do
-    /bin/ip -n ${at%:*} link set ${at#*:} up
-done
-/bin/ip -n a route add default via 10.0.1.2
-/bin/ip -n b route add default via 10.0.2.2
-/bin/ip netns exec r $box sysctl -q -w net.ipv4.ip_forward=1
+# The first process of the kernel that boot.sh boots. guest_net.sh describes the network.
+. /net.sh
+begins
+loads veth sch_htb sch_tbf sch_netem
+connects 2
 /bin/tc -n b qdisc add dev b0 root netem delay 20ms limit 10000
 /bin/ip netns exec b /bin/iperf3 -s -D
 /bin/ip netns exec b /bin/iperf3 -s -D -p 5202
@@ -119,6 +96,19 @@ for words in "limit 0" "limit 2000000" "target 20s" "tupdate 1us" "tupdate 11s" 
     /bin/tc -n r qdisc add dev rb root handle 2: pie_recorded $words 2> /tmp/refused && echo "FAILED: not refused: $words"
     $box echo "TOLD refused: $words ($($box sed -n 's/^Error: //p' /tmp/refused))"
 done
+
+# a record is charged to the cgroup of the process that adds the queue
+$box mkdir /cgroup
+$box mount -t cgroup2 cgroup /cgroup
+echo +memory > /cgroup/cgroup.subtree_control
+$box mkdir /cgroup/small
+echo 16M > /cgroup/small/memory.max
+/bin/tc -n r qdisc add dev rb root handle 2: pie_recorded events 400000 || echo "FAILED tc events 400000"
+/bin/tc -n r qdisc del dev rb root
+if (echo 0 > /cgroup/small/cgroup.procs; exec /bin/tc -n r qdisc add dev rb root handle 2: pie_recorded events 400000) 2> /tmp/refused; then
+    echo "FAILED: not refused: a record above the memory of the cgroup"
+fi
+$box echo "TOLD refused: a record above the memory of the cgroup ($($box tail -n 1 /tmp/refused))"
 
 # one record for each queue of mq, with numbers of their own after a replacement
 /bin/tc -n r qdisc add dev rb root handle 8: mq

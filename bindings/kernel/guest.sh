@@ -32,6 +32,7 @@ build_module() {
 fill_root() {
     local plugins path library name
     cp "$1" "$work/root/init"
+    cp bindings/kernel/guest_net.sh "$work/root/net.sh"
     chmod +x "$work/root/init"
     shift
     for name in "$@"; do

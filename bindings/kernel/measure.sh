@@ -14,16 +14,10 @@ build_module . "$work/root/mods/sch_pie_recorded.ko"
 build_module measure "$work/root/mods/pie_measure.ko"
 cat > "$work/init" <<'END'
 #!/bin/busybox sh
-box=/bin/busybox
-$box mkdir -p /etc
-$box mount -t proc proc /proc
-$box mount -t sysfs sys /sys
-$box mount -t devtmpfs dev /dev
-exec > /dev/console 2>&1
+. /net.sh
+begins
 echo "clock $($box cat /sys/devices/system/clocksource/clocksource0/current_clocksource)"
-for name in dummy sch_pie sch_pie_recorded; do
-    $box insmod /mods/$name.ko || echo "FAILED insmod $name"
-done
+loads dummy sch_pie sch_pie_recorded
 $box sysctl -q -w net.ipv6.conf.all.disable_ipv6=1
 $box sysctl -q -w net.ipv6.conf.default.disable_ipv6=1
 # measured NAME WORDS.. [-- PARAMETERS..]

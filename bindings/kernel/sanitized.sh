@@ -8,7 +8,11 @@
 # Debian's packages for a kernel: linux-source-6.1 flex bison bc libelf-dev.
 # needs: a request
 #
-# usage: [BUILD=folder] [SECONDS_OF_TRAFFIC=120] [REQUESTS=5000] [SEED=1] [JOBS=4] bindings/kernel/sanitized.sh [kasan | kcsan | plain]
+# An hour at 10 Mbit/s, with a round of changes every 10 s:
+#     SECONDS_OF_TRAFFIC=3600 RATE=10mbit FLOOD=6M PAUSE=8 bindings/kernel/sanitized.sh plain
+#
+# usage: [BUILD=folder] [SECONDS_OF_TRAFFIC=120] [RATE=50mbit] [FLOOD=30M] [PAUSE=0] [REQUESTS=5000] [SEED=1] [JOBS=4]
+#        bindings/kernel/sanitized.sh [kasan | kcsan | plain]
 set -eu
 cd "$(dirname "$0")/../.."
 me=bindings/kernel/sanitized.sh
@@ -31,7 +35,7 @@ built() {
         make -s -C "$build/linux-source-6.1" O="$build/$kind" KCONFIG_ALLCONFIG="$build/$kind/wanted" allnoconfig > "$build/$kind/log"
         cp "$build/$kind/wanted" "$build/$kind/configured"
     fi
-    nice -n 19 make -s -C "$build/linux-source-6.1" O="$build/$kind" -j"${JOBS:-4}" bzImage modules > "$build/$kind/log" 2>&1
+    nice -n "${NICE:-19}" make -s -C "$build/linux-source-6.1" O="$build/$kind" -j"${JOBS:-4}" bzImage modules > "$build/$kind/log" 2>&1
     release=$(cat "$build/$kind/include/config/kernel.release")
     rm -rf "$build/$kind-root"
     mkdir -p "$build/$kind-root/boot" "$build/$kind-root/lib/modules/$release" "$build/$kind-root/src"
@@ -47,7 +51,7 @@ booted() {
     # shellcheck source=guest.sh
     . bindings/kernel/guest.sh
     build_module . "$work/root/mods/sch_pie_recorded.ko"
-    cc -O2 -Wall -Wextra -static -o "$work/root/bin/requests" "$here/requests.c"
+    cc -O2 -Wall -Wextra -Iinclude -static -o "$work/root/bin/requests" "$here/requests.c"
     fill_root "$here/init" veth dummy sch_htb
     # a slow machine stalls the guest, which is no error of it
     local parameters="panic=-1 nowatchdog rcupdate.rcu_cpu_stall_suppress=1"
@@ -56,7 +60,7 @@ booted() {
     timeout "${LIMIT:-7200}" nice -n "${NICE:-19}" qemu-system-x86_64 -nodefaults -display none -monitor none -no-reboot -kernel "$kernel" \
         -initrd "$work/initrd" -m 3072 -smp 4 -accel tcg,thread=multi -cpu Nehalem,+rdrand -serial "file:$work/console" \
         -append "console=ttyS0 quiet $parameters mitigations=off random.trust_cpu=on rdinit=/init \
-seconds=${SECONDS_OF_TRAFFIC:-120} requests=${REQUESTS:-5000} seed=${SEED:-1}" < /dev/null || true
+seconds=${SECONDS_OF_TRAFFIC:-120} rate=${RATE:-50mbit} flood=${FLOOD:-30M} pause=${PAUSE:-0} requests=${REQUESTS:-5000} seed=${SEED:-1}" < /dev/null || true
     tr -d '\r' < "$work/console" > "$build/$kind.console"
     echo "$release" > "$build/$kind.release"
 }

@@ -88,6 +88,7 @@ struct pr_sched {
 	u32 refused;	/* packets that a call refused */
 	u32 maxq;
 	struct hrtimer timer;
+	spinlock_t lock; /* the timer against a reset without the tree's lock, before destroy */
 	struct Qdisc *sch;
 	struct pr_record *record;
 	struct pie_recorded_flow *places; /* of flows in the record */
@@ -319,6 +320,9 @@ static noinline int pr_enqueue_gso(struct sk_buff *skb, struct Qdisc *sch, struc
 
 		skb_mark_not_on_list(segs);
 		qdisc_skb_cb(segs)->pkt_len = size;
+#ifdef PR_HAS_PKT_SEGS
+		qdisc_skb_cb(segs)->pkt_segs = 1;
+#endif
 		if (pr_enqueue(segs, sch, to_free) == NET_XMIT_SUCCESS) {
 			after += size;
 			count++;
@@ -406,6 +410,13 @@ static enum hrtimer_restart pr_timer(struct hrtimer *timer)
 	rcu_read_lock();
 	root_lock = qdisc_lock(qdisc_root_sleeping(q->sch));
 	spin_lock(root_lock);
+	/* the root may have been replaced, by this queue too, before its lock was taken */
+	while (unlikely(root_lock != qdisc_lock(qdisc_root_sleeping(q->sch)))) {
+		spin_unlock(root_lock);
+		root_lock = qdisc_lock(qdisc_root_sleeping(q->sch));
+		spin_lock(root_lock);
+	}
+	spin_lock(&q->lock);
 	event->moment = ktime_get_ns();
 	event->caller = PR_TIMER;
 	pie_update_event(&q->pie, q->flight.bytes, event);
@@ -414,6 +425,7 @@ static enum hrtimer_restart pr_timer(struct hrtimer *timer)
 	if (q->record)
 		pie_flight_clock(q->record->words, event->moment, ktime_get_real_ns());
 	pr_arm(q);
+	spin_unlock(&q->lock);
 	spin_unlock(root_lock);
 	rcu_read_unlock();
 	return HRTIMER_NORESTART;
@@ -565,15 +577,23 @@ static int pr_change(struct Qdisc *sch, struct nlattr *opt, struct netlink_ext_a
 static int pr_mmap(struct file *file, struct vm_area_struct *vma)
 {
 	struct pr_record *record = pde_data(file_inode(file));
+	const void *from = record->words + (vma->vm_pgoff << PAGE_SHIFT);
+	unsigned long at;
+	int err = 0;
 
 	if (vma->vm_flags & (VM_WRITE | VM_EXEC))
 		return -EPERM;
+	if (vma->vm_pgoff + vma_pages(vma) > record->bytes >> PAGE_SHIFT)
+		return -EINVAL;
 #if LINUX_VERSION_CODE >= KERNEL_VERSION(6, 3, 0)
-	vm_flags_clear(vma, VM_MAYWRITE | VM_MAYEXEC);
+	vm_flags_mod(vma, VM_DONTEXPAND | VM_DONTDUMP, VM_MAYWRITE | VM_MAYEXEC);
 #else
+	vma->vm_flags |= VM_DONTEXPAND | VM_DONTDUMP;
 	vma->vm_flags &= ~(VM_MAYWRITE | VM_MAYEXEC);
 #endif
-	return remap_vmalloc_range(vma, record->words, vma->vm_pgoff);
+	for (at = vma->vm_start; at < vma->vm_end && !err; at += PAGE_SIZE, from += PAGE_SIZE)
+		err = vm_insert_page(vma, at, vmalloc_to_page(from));
+	return err;
 }
 
 static const struct proc_ops pr_file_ops = {
@@ -619,7 +639,9 @@ static int pr_record_open(struct pr_sched *q, const struct pie_opening *opening,
 		pr_record_free(record);
 		return -ENOMEM;
 	}
-	record->words = vmalloc_user(record->bytes);
+	/* vmalloc_user, charged to the cgroup of the process: a mapping may outlive the queue */
+	record->words = __vmalloc(record->bytes, GFP_KERNEL_ACCOUNT | __GFP_ZERO |
+				  __GFP_RETRY_MAYFAIL | __GFP_NOWARN);
 	if (!record->words ||
 	    !pie_flight_open(&q->flight, record->words, flows_at, q->events, opening, &q->pie)) {
 		pr_record_free(record);
@@ -650,6 +672,7 @@ static int pr_init(struct Qdisc *sch, struct nlattr *opt, struct netlink_ext_ack
 
 	/* first of all: destroy follows a failure too */
 	q->sch = sch;
+	spin_lock_init(&q->lock);
 #if LINUX_VERSION_CODE >= KERNEL_VERSION(6, 13, 0)
 	hrtimer_setup(&q->timer, pr_timer, CLOCK_MONOTONIC, HRTIMER_MODE_ABS_SOFT);
 #else
@@ -707,6 +730,8 @@ static int pr_init(struct Qdisc *sch, struct nlattr *opt, struct netlink_ext_ack
 
 /*
  * Drops all packets. The history has their departures, by a caller of their own, and then a reset.
+ * A queue that is no longer in a tree is reset without the tree's lock before it is destroyed, and
+ * its timer may run meanwhile.
  */
 static void pr_reset(struct Qdisc *sch)
 {
@@ -714,6 +739,7 @@ static void pr_reset(struct Qdisc *sch)
 	struct sk_buff *skb;
 
 	if (q->is_open) {
+		spin_lock_bh(&q->lock);
 		q->departure.caller = PR_PURGE;
 		for (skb = sch->q.head; skb; skb = skb->next) {
 			pr_left(q, skb, q->record);
@@ -724,6 +750,7 @@ static void pr_reset(struct Qdisc *sch)
 		q->other.caller = PR_PURGE;
 		pie_reset_event(&q->pie, &q->other);
 		pr_keep_other(q);
+		spin_unlock_bh(&q->lock);
 	}
 	qdisc_reset_queue(sch);
 }

@@ -3,9 +3,14 @@
  *     requests fail DEVICE               adds, changes, prints and deletes a queue; each time one later allocation of the
  *                                        request fails, until none is left
  *     requests fuzz DEVICE COUNT SEED    sends COUNT requests with random attributes: types, lengths, values and flags
+ *     requests remove DEVICE COUNT       adds and deletes a queue COUNT times, whose timer runs every 100 us; the record of each
+ *                                        must have its events in the order of time, and as many resets as the others
  *     requests map FILE                  maps a record to write, which must be refused
  *
  * It prints how many requests were accepted and refused. The kernel must survive; a record must not be there afterwards. */
+#include "pie_flight.h"
+
+#include <dirent.h>
 #include <errno.h>
 #include <fcntl.h>
 #include <linux/pkt_sched.h>
@@ -193,6 +198,81 @@ static void fuzz(unsigned count) {
     printf("TOLD fuzz: %u requests accepted, %u refused\n", accepted, refused);
 }
 
+/* Maps the only record, which stays in memory when its queue is gone. */
+static PIE_WORD *map_only_record(size_t bytes) {
+    static const char folder[] = "/proc/net/pie_recorded";
+    DIR *records = opendir(folder);
+    struct dirent *it;
+    char path[512] = "";
+    void *at;
+    int file;
+    while (records != NULL && (it = readdir(records)) != NULL)
+        if (it->d_name[0] != '.')
+            snprintf(path, sizeof path, "%s/%.250s", folder, it->d_name);
+    if (records != NULL)
+        closedir(records);
+    file = open(path, O_RDONLY);
+    at = mmap(NULL, bytes, PROT_READ, MAP_SHARED, file, 0);
+    close(file);
+    return at != MAP_FAILED ? (PIE_WORD *)at : NULL;
+}
+
+/* Returns the number of resets in a record whose events are in the order of time and have their callers, 0 if they are not, and -1 if its first events
+ * were overwritten, because the guest paused for long. */
+static int resets_in_order(PIE_WORD *words, size_t bytes, unsigned long *updates) {
+    static const uint64_t callers[] = {[PIE_EVENT_ARRIVE] = 1, [PIE_EVENT_DEPART] = 2, [PIE_EVENT_UPDATE] = 3, [PIE_EVENT_RESET] = 4};
+    struct pie_flight_layout layout;
+    uint64_t kept = PIE_LOAD(words[PIE_FLIGHT_KEPT]), number, latest = 0;
+    int resets = 0;
+    if (!pie_flight_layout_in(&layout, words, bytes))
+        return 0;
+    if (kept > layout.events)
+        return -1;
+    for (number = 0; number < kept; number++) {
+        PIE_WORD *it = words + layout.events_at + number * PIE_FLIGHT_EVENT;
+        uint64_t kind = PIE_LOAD(it[0]) >> PIE_FLIGHT_KIND, moment = PIE_LOAD(it[0]) << 4 >> 4, caller = PIE_LOAD(it[1]) & 0xffff;
+        if (moment < latest || kind >= sizeof callers / sizeof *callers || (caller != callers[kind] && !(kind == PIE_EVENT_DEPART && caller == 4)))
+            return 0;
+        latest = moment;
+        resets += kind == PIE_EVENT_RESET;
+        *updates += kind == PIE_EVENT_UPDATE;
+    }
+    return resets;
+}
+
+/* Deletes queues whose timer may run at the same time. */
+static void remove_each(unsigned count) {
+    enum { EVENTS = 5000 };
+    const size_t bytes = (pie_flight_bytes(EVENTS, 1000) + 4095) / 4096 * 4096;
+    unsigned number, wrong = 0;
+    unsigned long updates = 0;
+    int wanted = 0, found; /* resets: one when the device stops, and one before the queue is destroyed */
+    for (number = 0; number < count; number++) {
+        uint32_t period = 100, events = EVENTS;
+        struct rtattr *nest;
+        struct request it;
+        PIE_WORD *words;
+        begin(&it, RTM_NEWQDISC, NLM_F_CREATE | NLM_F_EXCL);
+        add(&it, TCA_KIND, KIND, sizeof KIND, -1);
+        nest = add(&it, TCA_OPTIONS, NULL, 0, -1);
+        add(&it, TCA_PIE_TUPDATE, &period, 4, -1);
+        add(&it, 19, &events, 4, -1);
+        nest->rta_len = (unsigned short)((char *)&it + it.head.nlmsg_len - (char *)nest);
+        if (ask(&it) != 0 || (words = map_only_record(bytes)) == NULL) {
+            wrong++;
+            remove_queue();
+            continue;
+        }
+        remove_queue();
+        found = resets_in_order(words, bytes, &updates);
+        if (wanted <= 0)
+            wanted = found;
+        wrong += found == 0 || (found > 0 && found != wanted);
+        munmap((void *)words, bytes);
+    }
+    printf("%s remove: %u queues with %lu updates and %d resets each, %u records out of order\n", wrong != 0 ? "FAILED" : "TOLD", count, updates, wanted, wrong);
+}
+
 /* Returns 0 if a record can be mapped to be read, and neither written nor executed, at once or later. */
 static int map_record(const char *path) {
     int file = open(path, O_RDWR), is_refused;
@@ -220,6 +300,8 @@ int main(int words, char **word) {
     state = words > 4 ? strtoull(word[4], NULL, 10) : 1;
     if (strcmp(word[1], "fail") == 0)
         fail_each();
+    else if (strcmp(word[1], "remove") == 0)
+        remove_each(words > 3 ? (unsigned)strtoul(word[3], NULL, 10) : 100);
     else
         fuzz(words > 3 ? (unsigned)strtoul(word[3], NULL, 10) : 1000);
     fflush(stdout);

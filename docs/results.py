@@ -1,9 +1,11 @@
 #!/usr/bin/env python3
-"""Writes docs/RESULTS.md and docs/ellipses.svg from docs/RESULTS.in and the stored runs: bench/uml/results.csv, bench/uml/short.csv and
-bindings/ns3/results.csv. Every figure of the page is an expression in RESULTS.in, between {{ and }}, that calls functions of this script.
+"""Writes docs/RESULTS.md, docs/comparisons.csv and docs/ellipses.svg from docs/RESULTS.in and the stored runs: bench/uml/results.csv,
+bench/uml/short.csv and bindings/ns3/results.csv. Every figure of the page is an expression in RESULTS.in, between {{ and }}, which this script
+evaluates. `elsewhere` has the sentences of other pages that rest on runs.
 
 usage: docs/results.py [--check | --needs]
-  --check   writes nothing. Status 1 if a file differs from what the runs give, or RESULTS.in has a figure of its own
+  --check   writes nothing. Status 1 if a file differs from the result of the runs, if RESULTS.in has a figure of its own, or if a sentence of
+            another page differs
   --needs   prints the number of blocks that each open comparison needs"""
 import csv
 import functools
@@ -18,10 +20,13 @@ ROOT = Path(__file__).resolve().parents[1]
 sys.path[:0] = [str(ROOT / "bench"), str(ROOT / "bench/uml")]
 sys.dont_write_bytecode = True
 from equivalence import compare, compare_pairs, judge, power  # noqa: E402
+from rfc7928 import estimate  # noqa: E402
 from scenarios import FIVE, SCENARIOS, queues_of  # noqa: E402
 
-# decimal numbers of RESULTS.in that are settings of a scenario, or of RFC 8033
-SETTINGS = {"0.5", "0.85", "1.85", "1.5", "4.4", "5.1"}
+# numbers of RESULTS.in that are settings of a scenario, a test, or RFC 8033: decimal numbers, and numbers with a unit
+SETTINGS = {"0.5", "0.85", "1.85", "1.5", "3.37", "4.4", "6.1", *(f"{it} ms" for it in (5, 10, 15, 20, 30, 40, 100, 200)),
+            *(f"{it} s" for it in (1.5, 4, 8, 10, 14, 40, 60)), *(f"{it} Mbit/s" for it in (0.5, 2, 10, 12)), *(f"{it} bytes" for it in (64, 1500, 1514, 16384)),
+            *(f"{it} %" for it in (1, 5, 10, 80, 84, 90, 100))}
 UNITS = {"goodput": "Mbit/s"}
 DIGITS = {"goodput": 2, "jain": 2, "early": 0, "tail": 0, "marks": 0, "lost": 0, "probes": 0}
 NAMES = {"tail": "tail drop, here", "stamp": "PIE, here", "wide": "PIE, here, target 20 ms", "half": "PIE, here, `--decay half`",
@@ -71,7 +76,8 @@ class Runs:
         return {block: float(row[field]) for block, row in sorted(self.blocks(scenario, queue, part).items()) if row[field]}
 
 
-RUNS = Runs(read("bench/uml/results.csv"))
+ROWS = read("bench/uml/results.csv")
+RUNS = Runs(ROWS)
 SHORT = read("bench/uml/short.csv")
 NS3 = read("bindings/ns3/results.csv")
 
@@ -149,6 +155,14 @@ def interval(found, field, digits=None):
     return f"{shown(found[0], field, digits)} ({shown(found[1], field, digits)} to {shown(found[2], field, digits)})"
 
 
+def plus_minus(found, field, digits=None):
+    """Returns the difference, half the width of its 90 % interval, and the verdict, for a table. If there is only one block, returns an empty text."""
+    if not found:
+        return ""
+    digits = digits if digits is not None else DIGITS.get(field, 1)
+    return f"{shown(found[0], field, digits)} ± {shown((found[2] - found[1]) / 2, field, digits)} {found[3]}"
+
+
 def difference(scenario, one, other, field, part="after", other_scenario=None, digits=None):
     """Returns the difference, its interval and the verdict, in words."""
     found = test(scenario, one, other, field, part, other_scenario)
@@ -158,13 +172,6 @@ def difference(scenario, one, other, field, part="after", other_scenario=None, d
 def add(scenario, queue, *fields):
     """Returns the sum of the means of several counts."""
     return shown(sum(fmean(RUNS.values(scenario, queue, field).values()) for field in fields), "early")
-
-
-def payload(scenario, queue):
-    """Returns the payload that arrived, in per cent of the bytes that the queue counted as sent."""
-    begin, end = RUNS.part(scenario, "after")
-    bits, sent = (fmean(RUNS.values(scenario, queue, field).values()) for field in ("goodput", "sent"))
-    return f"{100 * bits * 1e6 * (end - begin) / (8 * sent):.1f}"
 
 
 def verdict_sentence(scenario):
@@ -178,7 +185,7 @@ def table(heads, lines):
 
 
 def name_of_part(part):
-    return f"{part[0]:g} to {part[1]:g}"
+    return f"{part[0]:g}–{part[1]:g}"
 
 
 def was_run(scenario):
@@ -189,7 +196,7 @@ def cell(scenario, queue):
     """Returns goodput, wait and blocks of a queue after the start."""
     rows = RUNS.blocks(scenario, queue)
     wait, goodput = value(scenario, queue, "probe"), fmean(RUNS.values(scenario, queue, "goodput").values()) if rows else 0
-    return f"{shown(goodput, 'goodput', 3 if goodput < 3 else 1 if goodput > 100 else 2)}, {wait or '-'} ({len(rows)})" if rows else ""
+    return f"{shown(goodput, 'goodput', 3 if goodput < 3 else 1 if goodput > 100 else 2)}/{wait or '-'} ({len(rows)})" if rows else ""
 
 
 def scenarios_table():
@@ -200,6 +207,12 @@ def scenarios_table():
             others = [f"{queue} {cell(name, queue)}" for queue in it["queues"] if queue not in FIVE_NAMES and cell(name, queue)]
             lines.append([f"`{name}`", it["words"], it["section"], share(name), *(cell(name, queue) for queue in FIVE_NAMES), "; ".join(others)])
     return table(["name", "traffic", "RFC 7928", "probes, %", "PIE, here", *(NAMES[queue] for queue in FIVE_NAMES[1:]), "other queues"], lines)
+
+
+def suite():
+    """Returns the number of runs of RFC 7928's suite, and the processor time that they take, in words."""
+    runs, stored, hours = estimate(ROWS)
+    return f"{runs} runs, {stored} of them stored, which take {hours:.1f} processor hours in all"
 
 
 def not_run():
@@ -231,8 +244,8 @@ def same_table(one="stamp", other="pie"):
             found = test(name, one, other, field, part)
             ours = difference_of(name, one, other, field, part)[0]
             digits = 3 if field == "goodput" and ours and fmean(ours) < 3 else None
-            cells.append(f"{interval(found, field, digits)} {found[3]}" if found else "")
-        lines.append(cells)
+            cells.append(plus_minus(found, field, digits))
+        lines += [cells] * any(cells[2:])
     return table(["scenario", "seconds", "goodput", "wait"], lines)
 
 
@@ -243,6 +256,14 @@ def verdicts(field, one="stamp", other="pie"):
     return f"{found.count('same')} same, {found.count('different')} different, {found.count('open')} open"
 
 
+def differing(one="stamp", other="pie"):
+    """Returns the number of `different` comparisons, and their scenarios, in words."""
+    found = [(name, test(name, one, other, field, part)) for name, part, _ in pairs_of(one, other) for field in ("goodput", "probe")]
+    found = [(name, it[3]) for name, it in found if it]
+    names = dict.fromkeys(f"`{name}`" for name, verdict in found if verdict == "different")
+    return f"Of all {len(found)} comparisons, {sum(it[1] == 'different' for it in found)} are `different`: {', '.join(names)}."
+
+
 def later_differences(one="stamp", other="pie"):
     """Returns the mean differences of waits in the parts after a start."""
     found = [test(name, one, other, "probe", part) for name, part, bounds in pairs_of(one, other) if bounds[0] > 0]
@@ -250,8 +271,8 @@ def later_differences(one="stamp", other="pie"):
 
 
 def longer():
-    """Returns the number of parts after a start in which the mean wait of a probe is greater here, the number of all, and the chance of such a number
-    if none differs."""
+    """Returns the number of parts after a start in which the mean wait of a probe is longer here, and the probability of at least this number if
+    none differs, in words."""
     found = later_differences()
     most, count = sum(it > 0 for it in found), len(found)
     chance = sum(math.comb(count, it) for it in range(most, count + 1)) / 2 ** count
@@ -288,21 +309,28 @@ def print_needs():
                 print(f"{name}, {part} s, {one} and {other}, {field}: {has} of {blocks_needed(name, one, other, field, part)}")
 
 
+# scenarios through both bottlenecks with the same algorithm
+SAME_ALGORITHM = ["full", "waves", "four"]
+
+
 def same_calibration_table():
     """Compares the same algorithm through both bottlenecks."""
     lines = []
-    for name, one, other in (("full", "tail", "pfifo"), ("four", "tail", "pfifo")):
-        for field, unit in (("probe", "ms"), ("goodput", "Mbit/s")):
-            ours, theirs = difference_of(name, one, other, field)
-            found = test(name, one, other, field)
-            lines.append([SCENARIOS[name]["words"], f"{'wait' if field == 'probe' else 'goodput'}, {unit}", shown(fmean(ours), field, 3),
-                          shown(fmean(theirs), field, 3), interval(found, field, 3), found[3]])
-    return table(["traffic", "measure", "tail drop, here", "`pfifo`", "difference", "verdict"], lines)
+    for name in filter(was_run, SAME_ALGORITHM):
+        for part in split_parts(name):
+            for field, unit in (("probe", "ms"), ("goodput", "Mbit/s")):
+                bounds = f"{part[0]:g}-{part[1]:g}"
+                ours, theirs = difference_of(name, "tail", "pfifo", field, bounds)
+                found = test(name, "tail", "pfifo", field, bounds)
+                lines.append([f"`{name}`", name_of_part(part), f"{'wait' if field == 'probe' else 'goodput'}, {unit}", str(len(ours)),
+                              shown(fmean(ours), field, 3), shown(fmean(theirs), field, 3), plus_minus(found, field, 3)])
+    return table(["scenario", "seconds", "measure", "blocks", "tail drop, here", "`pfifo`", "difference"], lines)
 
 
 @functools.cache
 def halves():
-    """Compares each queue with itself: the blocks with odd numbers and those with even ones."""
+    """Returns the comparisons of each queue with itself: scenario, queue, part, measure, the numbers of blocks, and the result. The blocks with odd
+    numbers are compared with those with even numbers."""
     found = []
     for name, queue in RUNS.rows:
         for part in split_parts(name):
@@ -310,24 +338,59 @@ def halves():
                 values = RUNS.values(name, queue, field, f"{part[0]:g}-{part[1]:g}")
                 odd, even = ([it for block, it in values.items() if block % 2 == left] for left in (1, 0))
                 if min(len(odd), len(even)) >= 2:
-                    found.append((name, queue, part, field, compare(odd, even, margin_of(field, even))))
+                    found.append((name, queue, part, field, (len(odd), len(even)), compare(odd, even, margin_of(field, even))))
     return found
 
 
+def is_start(scenario, part):
+    return part == RUNS.part(scenario, "start") and len(RUNS.parts(scenario)) > 1
+
+
 def halves_count():
-    """Returns the verdicts of each queue beside itself, and the number of 90 % intervals that contain 0."""
-    found = [it[-1] for it in halves()]
-    verdicts_of = [it[3] for it in found]
-    inside = sum(it[1] <= 0 <= it[2] for it in found)
-    return (f"{len(found)} comparisons. The 90 % interval contains 0 in {inside} of them, {100 * inside / len(found):.0f} %. Verdicts: "
-            f"{verdicts_of.count('same')} same, {verdicts_of.count('open')} open, {verdicts_of.count('different')} different")
+    """Returns the number of 90 % intervals that contain 0, and the verdicts of each queue beside itself at the start and later, in words."""
+    inside = sum(it[-1][1] <= 0 <= it[-1][2] for it in halves())
+    parts = []
+    for words, start in (("At the start", True), ("Later", False)):
+        them = [it[-1][3] for it in halves() if is_start(it[0], it[2]) == start]
+        parts.append(f"{words}, {them.count('same')} are `same`, {them.count('open')} `open` and {them.count('different')} `different`.")
+    return f"{len(halves())} comparisons. The 90 % interval contains 0 in {100 * inside / len(halves()):.0f} % of them. {' '.join(parts)}"
 
 
 def halves_different():
     """Returns the comparisons of a queue with itself whose verdict is `different`, in words."""
-    found = [f"`{name}` ({NAMES[queue]}, {'wait' if field == 'probe' else 'goodput'} at {name_of_part(part)} s)"
-             for name, queue, part, field, it in halves() if it[3] == "different"]
+    found = [f"`{name}` (`{queue}`, {'wait' if field == 'probe' else 'goodput'} at {name_of_part(part)} s: {interval(it, field, 3 if field == 'goodput' else 1)})"
+             for name, queue, part, field, _, it in halves() if it[3] == "different"]
     return ", ".join(found) or "none"
+
+
+def halves_table():
+    """Each queue beside itself, in the last part of each scenario. `same` is left out."""
+    found = {}
+    for name, queue, part, field, blocks, it in halves():
+        if part == split_parts(name)[-1]:
+            ours = RUNS.values(name, queue, "goodput", f"{part[0]:g}-{part[1]:g}").values()
+            digits = 3 if field == "goodput" and fmean(ours) < 3 else None
+            found.setdefault((name, queue), [f"`{name}`", f"`{queue}`", f"{blocks[0]}+{blocks[1]}"]).append(
+                plus_minus(it, field, digits).removesuffix(" same"))
+    return table(["scenario", "queue", "blocks", "goodput", "wait"], [found[it] for it in sorted(found, key=lambda it: list(SCENARIOS).index(it[0]))])
+
+
+@functools.cache
+def comparisons():
+    """Returns the rows of docs/comparisons.csv: PIE here beside Linux's, tail drop beside pfifo, and each queue beside itself."""
+    lines = [["scenario", "from", "to", "measure", "queue", "beside", "blocks", "difference", "least", "most", "margin", "verdict"]]
+    for one, other in (("stamp", "pie"), ("tail", "pfifo")):
+        for name, part, bounds in pairs_of(one, other):
+            for field in ("goodput", "probe"):
+                found, theirs = test(name, one, other, field, part), difference_of(name, one, other, field, part)[1]
+                if found:
+                    lines.append([name, *bounds, field, one, other, len(theirs), *found[:3], margin_of(field, theirs), found[3]])
+    for name, queue, part, field, (odd, even), found in halves():
+        theirs = [it for block, it in RUNS.values(name, queue, field, f"{part[0]:g}-{part[1]:g}").items() if block % 2 == 0]
+        lines.append([name, *part, field, f"{queue} (odd blocks)", f"{queue} (even blocks)", odd + even, *found[:3], margin_of(field, theirs), found[3]])
+    measures = {"goodput": "goodput in Mbit/s", "probe": "wait in ms"}
+    return "".join(",".join(measures.get(it, it) if isinstance(it, str) else f"{it:g}" if isinstance(it, int) or it == int(it) and abs(it) < 1e6
+                            else shown(it, "", 4) for it in line) + "\n" for line in lines)
 
 
 def control_table():
@@ -336,11 +399,11 @@ def control_table():
     for name, one, other, field in (("four", "wide", "stamp", "probe"), ("far", "wide", "stamp", "probe"), ("slow", "slowwide", "stamp", "probe"),
                                     ("four", "tail", "stamp", "probe"), ("udp", "fq_codel", "stamp", "probe")):
         found = test(name, one, other, field)
-        lines.append([SCENARIOS[name]["words"], f"{NAMES[one]}, beside PIE, here: wait", interval(found, field), found[3]])
+        lines.append([f"`{name}`", f"{NAMES[one]}: wait", plus_minus(found, field)])
     ours, theirs = (list(RUNS.values(name, "stamp", "goodput").values()) for name in ("tight", "four"))
     found = compare(ours, theirs, margin_of("goodput", theirs))
-    lines.append(["4 CUBIC", "PIE, here, limit 10 ms, beside PIE, here, limit 200 ms: goodput", interval(found, "goodput"), found[3]])
-    return table(["traffic", "queues", "difference", "verdict"], lines)
+    lines.append(["`tight`", "PIE, here, limit 10 ms: goodput", plus_minus(found, "goodput")])
+    return table(["scenario", "queue", "difference from PIE, here"], lines)
 
 
 def base_text():
@@ -391,13 +454,12 @@ def short_table():
     for queue in SCENARIOS["short"]["queues"]:
         if not RUNS.blocks("short", queue):
             continue
-        cells = [NAMES[queue]]
+        cells = [NAMES[queue], "/".join(str(len(took("short", queue, size))) for size in sizes)]
         for size in sizes:
             times = took("short", queue, size)
             cells.append(f"{median(times):.0f}, {times[max(0, math.ceil(len(times) * 0.95) - 1)]:.0f}" if times else "")
         lines.append([*cells, group("short", queue, 0)])
-    counts = [len(took("short", "stamp", size)) for size in sizes]
-    return table(["queue", *(f"{size} bytes, {count} flows" for size, count in zip(sizes, counts)), "long flow's goodput"], lines)
+    return table(["queue", "flows", *(f"{size} bytes" for size in sizes), "long flow's goodput"], lines)
 
 
 def step_table():
@@ -413,14 +475,14 @@ def step_table():
 def shares_table():
     """Returns the results of each group in scenarios whose flows differ."""
     lines = []
-    for name, groups in (("udp", "4 CUBIC / UDP"), ("trips", "2 at 10 / 50 / 200 ms"), ("bbrcubic", "2 CUBIC / 2 BBR")):
+    for name in ("udp", "trips", "bbrcubic"):
         for queue in SCENARIOS[name]["queues"]:
             rows = RUNS.blocks(name, queue)
             if rows:
                 count = len(next(iter(rows.values()))["groups"].split("/"))
-                lines.append([groups, NAMES[queue], " / ".join(group(name, queue, it) for it in range(count)), value(name, queue, "jain"),
+                lines.append([f"`{name}`", NAMES[queue], "/".join(group(name, queue, it) for it in range(count)), value(name, queue, "jain"),
                               value(name, queue, "probe"), value(name, queue, "probe99", digits=0)])
-    return table(["flows", "queue", "goodput of each group", "Jain's index of TCP", "wait", "wait, 99th percentile"], lines)
+    return table(["scenario", "queue", "goodput of each group", "Jain's index of TCP", "wait", "wait, 99th percentile"], lines)
 
 
 def mixed_table():
@@ -440,13 +502,29 @@ def ecn_table():
         for queue in SCENARIOS[name]["queues"]:
             if RUNS.blocks(name, queue):
                 cells = [value(name, queue, field) for field in ("wait", "marks", "early", "tail")]
-                lines.append([SCENARIOS[name]["words"], NAMES[queue], group(name, queue, 0), *cells, lost(name, queue), percent(name, queue, "prob")])
-    heads = ["traffic", "queue", "goodput of TCP", "packets' wait", "marks", "early drops", "tail drops", "probes lost, %", "probability, %"]
+                lines.append([f"`{name}`", NAMES[queue], group(name, queue, 0), *cells, lost(name, queue), percent(name, queue, "prob")])
+    heads = ["scenario", "queue", "goodput of TCP", "packets' wait", "marks", "early drops", "tail drops", "probes lost, %", "probability, %"]
     return table(heads, lines)
+
+
+NS3_MARGIN = 0.01       # of the link's rate
 
 
 def ns3_rows(queue, mbit, flows, ecn):
     return {row["seed"]: row for row in NS3 if (row["queue"], row["mbit"], row["flows"], row["ecn"]) == (queue, mbit, flows, ecn)}
+
+
+def ns3_compare(mbit, flows, ecn, queue, field):
+    """Compares this repository's queue with another one. Returns the values of both and the result, or nothing if there are too few runs."""
+    one, other = ([float(row[field]) for row in ns3_rows(it, mbit, flows, ecn).values()] for it in ("recorded-stamp", queue))
+    if min(len(one), len(other)) < 2:
+        return None
+    return one, other, compare(one, other, NS3_MARGIN * fmean(other) if field == "link_mbit" else margin("probe"))
+
+
+def ns3_difference(mbit, flows, ecn, queue):
+    found = ns3_compare(mbit, flows, ecn, queue, "link_mbit")[2]
+    return f"{interval(found, 'goodput')} Mbit/s, `{found[3]}`"
 
 
 def ns3_table():
@@ -455,14 +533,13 @@ def ns3_table():
     lines = []
     for mbit, flows, ecn in sorted({(row["mbit"], row["flows"], row["ecn"]) for row in NS3}, key=lambda it: (int(it[0]), int(it[1]), it[2])):
         for queue, name in others.items():
-            ours, theirs = ns3_rows("recorded-stamp", mbit, flows, ecn), ns3_rows(queue, mbit, flows, ecn)
-            if min(len(ours), len(theirs)) < 2:
+            if not ns3_compare(mbit, flows, ecn, queue, "link_mbit"):
                 continue
-            cells = [f"{mbit} Mbit/s, {flows} flows{', ECN' * (ecn == '1')}", name, f"{len(ours)}, {len(theirs)}"]
-            for field, least in (("link_mbit", 0.01), ("wait_mean_ms", None)):
-                one, other = ([float(row[field]) for row in rows.values()] for rows in (ours, theirs))
-                found = compare(one, other, least * fmean(other) if least else margin("probe"))
-                cells += [f"{fmean(one):.1f}, {fmean(other):.1f}", f"{interval(found, field, 2 if least else 1)} {found[3]}"]
+            cells = [f"{mbit} Mbit/s, {flows} flows{', ECN' * (ecn == '1')}", name]
+            for field in ("link_mbit", "wait_mean_ms"):
+                one, other, found = ns3_compare(mbit, flows, ecn, queue, field)
+                cells += [f"{len(one)}, {len(other)}"] * (len(cells) == 2)
+                cells += [f"{fmean(one):.1f}, {fmean(other):.1f}", plus_minus(found, field, 2 if field == "link_mbit" else 1)]
             lines.append(cells)
     heads = ["traffic", "other queue", "seeds, here and other", "link's rate, here and other", "difference", "wait, here and other", "difference"]
     return table(heads, lines)
@@ -481,9 +558,11 @@ def burst_sentence():
 
 # ---- the picture ----
 
-COLOURS = {"stamp": "#1f5fa8", "pie": "#b0303a", "fq_codel": "#3a8a3a", "cake": "#c08020", "tail": "#888888", "pfifo": "#333333", "half": "#7a4fa0",
-           "rate": "#20a0a0", "wide": "#70b0e0", "pie-rate": "#e08080", "marks": "#a0a020", "slowwide": "#70b0e0", "mtu": "#8080ff"}
-WIDE, HIGH, ACROSS = 230, 150, 4
+COLOURS = {"stamp": "#1f5fa8", "pie": "#b0303a", "fq_codel": "#2f8a2f", "cake": "#c08020", "tail": "#888888", "pfifo": "#222222", "half": "#7a4fa0",
+           "rate": "#10a0a0", "wide": "#60b0f0", "pie-rate": "#f07878", "marks": "#a0a020", "slowwide": "#60b0f0", "mtu": "#8080ff"}
+WIDE, HIGH, ACROSS, HEAD = 310, 200, 3, 44
+LEFT, TOP, INNER_WIDE, INNER_HIGH = 46, 24, 252, 138      # the frame of a panel
+SHORTEST = 0.1      # ms: the axis is logarithmic, and shorter waits are drawn as this one
 
 
 def ellipse_of(points):
@@ -498,41 +577,74 @@ def ellipse_of(points):
     return x, y, math.sqrt(max(middle + reach, 0)), math.sqrt(max(middle - reach, 0)), math.degrees(math.atan2(2 * b, a - c) / 2)
 
 
+def ticks_of(least, most, count):
+    """Returns round numbers within these bounds: about `count`, at least two."""
+    raw = (most - least) / count
+    step = 10 ** math.floor(math.log10(raw))
+    step *= next(it for it in (1, 2, 5, 10) if it * step >= raw)
+    found = [it * step for it in range(math.ceil(least / step), math.floor(most / step) + 1)]
+    return found if len(found) > 1 else ticks_of(least, most, count + 2)
+
+
+def log_ticks(least, most):
+    """Returns numbers that begin with 1, 2 or 5 within these bounds; all round ones if these are too few."""
+    found = [digit * 10 ** power_of for power_of in range(-2, 5) for digit in (1, 2, 5) if least <= digit * 10 ** power_of <= most]
+    if len(found) > 6:
+        found = [it for it in found if f"{it:e}"[0] == "1"]
+    return found if len(found) > 1 else ticks_of(least, most, 4)
+
+
 def panel(name, left, top):
-    """Returns the panel of one scenario: waits to the left, from long to short, and goodput upwards, so that the better is up and to the right."""
-    queues = [queue for queue in SCENARIOS[name]["queues"] if RUNS.blocks(name, queue)]
+    """Returns the panel of a scenario: waits from long to short, on a logarithmic axis, and goodput upwards, so that better is up and to the right."""
     points = {}
-    for queue in queues:
+    for queue in SCENARIOS[name]["queues"]:
         waits, goodputs = RUNS.values(name, queue, "probe"), RUNS.values(name, queue, "goodput")
-        points[queue] = [(waits[it], goodputs[it]) for it in waits.keys() & goodputs.keys()]
-    every = [point for them in points.values() for point in them]
-    xs, ys = [x for x, _ in every], [y for _, y in every]
-    wide, high = max(max(xs) - min(xs), 1.0) * 1.2, max(max(ys) - min(ys), 0.02 * max(ys)) * 1.3
+        if both := [(max(waits[it], SHORTEST), goodputs[it]) for it in waits.keys() & goodputs.keys()]:
+            points[queue] = both
+    xs, ys = [], []
+    for them in points.values():
+        for found, values in ((xs, [math.log(x) for x, _ in them]), (ys, [y for _, y in them])):
+            reach = stdev(values) if len(values) > 1 else 0
+            found += [*values, fmean(values) - reach, fmean(values) + reach]
+    wide, high = max((max(xs) - min(xs)) * 1.15, math.log(1.3)), max((max(ys) - min(ys)) * 1.25, 0.01 * max(ys))
     middle_x, middle_y = (max(xs) + min(xs)) / 2, (max(ys) + min(ys)) / 2
-    inner_x, inner_y = WIDE - 44, HIGH - 44
-    out = [f'<g transform="translate({left},{top})"><text x="34" y="12" font-weight="bold">{name}</text>',
-           f'<rect x="34" y="18" width="{inner_x}" height="{inner_y}" fill="none" stroke="#999"/>']
+
+    def place(x, y):
+        return LEFT + INNER_WIDE * (0.5 - (math.log(x) - middle_x) / wide), TOP + INNER_HIGH * (0.5 - (y - middle_y) / high)
+
+    bottom = TOP + INNER_HIGH
+    out = [f'<g transform="translate({left},{top})"><text x="{LEFT}" y="17"><tspan font-weight="bold">{name}</tspan>: {SCENARIOS[name]["words"]}</text>']
+    for it in log_ticks(math.exp(middle_x - wide / 2), math.exp(middle_x + wide / 2)):
+        x = place(it, middle_y)[0]
+        out += [f'<path d="M{x:.1f} {TOP}V{bottom}" stroke="#ddd"/>', f'<text x="{x:.1f}" y="{bottom + 12}" text-anchor="middle">{it:g}</text>']
+    ticks = ticks_of(middle_y - high / 2, middle_y + high / 2, 4)
+    decimals = max(0, -math.floor(math.log10(ticks[1] - ticks[0]) + 1e-9))
+    for it in ticks:
+        y = place(math.exp(middle_x), it)[1]
+        out += [f'<path d="M{LEFT} {y:.1f}H{LEFT + INNER_WIDE}" stroke="#ddd"/>',
+                f'<text x="{LEFT - 4}" y="{y + 3:.1f}" text-anchor="end">{it:.{decimals}f}</text>']
+    out.append(f'<rect x="{LEFT}" y="{TOP}" width="{INNER_WIDE}" height="{INNER_HIGH}" fill="none" stroke="#888"/>')
     for queue, them in points.items():
-        scaled = [(34 + inner_x * (0.5 - (x - middle_x) / wide), 18 + inner_y * (0.5 - (y - middle_y) / high)) for x, y in them]
+        scaled = [place(*point) for point in them]
         x, y, one, other, angle = ellipse_of(scaled)
-        out.append(f'<ellipse cx="{x:.1f}" cy="{y:.1f}" rx="{max(one, 2):.1f}" ry="{max(other, 2):.1f}" '
-                   f'transform="rotate({angle:.0f} {x:.1f} {y:.1f})" fill="{COLOURS[queue]}" fill-opacity="0.35" stroke="{COLOURS[queue]}"/>')
-    out += [f'<text x="34" y="{HIGH - 14}">{middle_x + wide / 2:.1f}</text>', f'<text x="{34 + inner_x}" y="{HIGH - 14}" text-anchor="end">'
-            f'{middle_x - wide / 2:.1f} ms</text>', f'<text x="31" y="26" text-anchor="end">{middle_y + high / 2:.2f}</text>',
-            f'<text x="31" y="{18 + inner_y}" text-anchor="end">{middle_y - high / 2:.2f}</text></g>']
-    return "\n".join(out)
+        out.append(f'<ellipse cx="{x:.1f}" cy="{y:.1f}" rx="{max(one, 2.5):.1f}" ry="{max(other, 2.5):.1f}" transform="rotate({angle:.0f} {x:.1f} {y:.1f})" '
+                   f'fill="{COLOURS[queue]}" fill-opacity="0.45" stroke="{COLOURS[queue]}"/>')
+    return "\n".join([*out, "</g>"])
 
 
 @functools.cache
 def picture():
     names = [name for name in SCENARIOS if was_run(name) and sum(bool(RUNS.blocks(name, queue)) for queue in SCENARIOS[name]["queues"]) > 1]
     down = -(-len(names) // ACROSS)
-    used = [queue for queue in COLOURS if any(RUNS.blocks(name, queue) for name in names if was_run(name))]
-    legend = "".join(f'<text x="{20 + 110 * (place % 8)}" y="{14 + 14 * (place // 8)}" fill="{COLOURS[queue]}">&#9679; {queue}</text>'
-                     for place, queue in enumerate(used))
-    panels = "\n".join(panel(name, WIDE * (place % ACROSS), 36 + HIGH * (place // ACROSS)) for place, name in enumerate(names))
-    return (f'<svg xmlns="http://www.w3.org/2000/svg" viewBox="0 0 {WIDE * ACROSS} {36 + HIGH * down}" font-family="sans-serif" font-size="9">\n'
-            f'<rect width="100%" height="100%" fill="white"/>\n{legend}\n{panels}\n</svg>\n')
+    used = [queue for queue in COLOURS if any(RUNS.blocks(name, queue) for name in names)]
+    legend, left = "", 16
+    for queue in used:
+        legend += f'<circle cx="{left}" cy="14" r="4" fill="{COLOURS[queue]}"/><text x="{left + 7}" y="17">{queue}</text>'
+        left += 26 + 6 * len(queue)
+    panels = "\n".join(panel(name, WIDE * (place % ACROSS), HEAD + HIGH * (place // ACROSS)) for place, name in enumerate(names))
+    return (f'<svg xmlns="http://www.w3.org/2000/svg" viewBox="0 0 {WIDE * ACROSS + 10} {HEAD + HIGH * down}" font-family="sans-serif" font-size="10">\n'
+            f'<rect width="100%" height="100%" fill="white"/>\n{legend}\n<text x="{LEFT}" y="36">upwards: goodput in Mbit/s; to the right: shorter waits '
+            f'of a probe, in ms (logarithmic)</text>\n{panels}\n</svg>\n')
 
 
 def wrapped(block):
@@ -553,17 +665,33 @@ def page():
 
 
 def own_figures():
-    """Returns decimal numbers that RESULTS.in has itself: each has to be a version, a section or a setting."""
-    text = re.sub(r"\{\{.*?\}\}|^    .*$|\[[^\]]*\]\([^)]*\)|`[^`\n]*`", "", (ROOT / "docs/RESULTS.in").read_text(), flags=re.M | re.S)
-    found = re.findall(r"(?<![\w.])(?:section |Section |Linux |ns-3 |DPDK |version )?\d+\.\d+", text)
-    return [it for it in found if it[0].isdigit() and it not in SETTINGS]
+    """Returns the numbers that RESULTS.in has itself, decimal or with a unit, except versions, sections and settings."""
+    text = re.sub(r"\{\{.*?\}\}|^    [^\n]*$|\[[^\]]*\]\([^)]*\)|`[^`\n]*`", "", (ROOT / "docs/RESULTS.in").read_text(), flags=re.M | re.S)
+    found = re.findall(r"(?<![\w.])(?:[Ss]ection |Linux |ns-3 |DPDK |version )?\d+\.\d+", text)
+    found += re.findall(r"(?<![\w.])[\d.,]+\s(?:ms|s|Mbit/s|bytes|%|µs|blocks|runs|packets)(?!\w)", text)
+    return [it for it in (" ".join(it.split()) for it in found) if it[0].isdigit() and it not in SETTINGS]
+
+
+def elsewhere():
+    """Returns sentences of other pages that rest on stored runs, as (page, sentence)."""
+    waits = [value("four", queue, "wait", digits=0) for queue in ("tail", "stamp")]
+    likeness = {"same": "The goodput is equal"}.get(test("four", "stamp", "tail", "goodput")[3], "The goodput differs")
+    return [("README.md", f"Four CUBIC flows share a link of 10 Mbit/s. On average a packet waits {waits[0]} ms with tail drop and {waits[1]} ms with PIE. "
+                          f"{likeness} ([docs/RESULTS.md]"),
+            ("docs/PARAMETERS.md", f"Many flows exceed it: sixteen flows settle at a probability of {percent('ecnmany', 'stamp', 'prob', digits=0)} "
+                                   "per cent ([RESULTS.md]")]
+
+
+MADE = {"docs/RESULTS.md": page, "docs/comparisons.csv": comparisons, "docs/ellipses.svg": picture}
 
 
 def differences(stored):
-    """Returns the differences between the pages and the results of the runs; `stored` has texts in place of files."""
-    made = {"docs/RESULTS.md": page(), "docs/ellipses.svg": picture()}
-    wrong = [f"{name} is not what the stored runs give: docs/results.py makes it" for name, text in made.items()
-             if (stored[name] if name in stored else (ROOT / name).read_text()) != text]
+    """Returns the differences between the pages and the result of the runs. `stored` has texts instead of files."""
+    wrong = [f"{name} is not the result of the stored runs; docs/results.py writes it" for name, text in MADE.items()
+             if (stored[name] if name in stored else (ROOT / name).read_text()) != text()]
+    for name, sentence in elsewhere():
+        if sentence not in " ".join((stored[name] if name in stored else (ROOT / name).read_text()).split()):
+            wrong.append(f"{name} has no such sentence, which the stored runs give: {sentence}..")
     return wrong + [f"docs/RESULTS.in has a figure of its own: {it}" for it in own_figures()]
 
 
@@ -572,8 +700,8 @@ def main():
         print_needs()
         return 0
     if "--check" not in sys.argv:
-        (ROOT / "docs/RESULTS.md").write_text(page())
-        (ROOT / "docs/ellipses.svg").write_text(picture())
+        for name, text in MADE.items():
+            (ROOT / name).write_text(text())
         return 0
     wrong = differences({})
     for it in wrong:

@@ -1,6 +1,11 @@
 """The scenarios of docs/RESULTS.md: for each its name, the section of RFC 7928 that asks for it, its traffic in words, its queues, the number of
 blocks, and its options. beside.py runs them, rfc7928.py runs those with the five queues, and docs/results.py makes tables of them.
 
+The sections of RFC 7928 are 4.5 (Interaction with ECN), 5 (Transport Protocols; 5.1 TCP-Friendly Sender, 5.2 Aggressive Transport Sender,
+5.3 Unresponsive Transport Sender), 6 (Round-Trip Time Fairness), 7 (Burst Absorption), 8 (Stability; 8.2.5 Varying the Congestion Level,
+8.2.6 Varying Available Capacity) and 9 (Various Traffic Profiles; 9.1 Traffic Mix, 9.2 Bidirectional Traffic). A scenario without a section is not
+from the RFC.
+
 A block is one draw of start times, round trips and short flows, and of the order of the queues; every queue of a scenario gets the same blocks, as
 many as it has: `cake:2` is a queue with 2 blocks, others have the number of the scenario.
 
@@ -21,18 +26,18 @@ import shlex
 # the queues of RFC 7928's suite: this link's PIE, and the kernel's pie, fq_codel, cake and pfifo
 FIVE = "stamp,pie,fq_codel:3,cake:2,pfifo:2"
 
-# name, section of RFC 7928, words, queues, blocks, options; the ones that tell most come first
+# name, section of RFC 7928, words, queues, blocks, options; the most important ones come first
 TABLE = [
-    ("four", "5.1", "4 CUBIC", "tail,stamp,wide:6,pfifo,pie,fq_codel:6,cake:2", 20, ""),
-    ("full", "", "UDP of 12 Mbit/s alone", "tail,pfifo", 3, "--seconds 8 --from 2 --flows 1:udp=12mbit:20ms"),
-    ("waves", "", "UDP of 7 Mbit/s, and bursts of 200 packets", "tail,pfifo", 3,
+    ("four", "5.1", "4 CUBIC", "tail:36,stamp,wide:6,pfifo:36,pie,fq_codel:6,cake:2", 20, ""),
+    ("full", "", "UDP of 12 Mbit/s alone", "tail,pfifo", 8, "--seconds 8 --from 2 --probe 20ms --flows 1:udp=12mbit:20ms"),
+    ("waves", "", "UDP of 7 Mbit/s, and bursts of 200 packets", "tail,pfifo", 8,
      "--seconds 8 --from 2 --probe 20ms --flows 1:udp=7mbit:20ms 1:burst=200x1s:20ms"),
     ("two", "", "2 Mbit/s, 4 CUBIC", FIVE, 8, "--rate 2mbit --seconds 25 --from 5"),
-    ("slow", "", "0.5 Mbit/s, 4 CUBIC, limit 1 s", f"{FIVE},slowwide:6,mtu", 12, "--rate 500kbit --limit 1s --seconds 40 --from 10"),
-    ("far", "6.2", "4 CUBIC, 100 ms", f"{FIVE},half,wide:4", 10, "--flows 4:cubic:100ms"),
+    ("slow", "", "0.5 Mbit/s, 4 CUBIC, limit 1 s", f"{FIVE},slowwide:12,mtu", 12, "--rate 500kbit --limit 1s --seconds 40 --from 10"),
+    ("far", "6", "4 CUBIC, 100 ms", f"{FIVE},half,wide:4", 10, "--flows 4:cubic:100ms"),
     ("udp", "5.3", "4 CUBIC, UDP of 12 Mbit/s", FIVE, 6, "--flows 4:cubic:20ms 1:udp=12mbit:20ms"),
     ("choices", "", "4 CUBIC", "half,rate,pie-rate,cake", 4, ""),
-    ("hundred", "8.2.4", "100 CUBIC", FIVE, 8, "--flows 100:cubic:20ms"),
+    ("hundred", "8", "100 CUBIC", FIVE, 8, "--flows 100:cubic:20ms"),
     ("step", "8.2.6", "10, 2 and 10 Mbit/s, 4 CUBIC", f"{FIVE},rate,pie-rate", 4, "--rate 10mbit,8s:2mbit,18s:10mbit --seconds 32 --from 0"),
     ("probe20", "", "4 CUBIC, a probe each 20 ms", "stamp,fq_codel", 4, "--probe 20ms"),
     ("probe200", "", "4 CUBIC, a probe each 200 ms", "stamp,fq_codel", 4, "--probe 200ms"),
@@ -40,26 +45,26 @@ TABLE = [
     ("hundred200", "", "100 CUBIC, a probe each 200 ms", "stamp,fq_codel", 4, "--probe 200ms --flows 100:cubic:20ms"),
     ("mixed", "9.1", "2 CUBIC, 2 voice, DNS, web", FIVE, 4,
      "--seconds 16 --flows 2:cubic:20ms 2:voice:20ms 1:dns=5:20ms --short 14600x3,146000x0.5"),
-    ("trips", "6.2", "2 CUBIC each at 10, 50, 200 ms", FIVE, 8, "--seconds 16 --flows 2:cubic:10ms 2:cubic:50ms 2:cubic:200ms"),
+    ("trips", "6", "2 CUBIC each at 10, 50, 200 ms", FIVE, 8, "--seconds 16 --flows 2:cubic:10ms 2:cubic:50ms 2:cubic:200ms"),
     ("ecn", "4.5", "4 CUBIC, ECN", FIVE, 4, "--ecn"),
     ("ecnudp", "5.3", "4 CUBIC, ECN, ECN-capable UDP of 12 Mbit/s", f"{FIVE},marks", 3, "--ecn --flows 4:cubic:20ms 1:ect=12mbit:20ms"),
     ("ecnmany", "4.5", "16 CUBIC, ECN", "stamp,marks", 3, "--ecn --flows 16:cubic:20ms"),
-    ("short", "7.2", "1 CUBIC, short flows", f"{FIVE},tail", 3,
+    ("short", "7", "1 CUBIC, short flows", f"{FIVE},tail", 3,
      "--seconds 20 --flows 1:cubic:20ms --short 1460x2,14600x2,146000x0.5,730000x0.1"),
-    ("one", "8.2.2", "1 CUBIC", FIVE, 6, "--flows 1:cubic:20ms"),
+    ("one", "8", "1 CUBIC", FIVE, 6, "--flows 1:cubic:20ms"),
     ("tight", "", "4 CUBIC, limit 10 ms", "stamp,pie", 10, "--limit 10ms"),
     ("back", "9.2", "4 CUBIC each way", FIVE, 4, "--reverse 10mbit --flows 4:cubic:20ms back:4:cubic:20ms"),
     ("reverse", "9.2", "2 Mbit/s, 1 CUBIC, and 4 the other way at 10", FIVE, 3,
      "--rate 2mbit --reverse 10mbit --seconds 15 --from 5 --flows 1:cubic:20ms back:4:cubic:20ms"),
     ("bbrcubic", "5.2", "2 CUBIC, 2 BBR", FIVE, 6, "--flows 2:cubic:20ms 2:bbr:20ms"),
     ("offload", "", "4 CUBIC, segmentation offload", FIVE, 3, "--offload"),
-    ("burst", "7.2", "1 CUBIC, bursts of 40 packets", FIVE, 8, "--flows 1:cubic:20ms 1:burst=40x1s:20ms"),
-    ("near", "6.2", "4 CUBIC, 5 ms", FIVE, 3, "--flows 4:cubic:5ms"),
-    ("farther", "6.2", "4 CUBIC, 500 ms", FIVE, 6, "--seconds 25 --from 10 --flows 4:cubic:500ms"),
-    ("sixteen", "8.2.3", "16 CUBIC", FIVE, 8, "--flows 16:cubic:20ms"),
+    ("burst", "7", "1 CUBIC, bursts of 40 packets", FIVE, 8, "--flows 1:cubic:20ms 1:burst=40x1s:20ms"),
+    ("near", "6", "4 CUBIC, 5 ms", FIVE, 3, "--flows 4:cubic:5ms"),
+    ("farther", "6", "4 CUBIC, 500 ms", FIVE, 6, "--seconds 25 --from 10 --flows 4:cubic:500ms"),
+    ("sixteen", "8", "16 CUBIC", FIVE, 8, "--flows 16:cubic:20ms"),
     ("onoff", "8.2.5", "2 CUBIC, and 16 more from 5 to 10 s", f"{FIVE},half", 3,
      "--seconds 15 --from 0 --flows 2:cubic:20ms 8:cubic:20ms:5s-10s 8:cubic:20ms:5s-10s"),
-    ("grant30", "", "4 CUBIC, grants of 30 ms", "stamp,rate", 3, "--grant 30ms"),
+    ("grant30", "", "4 CUBIC, grants of 30 ms", "stamp,rate", 6, "--grant 30ms"),
     ("bucket", "", "2 Mbit/s, 4 CUBIC, a bucket of 1514 bytes in htb", "pie", 6, "--rate 2mbit --seconds 25 --from 5 --bucket 1514"),
     ("fifty", "", "50 Mbit/s, 4 CUBIC", FIVE, 3, "--rate 50mbit --seconds 7 --from 3 --probe 50ms"),
     ("gigabit", "", "1 Gbit/s, 16 CUBIC", FIVE, 2, "--rate 1gbit --seconds 5 --from 2 --probe 10ms --flows 16:cubic:20ms"),

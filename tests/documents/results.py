@@ -1,8 +1,10 @@
 #!/usr/bin/env python3
-"""docs/RESULTS.md and docs/ellipses.svg are the output of docs/results.py for the stored runs, and docs/RESULTS.in has no figure of its own. A page
-with a changed figure fails. The stored A/A runs hold: tail drop here and pfifo do not differ, and with UDP alone they agree within 0.1 ms and 0.1 %
-of goodput; at most one in twenty comparisons of a queue's odd blocks with its even ones differs, and of their 90 % intervals 84 % contain 0. The
-page shows every scenario that was run.
+"""Checks docs/RESULTS.md, docs/comparisons.csv and docs/ellipses.svg: docs/results.py computes them from the stored runs. docs/RESULTS.in has no figure
+of its own, and README.md and docs/PARAMETERS.md repeat figures of the runs. A page with a changed figure fails.
+
+The stored A/A runs hold. Tail drop here and pfifo do not differ after the start. With UDP alone they agree within 0.1 ms and 0.1 % of goodput. At most
+one in twenty comparisons of a queue's odd blocks with its even ones differs, and 84 % of their 90 % intervals contain 0. The page contains every
+scenario that was run.
 needs: nothing"""
 import os
 import re
@@ -24,8 +26,19 @@ check(len(figures) > 200, f"the page has {len(figures)} figures only")
 for begin, end in figures[::7]:
     changed = page[:end - 1] + str((int(page[end - 1]) + 1) % 10) + page[end:]
     check(results.differences({"docs/RESULTS.md": changed}), f"another figure than {page[begin:end]} passes")
+for name in ("docs/comparisons.csv", "docs/ellipses.svg"):
+    text = (ROOT / name).read_text()
+    begin, end = re.search(r"\d+\.\d+", text).span()
+    check(results.differences({name: text[:begin] + "7" + text[begin:]}), f"{name}: another figure than {text[begin:end]} passes")
+for name, sentence in results.elsewhere():
+    text = " ".join((ROOT / name).read_text().split())
+    begin, end = re.search(r"(?<= )\d+(?= )", sentence).span()
+    place = text.find(sentence)
+    changed = text[:place + begin] + "1" + text[place + begin:]
+    check(place >= 0 and results.differences({name: changed}), f"{name}: another figure than {sentence[begin:end]} passes")
 
-for name in ("full", "four"):
+
+for name in results.SAME_ALGORITHM:
     for field in ("probe", "goodput"):
         found = results.test(name, "tail", "pfifo", field)
         check(found and found[3] != "different", f"{name}: tail drop here and pfifo: {field}: {found}")
@@ -33,9 +46,9 @@ off, share = results.test("full", "tail", "pfifo", "probe")[0], results.test("fu
 whole = sum(results.RUNS.values("full", "pfifo", "goodput").values()) / len(results.RUNS.values("full", "pfifo", "goodput"))
 check(abs(off) < 0.1 and abs(share) < 0.001 * whole, f"UDP alone: tail drop here and pfifo differ by {off} ms and {share} Mbit/s")
 # (each comparison is a test at a level of 5 per cent)
-differ = [it[:4] for it in results.halves() if it[4][3] == "different"]
+differ = [it[:4] for it in results.halves() if it[-1][3] == "different"]
 check(20 * len(differ) <= len(results.halves()), f"queues differ from themselves: {differ}")
-inside = [it[4][1] <= 0 <= it[4][2] for it in results.halves()]
+inside = [it[-1][1] <= 0 <= it[-1][2] for it in results.halves()]
 check(sum(inside) >= 0.84 * len(inside), f"of {len(inside)} intervals of 90 per cent for no difference only {sum(inside)} contain 0")
 for name, it in results.SCENARIOS.items():
     shown = f"|`{name}`|{it['words']}|" in page

@@ -8,7 +8,7 @@ use std::simd::prelude::*;
 /// The number of bytes that are looked at together.
 pub(crate) const BLOCK: usize = 32;
 
-/// The greatest number of bytes of a line that is read in place. The longest record that this project writes is shorter.
+/// The room for a line that is read in place, with its line feed, in bytes. The longest record that this project writes is shorter.
 pub(crate) const MAX_LINE: usize = 2048;
 
 /// The greatest number of fields of such a line.

@@ -41,7 +41,7 @@ steady_last fields steady text n is long =
     let both = length-append (onto fields []) steady in
     rw (is, whole) (drop_at (onto fields []) steady (length (onto fields [] ++ steady) - n) (omega (arith, both, long)))
 
--- a record, and the time of day behind it
+-- a record, and the wall-clock time after it
 pub wall-line : (all : Explained) (wall old : List ℕ)
     → ((old ++ onto (most_fields all) (active_field all.after.active ++ codes ",")) ++ wall) ++ codes "\n"
     ≡ old ++ line_of (record_of all ++ wall ∷ [])

@@ -1,4 +1,4 @@
--- What a read of a line finds of the records that are left.
+-- The result of reading a line, as a statement on the remaining records.
 use Rattle.std.proofs.Common.{sym, ap, ◌∙◌, arith, subst, get_or}
 use Rattle.pie_record.specs.{◌≡◌, ◌<◌, ◌++◌, ◌∷◌, ◌==◌, ℕ, List, [], length, refl, true, false, Bool, Option, Some, None, Row}
 use Rattle.pie_record.specs.{split_line, records_left, records_at, strip_bom, prepend_known, HasTakenLine, WasTaken, ReadsPlain, IsPlainLine, Keeps, IsAtEnd}

@@ -1,4 +1,4 @@
--- What a reader has left, where bytes were read ahead.
+-- The remaining bytes of a reader that has read bytes ahead.
 use Rattle.std.proofs.Common.{sym, ap, ◌∙◌, arith, take, drop, append_assoc, get_or}
 use Rattle.std.specs.Prelude.{slice_range, slice_get, Result}
 use lib.Seq.{paste}

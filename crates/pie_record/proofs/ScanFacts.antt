@@ -1,4 +1,4 @@
--- How far a scan has come: over a byte, and over a block of bytes that a mask marks.
+-- The progress of a scan: over a byte, and over a block of bytes that a mask marks.
 use Rattle.std.proofs.Common.{suc, zero, sym, ap, ◌∙◌, arith, subst, get_or, take, drop, take-take, ⊎_elim}
 use Rattle.std.proofs.lemmas.Bool.{cases_lt}
 use Rattle.std.proofs.Math.Seq.{take-add}

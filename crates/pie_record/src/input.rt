@@ -50,7 +50,7 @@ fn read_behind<R: Read>(reader: &mut R, bytes: &mut [u8], kept: usize) -> io::Re
     reader.read(&mut bytes[kept..last])
 }
 
-// Makes room for what is read at a time.
+// Makes room for one read.
 fn make_room(bytes: &mut Vec<u8>) -> Result<(), ReadFailure>
     ensures long { length bytes.old.items ≤ length bytes.new.items }
     ensures same { 0 < length bytes.old.items → bytes.new.items ≡ bytes.old.items }

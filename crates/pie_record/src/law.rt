@@ -24,8 +24,8 @@ pub fn lines_are_written_again()
     ensures { (row : Row) (told : Line) → IsRecordOf row told → line_rows told ≡ rows_unless_note told row }
 {}
 
-/// A text of written records is read back as those records, and where each tells a line, as those lines, with no fault behind them. That of an
-/// opening and its events is a history of these.
+/// A text of written records is read back as those records. If each record has a line, the text is read back as those lines, with no fault behind
+/// them. The text of an opening and its events is read back as their history.
 ///
 /// It does nothing: its contract is the law (this project's own).
 pub fn texts_are_read_back()

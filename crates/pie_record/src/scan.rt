@@ -1,4 +1,4 @@
-//! The bytes of a plain line: where its fields end, and where it ends.
+//! Scans the bytes of a plain line for the ends of its fields and the end of the line.
 ghost use Rattle.std.specs.Prelude.{◌≡◌, ◌≤◌, ◌<◌, ◌+◌, ◌++◌, slice_range, take};
 ghost use Rattle.pie_record.specs.{length, FindsLine, IsScanned, Scans};
 

@@ -53,7 +53,7 @@ ITEM = re.compile(r"\b(?:fn|mod|struct|enum|union|trait|type|const|static|crate|
 # what a crate has beside clauses and items
 DECLARED = [re.compile(it, re.M) for it in (
     r"^ *(\w+)(?: ?[({].*)?,$",  # variants
-    r"((?:\w+ )*\w+) ?:(?!:)",  # fields, parameters, lemmas
+    r"(?<![\w ])([\w ]+):(?!:)",  # fields, parameters, lemmas
     r"\b(?:let|ghost|for) (?:mut )?(\w+)|\b(\w+) = |λ ([\w ]+)\.",  # values
     r"\buse ([^;]*)",  # imports
     r"(?:\.|::)(\w+)(?:::<[^(]*>)?\(",  # functions that it calls

@@ -63,12 +63,13 @@ MUTATION = re.compile(r"^name: (\w+)", re.M)
 
 
 class Crate:
-    """A crate: its sources; the words of its code; all names that it declares, and apart from them the names of its
+    """A crate: its sources, and the comments in them; the words of its code; all names that it declares, and apart from them the names of its
     items and those of its clauses; its texts of one word; the names of its mutations."""
 
     def __init__(self, folder):
         self.name = folder.name
         self.sources = {path: path.read_text().splitlines() for path in sources(folder)}
+        self.comments = [(path, *comment) for path, lines in self.sources.items() for comment in comments(lines)]
         code = "\n".join(code_of(line) for lines in self.sources.values() for line in lines)
         self.words = words_of(code)
         self.items = {self.name, *(path.stem for path in self.sources), *ITEM.findall(code)}
@@ -155,36 +156,34 @@ def unknown_names(crates):
     below, shared = lower_crates(), everywhere(crates).union(*(distinctive(crate.declared) for crate in crates.values()))
     for crate in crates.values():
         known = shared | names_in(crate, crates, below)
-        for path, lines in crate.sources.items():
-            for start, _, text, _ in comments(lines):
-                for number, name in quoted(text, start):
-                    if not words_of(name) <= known:
-                        yield f"{path.relative_to(ROOT)}:{number}: nothing has the name `{name}`"
+        for path, start, _, text, _ in crate.comments:
+            for number, name in quoted(text, start):
+                if not words_of(name) <= known:
+                    yield f"{path.relative_to(ROOT)}:{number}: nothing has the name `{name}`"
 
 
 def unknown_in_expressions(crates):
     """Yields the words in expressions in comments, except paths, that the code does not have."""
     shared = everywhere(crates).union(*(distinctive(crate.declared) for crate in crates.values()))
     for crate in crates.values():
-        for path, lines in crate.sources.items():
-            for start, _, text, _ in comments(lines):
-                for number, expression in quoted(text, start, SPAN):
-                    is_expression = not QUOTED.fullmatch(f"`{expression}`") and "/" not in expression
-                    if is_expression and (missing := words_of(expression) - crate.words - crate.declared - shared):
-                        yield f"{path.relative_to(ROOT)}:{number}: nothing has the name `{min(missing)}`"
+        known = crate.words | crate.declared | shared
+        for path, start, _, text, _ in crate.comments:
+            for number, expression in quoted(text, start, SPAN):
+                is_expression = not QUOTED.fullmatch(f"`{expression}`") and "/" not in expression
+                if is_expression and (missing := words_of(expression) - known):
+                    yield f"{path.relative_to(ROOT)}:{number}: nothing has the name `{min(missing)}`"
 
 
 def unknown_clauses(crates):
     """Yields the names in comments of functions and of files that should be those of clauses, and are not."""
     shared = OTHERS.union(crates, *(distinctive(crate.items) for crate in crates.values()))
     for crate in crates.values():
-        for path, lines in crate.sources.items():
-            for start, mark, text, after in comments(lines):
-                clauses = own_clauses(lines, after) if mark == "///" else crate.clauses if mark == "//!" else None
-                for aside in ASIDE.finditer(text) if clauses is not None else ():
-                    for number, name in quoted(aside[0], start + text[: aside.start()].count("\n")):
-                        if name.isidentifier() and name not in clauses | crate.items | shared:
-                            yield f"{path.relative_to(ROOT)}:{number}: no clause has the name `{name}`"
+        for path, start, mark, text, after in crate.comments:
+            clauses = own_clauses(crate.sources[path], after) if mark == "///" else crate.clauses if mark == "//!" else None
+            for aside in ASIDE.finditer(text) if clauses is not None else ():
+                for number, name in quoted(aside[0], start + text[: aside.start()].count("\n")):
+                    if name.isidentifier() and not any(name in names for names in (clauses, crate.items, shared)):
+                        yield f"{path.relative_to(ROOT)}:{number}: no clause has the name `{name}`"
 
 
 def names_on_pages(crates):
@@ -205,12 +204,13 @@ def unknown_on_pages(crates):
 def unknown_in_model(crates):
     """Yields the names in docs/MODEL.md that do not exist: below a heading with crates, in those crates, those that the
     paragraph names, and the lower crates that they use."""
-    number, text, below, shared = 1, (ROOT / "docs/MODEL.md").read_text(), lower_crates(), everywhere(crates)
+    number, text, below = 1, (ROOT / "docs/MODEL.md").read_text(), lower_crates()
+    of_all, shared, own = names_on_pages(crates), everywhere(crates), {name: names_in(crate, crates, below) for name, crate in crates.items()}
     for section in re.split(r"(?m)^(?=## )", text):
         heads = [it for _, it in quoted(section.partition("\n")[0], 0) if it in crates]
         for paragraph in re.split(r"(?m)^(?=- |\n)", section):
             about = heads and heads + [it for _, it in quoted(paragraph, 0) if it in crates]
-            known = shared.union(*(names_in(crates[it], crates, below) for it in about)) if about else names_on_pages(crates)
+            known = shared.union(*(own[it] for it in about)) if about else of_all
             for place, name in quoted(paragraph, number):
                 if not words_of(name) - ENDINGS <= known:
                     yield f"docs/MODEL.md:{place}: nothing in {', '.join(about) or 'the crates'} has the name `{name}`"
@@ -219,23 +219,22 @@ def unknown_in_model(crates):
 
 def citing(crate, own):
     """Yields the lines of a crate that cite the proofs of another of the repository."""
-    for path in sources(crate):
-        for number, line in enumerate(path.read_text().splitlines(), 1):
+    for path, lines in crate.sources.items():
+        for number, line in enumerate(lines, 1):
             if any(name in own and name != crate.name for name in CITED.findall(line)):
                 yield f"{path.relative_to(ROOT)}:{number}: {line.strip()}"
 
 
 def main():
-    folders = sorted(path for path in (ROOT / "crates").iterdir() if (path / "src").is_dir())
-    own, failed = {crate.name for crate in folders}, False
-    for crate in folders:
-        lines, most = list(citing(crate, own)), LEFT.get(crate.name, 0)
+    crates = {path.name: Crate(path) for path in sorted((ROOT / "crates").iterdir()) if (path / "src").is_dir()}
+    failed = False
+    for crate in crates.values():
+        lines, most = list(citing(crate, crates)), LEFT.get(crate.name, 0)
         if len(lines) > most:
             failed = True
             print("\n".join([f"{NAME}: {crate.name} cites others' proofs in {len(lines)} lines, and not in {most}:", *lines]))
         elif len(lines) < most:
             print(f"{NAME}: {crate.name} cites others' proofs in {len(lines)} lines: lower its {most} in LEFT")
-    crates = {folder.name: Crate(folder) for folder in folders}
     checks = (unknown_names, unknown_in_expressions, unknown_clauses, unknown_on_pages, unknown_in_model)
     unknown = dict.fromkeys(line for check in checks for line in check(crates))
     if unknown:

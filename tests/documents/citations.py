@@ -12,8 +12,9 @@ whole words. A comment may cite
 - a keyword, that is, a text of one word in the code of any crate.
 
 In parentheses, or after "clause", a function's comment may cite no other function's clause, and a file's head no
-clause of another crate. A section of docs/MODEL.md about crates may cite their names alone. OTHERS has the names of
-other languages and programs.
+clause of another crate; a name that an item of the crate has too is accepted. A section of docs/MODEL.md about crates
+may cite names of those crates, of crates that the paragraph names, and of lower crates. OTHERS has the names of other
+languages and programs.
 
 usage: tests/documents/citations.py
 needs: nothing

@@ -113,7 +113,7 @@ struct pie_params {
     uint64_t dq_threshold; /* bytes of a departure rate cycle, a power of two, 1024 to 65536 (16384; section 5.2) */
 };
 
-/* What a full event log does. */
+/* The effect of a full event log. */
 enum {
     PIE_BOUNDED = 0, /* refuses further events */
     PIE_ROLLING = 1  /* discards its oldest event */

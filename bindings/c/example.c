@@ -45,7 +45,7 @@ static uint64_t random_word(void) {
     return last ^ last >> 29;
 }
 
-/* Prints a record; `asked` is the number of its fields in the trace. */
+/* Prints a record; of a trace, only the first `asked` fields. */
 static void print_record(unsigned char *text, size_t count, int asked) {
     size_t length = 0;
     if (is_trace && count != 0) {
@@ -130,7 +130,7 @@ int main(int count, char **words) {
     is_trace = count == 2 && strcmp(words[1], "trace") == 0;
     struct pie_opening opening;
     pie_default_opening(&opening, 0);
-    /* a shorter rhythm than the defaults', so that a tenth of a second shows all */
+    /* faster reactions than by the default parameters, so that a tenth of a second is enough */
     opening.params.target = 4000000;
     opening.params.t_update = 2000000;
     opening.params.max_burst = 20000000;

@@ -288,7 +288,7 @@ static void bursts_of_several(void) {
     CHECK(pie_link_registers(&ports[0], &registers) == PIE_DONE && registers.due == 35000000);
     pie_link_tell_due(&hint, registers.due);
     CHECK(registers.packets == pie_link_waiting(&hint) && pie_link_due(&hint) >= 35000000 && pie_link_due(&hint) < 35000000 + (1 << 18));
-    /* each sender's packets once and in its order, with nothing of another within a burst */
+    /* the history has each sender's events once and in its order, and no event of another sender within a burst */
     while ((code = fold_one(&ports[0], &event, &params)) == PIE_DONE) {
         CHECK(caller == 0 || event.caller == caller);
         if (event.caller != 0) {
@@ -328,7 +328,7 @@ static void hints(void) {
     CHECK(pie_link_waiting(&told) == 1 && pie_link_due(&told) == UINT64_MAX);
 }
 
-/* A rolling link: the numbers of its folds show the number of missing events. */
+/* A rolling link: the number of missing events follows from the numbers of its folds. */
 static void gaps(void) {
     struct pie_port port = PIE_PORT_CLOSED;
     struct pie_opening opening;

@@ -567,7 +567,7 @@ static int choices(void) {
     state.choices = PIE_DELAY_STAMP;
     CHECK(pie_set_params(&state, &params, LATEST) == PIE_DONE && state.waited == 7 && state.choices == 1);
     CHECK(pie_reset(&state, LATEST) == PIE_DONE && state.waited == 0 && state.choices == 1);
-    /* by the rate it is pie_depart, whatever the moment of arrival */
+    /* if the delay comes from the departure rate, the call equals pie_depart for any moment of arrival */
     struct pie_state rate = opened(), same_calls = opened();
     CHECK(pie_depart_waited(&rate, 1500, 20000, LATEST, 1000) == PIE_DONE && pie_depart(&same_calls, 1500, 20000, 1000) == PIE_DONE);
     CHECK(same(&rate, &same_calls) && rate.measuring == 1);

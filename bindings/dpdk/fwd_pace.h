@@ -1,5 +1,5 @@
-/* A pace: a limit in bytes per second. Time during which too little was sent is made up for, but at most 10 ms of a
- * pause, like a link that was delayed and not like one that accumulated credit. */
+/* A pace: a limit in bytes per second. After a time in which too little was sent, the pace makes up for at most 10 ms of
+ * it, like a link that was delayed, and unlike a link that accumulated credit. */
 #ifndef FWD_PACE_H
 #define FWD_PACE_H
 

@@ -10,7 +10,7 @@
  *   pie_stage_update(stage, rte_rdtsc());                                        // on a timer
  *   pie_stage_free(stage);
  *
- * DPDK's telemetry (dpdk-telemetry.py) shows the stages of a process, and sets their parameters
+ * DPDK's telemetry (dpdk-telemetry.py) lists the stages of a process, and sets their parameters
  * (stage_telemetry.h).
  *
  * `now` is rte_rdtsc() or rte_get_tsc_cycles(), in cycles of the TSC (rte_get_tsc_hz() per second).

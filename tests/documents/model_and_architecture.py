@@ -3,8 +3,8 @@
 name each definition that a clause of a public function cites, and each function, definition and
 mutation in its table of rules must exist. Map and list of crates in docs/ARCHITECTURE.md must be
 those of crates.txt (docs/map.py --check), and the picture of margins must be the one that
-docs/margins.py draws. Names of code in PROMISES, ARCHITECTURE and GUARANTEES must exist. Each `==`
-of a type must be derived, so that it compares every field. The exit status is 1 if a check fails.
+docs/margins.py draws. Each `==` of a type must be derived, so that it compares every field. The
+exit status is 1 if a check fails.
 
 usage: tests/documents/model_and_architecture.py
 needs: nothing
@@ -85,16 +85,6 @@ def missing_of_rules(model):
             yield f"docs/MODEL.md: {rule}: no wrong body {name}"
 
 
-def missing_words():
-    """Yields the names on the pages closest to the code that the code does not have."""
-    files = [path for kind in ("rt", "antt") for path in (ROOT / "crates").glob(f"*/s*/**/*.{kind}")]
-    words = {word for path in [*files, ROOT / "crates.txt", *(ROOT / "include").glob("*.h"), ROOT / "bindings/kernel/Kbuild"] for word in re.findall(r"\w+", path.read_text())}
-    for page in ("PROMISES.md", "ARCHITECTURE.md", "GUARANTEES.md"):
-        for name in QUOTED.findall((ROOT / "docs" / page).read_text()):
-            if re.fullmatch(r"[A-Za-z_][\w:]*", name) and name.split("::")[-1] not in words:
-                yield f"docs/{page}: the code has no {name}"
-
-
 def written_equalities():
     """Yields each `==` that is written by hand instead of derived. An equality that ignores a field
     would satisfy every contract."""
@@ -105,7 +95,7 @@ def written_equalities():
 
 def main():
     model = (ROOT / "docs" / "MODEL.md").read_text()
-    missing = [*missing_definitions(model), *missing_of_rules(model), *missing_words(), *written_equalities()]
+    missing = [*missing_definitions(model), *missing_of_rules(model), *written_equalities()]
     print("\n".join(missing) or f"{NAME}: the model names what the code has", flush=True)
     drawn = [subprocess.run([ROOT / "docs" / name, "--check"], check=False).returncode for name in ("map.py", "margins.py")]
     sys.exit(bool(missing) or any(drawn))

@@ -1,4 +1,4 @@
-//! The output: lines `name value unit` of the measurements.
+//! The output: for each measurement a line with its name, value and unit.
 
 use std::io;
 use std::io::ErrorKind;

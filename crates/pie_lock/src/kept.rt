@@ -3,9 +3,9 @@ ghost use Rattle.std.specs.Prelude.{◌≡◌, ℕ, List, length};
 
 /// A state that represents a history, which is a list of entries. Each entry has a caller's number.
 ///
-/// `number_of` is the number of an entry. `origin_of` is plain data that a state keeps from its opening on. `tells
-/// state history` is the abstraction relation: the state represents this history. A state may represent many histories;
-/// by the law `one_length` they have the same length.
+/// `number_of` is the number of an entry. `origin_of` is plain data that a state keeps from its opening on.
+/// `represents_list state history` is the abstraction relation: the state represents this history. A state may represent
+/// many histories; by the law `one_length` they have the same length.
 pub trait Kept: Drop {
     /// The entry that a call appends to the history.
     type Entry: Copy;

@@ -1,6 +1,11 @@
-"""Follows a run of the gate: reads the processes below it a few times a second, assigns each to a part, and sums
-their times. The time of a process after the last reading is missed, some tenths of a second each. The total is
-exact, and time without an assigned row has a row of its own. Used by bench/gate.sh."""
+#!/usr/bin/env python3
+"""Measures the gate: runs .ci/run, and prints the processor seconds and the memory of the proof, the tests, the mutations, the building and the
+running of each crate; then those of each script, and the sum. It reads the processes below the gate a few times a second, and assigns each to a
+part. The time of a process after the last reading is missed, some tenths of a second each. The total is exact, and time without an assigned row
+has a row of its own.
+
+usage: bench/gate.py [LOG]           LOG receives the output of .ci/run; the default is /tmp/pie-gate.log
+       bench/gate.py --beside PID    follows a .ci/run or an rt ci that is already running, from now on"""
 import importlib.machinery
 import importlib.util
 import os
@@ -165,6 +170,9 @@ def table(follower, total):
 
 
 def main(words):
+    if words and words[0].startswith("-") and (words[0] != "--beside" or len(words) != 2):
+        print(__doc__)
+        sys.exit(words[0] != "--help")
     load = os.getloadavg()[0]
     if words[:1] == ["--beside"]:
         ran, follower = None, Follower(int(words[1]))

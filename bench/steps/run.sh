@@ -31,7 +31,12 @@ if [ "$(cat "$out/version" 2> /dev/null)" != "$version" ]; then
     xz --decompress --stdout --threads=0 $source |
         tar --extract --directory "$work" --strip-components=1 linux-source-6.1/net/sched/sch_pie.c linux-source-6.1/include/net/pie.h
     heads='struct pie_sched_data|bool pie_drop_early(|static int pie_qdisc_enqueue(|void pie_process_dequeue(|void pie_calculate_probability('
-    awk -v heads="$heads" -f "$here/cut.awk" "$work/net/sched/sch_pie.c" > "$out/linux_pie.c"
+    # from a line that begins with one of the heads to the line that closes the function or struct
+    awk -v heads="$heads" '
+        BEGIN { count = split(heads, head, "|") }
+        { for (i = 1; i <= count; i++) if (index($0, head[i]) == 1) open = 1 }
+        open { print }
+        /^};?$/ { if (open) print ""; open = 0 }' "$work/net/sched/sch_pie.c" > "$out/linux_pie.c"
     grep -v '^#include' "$work/include/net/pie.h" > "$out/linux_pie.h"
     echo "$version" > "$out/version"
 fi

@@ -20,7 +20,8 @@ cat > "$work/init" <<'END'
 #!/bin/busybox sh
 . /net.sh
 begins
-loads virtio_ring virtio virtio_pci_legacy_dev virtio_pci_modern_dev virtio_pci virtio_blk veth sch_htb sch_netem sch_pie_recorded
+finds_disk
+loads veth sch_htb sch_netem sch_pie_recorded
 connects 1
 /bin/tc -n b qdisc add dev b0 root netem delay 10ms limit 100000
 /bin/tc -n r qdisc add dev rb root handle 1: htb default 1
@@ -45,7 +46,7 @@ $box sync
 echo ended
 $box poweroff -f
 END
-fill_root "$work/init" virtio virtio_ring virtio_pci_legacy_dev virtio_pci_modern_dev virtio_pci virtio_blk veth sch_htb sch_netem pktgen
+fill_root "$work/init" veth sch_htb sch_netem pktgen
 truncate -s 1G "$work/disk"
 parameters="rate=${RATE:-100mbit} seconds=${SECONDS_OF_TRAFFIC:-10} datagrams=${DATAGRAMS:-0}"
 if [ -n "${CPUS-}" ]; then

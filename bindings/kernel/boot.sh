@@ -28,10 +28,11 @@ for name in $mutants; do
     build_module . "$work/root/mods/mutants/$name.ko"
 done
 fill_root bindings/kernel/boot_init.sh veth sch_htb sch_tbf sch_netem sch_pie
+truncate -s 256M "$work/disk"
 # shellcheck disable=SC2086
-boot "all=$all" $SIMULATED -serial "file:$work/records.gz"
+boot "all=$all" $SIMULATED -drive "file=$work/disk,format=raw,if=virtio"
 mkdir "$work/records"
-tar -C "$work/records" -xzf "$work/records.gz"
+tar -C "$work/records" -xf "$work/disk"
 # what was followed while the queue worked begins with what was dumped: behind the first record, which is an opening there and of an excerpt here, only
 # the time of day may have been read at another moment
 for name in history followed; do

@@ -206,9 +206,10 @@ done
 $box sleep 1
 $box rmmod sch_pie_recorded || echo "FAILED rmmod after the namespace"
 $box dmesg | $box grep -E 'WARNING|BUG|Oops|Call Trace'
-$box stty -F /dev/ttyS1 raw
+# a serial line would take longer
+finds_disk
 cd /tmp
-$box tar -cf - *.history *.followed *.periods *.excerpt *.json *.csv *.before *.after | $box gzip -c > /dev/ttyS1
+$box tar -cf - *.history *.followed *.periods *.excerpt *.json *.csv *.before *.after > /dev/vda || echo "FAILED tar"
+$box sync
 echo ended
-$box sleep 1
 $box poweroff -f

@@ -21,6 +21,10 @@ cp -r bindings/kernel "$work/build/bindings/"
 cp -r bindings/kernel "$work/source"
 cp -r include "$work/build/"
 
+if bindings/kernel/vmlinux.py "$kernel" "$work/vmlinux"; then
+    kernel=$work/vmlinux
+fi
+
 # build_module FOLDER FILE: builds the modules of a folder below bindings/kernel, and copies one to FILE
 build_module() {
     make -s -C "$headers/linux-headers-$release" M="$work/build/bindings/kernel/$1" modules > "$work/make.log" 2>&1 || { cat "$work/make.log" >&2; exit 1; }
@@ -35,7 +39,7 @@ fill_root() {
     cp bindings/kernel/guest_net.sh "$work/root/net.sh"
     chmod +x "$work/root/init"
     shift
-    for name in "$@"; do
+    for name in "$@" virtio virtio_ring virtio_pci_legacy_dev virtio_pci_modern_dev virtio_pci virtio_blk; do
         find "$root/lib/modules/$release/" -name "$name.ko*" -exec cp {} "$work/root/mods/" \;
     done
     find "$work/root/mods" -name '*.xz' -exec xz -d {} +

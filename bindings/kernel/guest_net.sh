@@ -20,6 +20,11 @@ loads() {
     done
 }
 
+# finds_disk: makes the disk that guest.sh's boot may have /dev/vda
+finds_disk() {
+    loads virtio_ring virtio virtio_pci_legacy_dev virtio_pci_modern_dev virtio_pci virtio_blk
+}
+
 # connects QUEUES: connects the namespaces a, r and b, with QUEUES transmit queues of rb
 connects() {
     for name in a r b; do

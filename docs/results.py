@@ -395,8 +395,9 @@ def halves_count():
 
 def halves_different():
     """Returns the comparisons of a queue with itself whose verdict is `different`, in words."""
-    found = [f"`{name}` (`{queue}`, {'wait' if field == 'probe' else 'goodput'} at {name_of_part(part)} s: {interval(it, field, 3 if field == 'goodput' else 1)})"
-             for name, queue, part, field, _, it in halves() if it[3] == "different"]
+    found = [f"`{name}` (`{queue}`, {'wait' if field == 'probe' else 'goodput'} at {name_of_part(part)} s, {blocks[0]}+{blocks[1]} blocks: "
+             f"{interval(it, field, 3 if field == 'goodput' else 1)})"
+             for name, queue, part, field, blocks, it in halves() if it[3] == "different"]
     return ", ".join(found) or "none"
 
 

@@ -25,7 +25,7 @@ from scenarios import FIVE, SCENARIOS, queues_of  # noqa: E402
 
 # numbers of RESULTS.in that are settings of a scenario, a test, or RFC 8033: decimal numbers, and numbers with a unit
 SETTINGS = {"0.5", "0.85", "1.85", "1.5", "3.37", "4.4", "6.1", *(f"{it} ms" for it in (5, 10, 15, 20, 30, 40, 100, 200)),
-            *(f"{it} s" for it in (1.5, 4, 8, 10, 14, 40, 60)), *(f"{it} Mbit/s" for it in (0.5, 2, 10, 12)), *(f"{it} bytes" for it in (64, 1500, 1514, 16384)),
+            *(f"{it} s" for it in (1.5, 2, 4, 8, 10, 14, 40, 60)), *(f"{it} Mbit/s" for it in (0.5, 2, 10, 12)), *(f"{it} bytes" for it in (64, 1500, 1514, 16384)),
             *(f"{it} %" for it in (1, 5, 10, 80, 84, 90, 100))}
 UNITS = {"goodput": "Mbit/s"}
 DIGITS = {"goodput": 2, "jain": 2, "early": 0, "tail": 0, "marks": 0, "lost": 0, "probes": 0}
@@ -160,7 +160,7 @@ def plus_minus(found, field, digits=None):
     if not found:
         return ""
     digits = digits if digits is not None else DIGITS.get(field, 1)
-    return f"{shown(found[0], field, digits)} ± {shown((found[2] - found[1]) / 2, field, digits)} {found[3]}"
+    return f"{shown(found[0], field, digits)}±{shown((found[2] - found[1]) / 2, field, digits)} {found[3]}"
 
 
 def difference(scenario, one, other, field, part="after", other_scenario=None, digits=None):
@@ -213,6 +213,30 @@ def suite():
     """Returns the number of runs of RFC 7928's suite, and the processor time that they take, in words."""
     runs, stored, hours = estimate(ROWS)
     return f"{runs} runs, {stored} of them stored, which take {hours:.1f} processor hours in all"
+
+
+def version_of(row):
+    """Returns the versions of network.py and traffic.c that made a row."""
+    return tuple(row["version"].split(".")[:2])
+
+
+def versions():
+    """Returns the number of runs that the most frequent version of network.py and traffic.c made, and the comparison of each queue's runs by this
+    version with its earlier runs, in words."""
+    made = list({(row["scenario"], row["queue"], row["block"]): version_of(row) for row in ROWS}.values())
+    most = max(set(made), key=made.count)
+    found = []
+    for name, queue in RUNS.rows:
+        for part in split_parts(name):
+            for field in ("goodput", "probe"):
+                rows = [row for row in RUNS.blocks(name, queue, f"{part[0]:g}-{part[1]:g}").values() if row[field]]
+                these, others = ([float(row[field]) for row in rows if (version_of(row) == most) == it] for it in (True, False))
+                if min(len(these), len(others)) >= 2:
+                    found.append(compare(these, others, margin_of(field, others)))
+    inside = sum(it[1] <= 0 <= it[2] for it in found)
+    return (f"{made.count(most)} of {len(made)} runs have one version of network.py ({most[0]}) and traffic.c ({most[1]}). The others have earlier versions. "
+            f"Of {len(found)} comparisons of both within one queue, {sum(it[3] == 'different' for it in found)} are `different`, and {inside} of the "
+            f"intervals contain 0")
 
 
 def not_run():
@@ -327,6 +351,19 @@ def same_calibration_table():
     return table(["scenario", "seconds", "measure", "blocks", "tail drop, here", "`pfifo`", "difference"], lines)
 
 
+def fewer_probes():
+    """Returns the number of probes that pfifo dropped less than tail drop here in the later part of `full`."""
+    ours, theirs = difference_of("full", "tail", "pfifo", "lost")
+    return fmean(ours) - fmean(theirs)
+
+
+def explained():
+    """Returns the difference of waits in `full` that the dropped probes explain, in ms: a probe in the queue has the place of a packet of 1500 bytes."""
+    begin, end = RUNS.part("full", "after")
+    in_queue = fewer_probes() / (end - begin) * fmean(RUNS.values("full", "tail", "probe").values()) / 1e3
+    return in_queue * (1500 - 64) * 8 / 10e6 * 1e3
+
+
 @functools.cache
 def halves():
     """Returns the comparisons of each queue with itself: scenario, queue, part, measure, the numbers of blocks, and the result. The blocks with odd
@@ -358,8 +395,9 @@ def halves_count():
 
 def halves_different():
     """Returns the comparisons of a queue with itself whose verdict is `different`, in words."""
-    found = [f"`{name}` (`{queue}`, {'wait' if field == 'probe' else 'goodput'} at {name_of_part(part)} s: {interval(it, field, 3 if field == 'goodput' else 1)})"
-             for name, queue, part, field, _, it in halves() if it[3] == "different"]
+    found = [f"`{name}` (`{queue}`, {'wait' if field == 'probe' else 'goodput'} at {name_of_part(part)} s, {blocks[0]}+{blocks[1]} blocks: "
+             f"{interval(it, field, 3 if field == 'goodput' else 1)})"
+             for name, queue, part, field, blocks, it in halves() if it[3] == "different"]
     return ", ".join(found) or "none"
 
 

@@ -29,8 +29,8 @@ FIVE = "stamp,pie,fq_codel:3,cake:2,pfifo:2"
 # name, section of RFC 7928, words, queues, blocks, options; the most important ones come first
 TABLE = [
     ("four", "5.1", "4 CUBIC", "tail:36,stamp,wide:6,pfifo:36,pie,fq_codel:6,cake:2", 20, ""),
-    ("full", "", "UDP of 12 Mbit/s alone", "tail,pfifo", 8, "--seconds 8 --from 2 --probe 20ms --flows 1:udp=12mbit:20ms"),
-    ("waves", "", "UDP of 7 Mbit/s, and bursts of 200 packets", "tail,pfifo", 8,
+    ("full", "", "UDP of 12 Mbit/s alone", "tail,pfifo", 8, "--seconds 8 --from 2 --flows 1:udp=12mbit:20ms"),
+    ("waves", "", "UDP of 7 Mbit/s, and bursts of 200 packets", "tail,pfifo", 3,
      "--seconds 8 --from 2 --probe 20ms --flows 1:udp=7mbit:20ms 1:burst=200x1s:20ms"),
     ("two", "", "2 Mbit/s, 4 CUBIC", FIVE, 8, "--rate 2mbit --seconds 25 --from 5"),
     ("slow", "", "0.5 Mbit/s, 4 CUBIC, limit 1 s", f"{FIVE},slowwide:12,mtu", 12, "--rate 500kbit --limit 1s --seconds 40 --from 10"),
@@ -64,7 +64,7 @@ TABLE = [
     ("sixteen", "8", "16 CUBIC", FIVE, 8, "--flows 16:cubic:20ms"),
     ("onoff", "8.2.5", "2 CUBIC, and 16 more from 5 to 10 s", f"{FIVE},half", 3,
      "--seconds 15 --from 0 --flows 2:cubic:20ms 8:cubic:20ms:5s-10s 8:cubic:20ms:5s-10s"),
-    ("grant30", "", "4 CUBIC, grants of 30 ms", "stamp,rate", 6, "--grant 30ms"),
+    ("grant30", "", "4 CUBIC, grants of 30 ms", "stamp,rate", 3, "--grant 30ms"),
     ("bucket", "", "2 Mbit/s, 4 CUBIC, a bucket of 1514 bytes in htb", "pie", 6, "--rate 2mbit --seconds 25 --from 5 --bucket 1514"),
     ("fifty", "", "50 Mbit/s, 4 CUBIC", FIVE, 3, "--rate 50mbit --seconds 7 --from 3 --probe 50ms"),
     ("gigabit", "", "1 Gbit/s, 16 CUBIC", FIVE, 2, "--rate 1gbit --seconds 5 --from 2 --probe 10ms --flows 16:cubic:20ms"),

@@ -30,7 +30,7 @@ built() {
     [ -e $source.tar.xz ] || { echo "NOT RUN: $me: no $source.tar.xz here (the package linux-source-6.1)"; exit 0; }
     [ -e "$build/linux-source-6.1/Makefile" ] || tar -C "$build" -xf $source.tar.xz
     mkdir -p "$build/$kind"
-    cat "$here/config" "$here/$kind.config" > "$build/$kind/wanted"
+    awk -v kind="$kind" '/^## / { is_wanted = $2 == "every" || $2 == kind; next } is_wanted' "$here/config" > "$build/$kind/wanted"
     if ! cmp -s "$build/$kind/wanted" "$build/$kind/configured"; then
         make -s -C "$build/linux-source-6.1" O="$build/$kind" KCONFIG_ALLCONFIG="$build/$kind/wanted" allnoconfig > "$build/$kind/log"
         cp "$build/$kind/wanted" "$build/$kind/configured"

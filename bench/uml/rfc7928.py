@@ -33,9 +33,10 @@ def estimate(rows):
     every = [cost for them in costs.values() for cost in them.values()]
     keys = {(row["scenario"], row["queue"], row["block"]) for row in rows}
     for name in SUITE:
-        count = sum(count for queue, count in SCENARIOS[name]["queues"].items() if queue in queues_of(FIVE, 1))
+        blocks = {queue: count for queue, count in SCENARIOS[name]["queues"].items() if queue in queues_of(FIVE, 1)}
+        count = sum(blocks.values())
         runs += count
-        stored += sum(scenario == name and queue in queues_of(FIVE, 1) for scenario, queue, _ in keys)
+        stored += sum(scenario == name and int(block) <= blocks.get(queue, 0) for scenario, queue, block in keys)
         seconds += count * fmean(costs.get(name, {0: fmean(every)}).values())
     return runs, stored, seconds / 3600
 

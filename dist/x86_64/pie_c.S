@@ -111,10 +111,10 @@
 .Lfunc_end2:
 	.size	"pie_summary::aggregates::Total::carry", .Lfunc_end2-"pie_summary::aggregates::Total::carry"
 
-	.section	".text.pie_summary::aggregates::Bounds::take","ax",@progbits
+	.section	".text.pie_summary::aggregates::Bounds::take_rare","ax",@progbits
 	.p2align	4
-	.type	"pie_summary::aggregates::Bounds::take",@function
-"pie_summary::aggregates::Bounds::take":
+	.type	"pie_summary::aggregates::Bounds::take_rare",@function
+"pie_summary::aggregates::Bounds::take_rare":
 	movq	(%rdi), %rdx
 	movq	%rdx, %rcx
 	incq	%rcx
@@ -130,24 +130,36 @@
 	movq	%rsi, 16(%rdi)
 	retq
 .Lfunc_end3:
-	.size	"pie_summary::aggregates::Bounds::take", .Lfunc_end3-"pie_summary::aggregates::Bounds::take"
+	.size	"pie_summary::aggregates::Bounds::take_rare", .Lfunc_end3-"pie_summary::aggregates::Bounds::take_rare"
 
 	.section	".text.pie_summary::ranges::range_apart","ax",@progbits
 	.p2align	4
 	.type	"pie_summary::ranges::range_apart",@function
 "pie_summary::ranges::range_apart":
 	movq	%rdi, %rdx
-	cmpq	$100, %rdi
-	jae	.LBB4_2
+	leaq	-1000000(%rdi), %rax
+	cmpq	$-990000, %rax
+	jae	.LBB4_7
+	cmpq	$100, %rdx
+	jae	.LBB4_3
 	xorl	%ecx, %ecx
 	addq	%rdx, %rcx
 	movq	%rcx, %rax
 	retq
-.LBB4_2:
+.LBB4_7:
+	movl	%edx, %eax
+	cmpq	$99999, %rdx
+	ja	.LBB4_9
+	imulq	$274877907, %rax, %rcx
+	shrq	$38, %rcx
+	addl	$270, %ecx
+	movq	%rcx, %rax
+	retq
+.LBB4_3:
 	movb	$-17, %dil
 	xorl	%ecx, %ecx
 	.p2align	4
-.LBB4_3:
+.LBB4_4:
 	movq	%rdx, %rsi
 	movabsq	$-3689348814741910323, %rdx
 	movq	%rsi, %rax
@@ -155,13 +167,20 @@
 	shrq	$3, %rdx
 	addq	$90, %rcx
 	cmpq	$1000, %rsi
-	jb	.LBB4_5
+	jb	.LBB4_6
 	testb	%dil, %dil
 	leal	1(%rdi), %eax
 	movl	%eax, %edi
-	jne	.LBB4_3
-.LBB4_5:
+	jne	.LBB4_4
+.LBB4_6:
 	addq	%rdx, %rcx
+	movq	%rcx, %rax
+	retq
+.LBB4_9:
+	movl	$3518437209, %ecx
+	imulq	%rax, %rcx
+	shrq	$45, %rcx
+	addl	$360, %ecx
 	movq	%rcx, %rax
 	retq
 .Lfunc_end4:
@@ -3025,10 +3044,10 @@
 .Lfunc_end22:
 	.size	"pie_c::calls::arrive_apart", .Lfunc_end22-"pie_c::calls::arrive_apart"
 
-	.section	".text.pie_c::summed::arrive_summed_apart","ax",@progbits
+	.section	".text.pie_c::summing::arrive_summed_apart","ax",@progbits
 	.p2align	4
-	.type	"pie_c::summed::arrive_summed_apart",@function
-"pie_c::summed::arrive_summed_apart":
+	.type	"pie_c::summing::arrive_summed_apart",@function
+"pie_c::summing::arrive_summed_apart":
 	pushq	%rbp
 	pushq	%r15
 	pushq	%r14
@@ -3287,14 +3306,14 @@
 	leaq	368(%rbx), %rdi
 	movq	%r8, %rsi
 	movq	%r8, %r15
-	callq	"pie_summary::aggregates::Bounds::take"
+	callq	"pie_summary::aggregates::Bounds::take_rare"
 	movq	%r15, %r8
 .LBB23_44:
 	testb	%r12b, %r12b
 	jne	.LBB23_46
 	leaq	392(%rbx), %rdi
 	movq	%r8, %rsi
-	callq	"pie_summary::aggregates::Bounds::take"
+	callq	"pie_summary::aggregates::Bounds::take_rare"
 .LBB23_46:
 	movq	%r13, 464(%rbx)
 	movq	%r14, 472(%rbx)
@@ -3410,7 +3429,7 @@
 	movq	%rsi, 112(%rdi)
 	jmp	.LBB23_32
 .Lfunc_end23:
-	.size	"pie_c::summed::arrive_summed_apart", .Lfunc_end23-"pie_c::summed::arrive_summed_apart"
+	.size	"pie_c::summing::arrive_summed_apart", .Lfunc_end23-"pie_c::summing::arrive_summed_apart"
 
 	.section	".text.pie_text::event::put_arrival","ax",@progbits
 	.p2align	4
@@ -4554,13 +4573,13 @@ pie_empty_summed:
 	je	.LBB36_13
 	leaq	368(%rbx), %rdi
 	movq	%r14, %rsi
-	callq	"pie_summary::aggregates::Bounds::take"
+	callq	"pie_summary::aggregates::Bounds::take_rare"
 .LBB36_13:
 	testb	%r15b, %r15b
 	jne	.LBB36_15
 	leaq	392(%rbx), %rdi
 	movq	%r14, %rsi
-	callq	"pie_summary::aggregates::Bounds::take"
+	callq	"pie_summary::aggregates::Bounds::take_rare"
 .LBB36_15:
 	movq	16(%rsp), %rax
 	movq	%rax, 464(%rbx)
@@ -7237,14 +7256,14 @@ pie_reset_summed:
 	je	.LBB55_11
 	leaq	368(%rbx), %rdi
 	movq	%r14, %rsi
-	callq	"pie_summary::aggregates::Bounds::take"
+	callq	"pie_summary::aggregates::Bounds::take_rare"
 	movl	%r15d, %eax
 .LBB55_11:
 	testb	%bpl, %bpl
 	jne	.LBB55_13
 	leaq	392(%rbx), %rdi
 	movq	%r14, %rsi
-	callq	"pie_summary::aggregates::Bounds::take"
+	callq	"pie_summary::aggregates::Bounds::take_rare"
 	movl	%r15d, %eax
 .LBB55_13:
 	movq	16(%rsp), %rcx
@@ -7517,14 +7536,14 @@ pie_set_params_summed:
 	je	.LBB58_11
 	leaq	368(%rbx), %rdi
 	movq	%r14, %rsi
-	callq	"pie_summary::aggregates::Bounds::take"
+	callq	"pie_summary::aggregates::Bounds::take_rare"
 	movl	%r15d, %eax
 .LBB58_11:
 	testb	%bpl, %bpl
 	jne	.LBB58_13
 	leaq	392(%rbx), %rdi
 	movq	%r14, %rsi
-	callq	"pie_summary::aggregates::Bounds::take"
+	callq	"pie_summary::aggregates::Bounds::take_rare"
 	movl	%r15d, %eax
 .LBB58_13:
 	movq	16(%rsp), %rcx
@@ -8028,7 +8047,7 @@ pie_update_summed:
 	leaq	368(%rbx), %rdi
 	movq	%rsi, %r15
 	movq	%r10, %rsi
-	callq	"pie_summary::aggregates::Bounds::take"
+	callq	"pie_summary::aggregates::Bounds::take_rare"
 	movq	%r12, %rdi
 	movq	%r15, %rsi
 	movl	8(%rsp), %eax
@@ -8036,7 +8055,7 @@ pie_update_summed:
 	testb	%dil, %dil
 	je	.LBB61_22
 	leaq	392(%rbx), %rdi
-	callq	"pie_summary::aggregates::Bounds::take"
+	callq	"pie_summary::aggregates::Bounds::take_rare"
 	movl	8(%rsp), %eax
 .LBB61_22:
 	movq	440(%rbx), %rcx
@@ -9566,11 +9585,11 @@ pie_arrive_event:
 	.type	pie_arrive_summed,@function
 pie_arrive_summed:
 	testl	%edx, %edx
-	je	"pie_c::summed::arrive_summed_apart"
+	je	"pie_c::summing::arrive_summed_apart"
 	cmpq	$1, 160(%rdi)
-	jne	"pie_c::summed::arrive_summed_apart"
+	jne	"pie_c::summing::arrive_summed_apart"
 	cmpq	$1, 168(%rdi)
-	ja	"pie_c::summed::arrive_summed_apart"
+	ja	"pie_c::summing::arrive_summed_apart"
 	pushq	%rbp
 	pushq	%r15
 	pushq	%r14
@@ -9797,7 +9816,7 @@ pie_arrive_summed:
 	leaq	392(%r8), %rdi
 	movq	%r14, %rsi
 	movq	%r8, %r14
-	callq	"pie_summary::aggregates::Bounds::take"
+	callq	"pie_summary::aggregates::Bounds::take_rare"
 	movq	%r14, %r8
 .LBB69_43:
 	movq	%r13, 464(%r8)

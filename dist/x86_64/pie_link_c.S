@@ -1617,10 +1617,10 @@
 .LCPI14_0:
 	.quad	1
 	.zero	8
-	.section	".text.core::mem::replace_with::<#a850706781d4648c>","ax",@progbits
+	.section	".text.core::mem::replace_with::<#671c4c241b8f30c2>","ax",@progbits
 	.p2align	4
-	.type	"core::mem::replace_with::<#a850706781d4648c>",@function
-"core::mem::replace_with::<#a850706781d4648c>":
+	.type	"core::mem::replace_with::<#671c4c241b8f30c2>",@function
+"core::mem::replace_with::<#671c4c241b8f30c2>":
 	pushq	%rbp
 	pushq	%r15
 	pushq	%r14
@@ -2303,8 +2303,8 @@
 	callq	"pie_link::pie_link++kept_book++KeptBook+Destruct::drop"
 	ud2
 .Lfunc_end14:
-	.size	"core::mem::replace_with::<#a850706781d4648c>", .Lfunc_end14-"core::mem::replace_with::<#a850706781d4648c>"
-	.section	".rodata.core::mem::replace_with::<#a850706781d4648c>","a",@progbits
+	.size	"core::mem::replace_with::<#671c4c241b8f30c2>", .Lfunc_end14-"core::mem::replace_with::<#671c4c241b8f30c2>"
+	.section	".rodata.core::mem::replace_with::<#671c4c241b8f30c2>","a",@progbits
 	.p2align	2, 0x0
 .LJTI14_0:
 	.long	.LBB14_27-.LJTI14_0
@@ -8165,7 +8165,7 @@ pie_link_try_reset:
 	movups	%xmm0, 48(%rsp)
 	leaq	80(%rsp), %rdi
 	movq	%rsp, %rcx
-	callq	"core::mem::replace_with::<#a850706781d4648c>"
+	callq	"core::mem::replace_with::<#671c4c241b8f30c2>"
 	movzbl	88(%rsp), %eax
 	movq	96(%rsp), %rcx
 	cmpb	$0, 80(%rsp)
@@ -8433,7 +8433,7 @@ pie_link_try_set_params:
 	movq	%rsp, %rcx
 	leaq	8(%r14), %rsi
 	movq	%r8, %rdx
-	callq	"core::mem::replace_with::<#a850706781d4648c>"
+	callq	"core::mem::replace_with::<#671c4c241b8f30c2>"
 	movzbl	80(%rsp), %eax
 	movzbl	88(%rsp), %ecx
 	testb	%al, %al
@@ -8708,7 +8708,7 @@ pie_link_try_update:
 	movups	%xmm0, 48(%rsp)
 	leaq	80(%rsp), %rdi
 	movq	%rsp, %rcx
-	callq	"core::mem::replace_with::<#a850706781d4648c>"
+	callq	"core::mem::replace_with::<#671c4c241b8f30c2>"
 	movzbl	88(%rsp), %eax
 	movq	96(%rsp), %rcx
 	cmpb	$0, 80(%rsp)

@@ -102,7 +102,14 @@ def proved_at(crates):
     return max(os.path.getmtime(it.rlib) for it in crates)
 
 
-def main():
+def release(held):
+    """Releases these locks of crates."""
+    while held:
+        os.close(held.pop())
+
+
+def build(held):
+    """Builds the library. The locks that it takes are added to `held`."""
     os.chdir(ROOT)
     try:
         rtlib = toolchain()
@@ -114,7 +121,7 @@ def main():
             return
         os.makedirs(os.path.dirname(assembly), exist_ok=True)
         print(f"bindings/c/library.py: {CRATE}, over libraries that {'are proved' if proved else 'rt lib proves'}", flush=True)
-        held = rtlib.lock([crate] if proved else [*crate.below(), crate])
+        held += rtlib.lock([crate] if proved else [*crate.below(), crate])
         if is_new():
             # (another call built it meanwhile)
             with_memory()
@@ -123,8 +130,7 @@ def main():
             if compile_with_assembly(rtlib, crate) == 0:
                 with_memory()
                 return
-        for it in held:
-            os.close(it)
+        release(held)
     except (AttributeError, OSError, StopIteration, TypeError) as why:
         # (another toolchain may be arranged otherwise)
         print(f"bindings/c/library.py: {type(why).__name__}: {why}", flush=True)
@@ -135,6 +141,9 @@ def main():
     with_memory()
 
 
-main()
+locks = []
+build(locks)
+# (the other library has crates in common with this one)
+release(locks)
 if len(sys.argv) == 1:
     sys.exit(subprocess.run([os.path.abspath(__file__), "pie_link_c"]).returncode)

@@ -53,6 +53,14 @@ fn numbers(text: &[u8]) -> (u64, u64) {
     (number(29), number(29) + rest.lines().count() as u64 - packets - clocks)
 }
 
+/// Returns the number of events before a text whose memory may have changed while it was read, or 0.
+fn events_before(text: &[u8]) -> u64 {
+    let text = String::from_utf8_lossy(text);
+    let fields: Vec<&str> = text.lines().next().unwrap_or("").split(',').collect();
+    let decay = usize::from(fields.get(6) == Some(&"half"));
+    fields.get(29 + decay).and_then(|it| it.parse().ok()).unwrap_or(0)
+}
+
 /// A text has at least the last `wanted` events, or all.
 fn check_numbers(text: &[u8], wanted: u64, count: u64) {
     let (first, last) = numbers(text);
@@ -390,7 +398,7 @@ fn what_a_killed_process_left() {
             .unwrap();
         let wanted = 1 + u64::from(child.id()) % 2000;
         // (until it has kept some events, however late it has a processor)
-        while !fs::read(&file).is_ok_and(|it| matches!(left(&it), (Ok(()), text) if numbers(&text).1 > 100)) {
+        while !fs::read(&file).is_ok_and(|it| matches!(left(&it), (Ok(()), text) if events_before(&text) > 100)) {
             assert!(child.try_wait().unwrap().is_none(), "the child ended");
             thread::sleep(Duration::from_millis(1));
         }

@@ -22,10 +22,10 @@ needs: nothing
 import os
 import re
 import sys
-from pathlib import Path
 
-ROOT = Path(__file__).resolve().parent.parent.parent
-NAME = os.path.relpath(__file__, ROOT)
+sys.path.insert(0, f"{os.path.dirname(os.path.abspath(__file__))}/../shared")
+from checks import NAME, ROOT, lower_crates  # noqa: E402
+
 CITED = re.compile(r"\bRattle\.(\w+)\.proofs\b")
 LEFT = {"pie_aqm": 5, "pie_audit": 1, "pie_book": 5, "pie_cut": 8, "pie_excerpt": 3, "pie_explain": 2, "pie_guarantees": 8,
         "pie_storm": 2, "pie_summary": 4, "pie_trace": 4}
@@ -94,16 +94,6 @@ def sources(crate):
 def code_of(line):
     """Returns a line of a source without its comment."""
     return "" if COMMENT.match(line) else line if '"' in line else re.sub(r"(?://|--) .*", "", line)
-
-
-def lower_crates():
-    """Returns all crates on which each crate of crates.txt depends."""
-    lines = [line.partition("#")[0] for line in (ROOT / "crates.txt").read_text().splitlines()]
-    below = {line.partition(":")[0].split()[0]: set(line.partition(":")[2].split()) for line in lines if ":" in line}
-    for crate in below:
-        while more := {lower for it in below[crate] for lower in below.get(it, ())} - below[crate]:
-            below[crate] |= more
-    return below
 
 
 def comments(lines):

@@ -16,7 +16,7 @@ import re
 import sys
 
 sys.path.insert(0, f"{os.path.dirname(os.path.abspath(__file__))}/../shared")
-from checks import NAME, ROOT  # noqa: E402
+from checks import NAME, ROOT, lower_crates  # noqa: E402
 
 FUNCTION = re.compile(r'^( *)pub (?:const )?(?:unsafe )?(extern "C" )?fn (\w+)')
 OWNER = re.compile(r"^(?:unsafe )?(?:impl|pub trait|trait)\b(?:<[^{]*?>)? ?(?:[\w:<>', ]+ for )?(\w+)")
@@ -24,16 +24,6 @@ OWNER = re.compile(r"^(?:unsafe )?(?:impl|pub trait|trait)\b(?:<[^{]*?>)? ?(?:[\
 CLAUSE = re.compile(r"^ *(?:requires|ensures|invariant|ghost)\b|^ *(?:pub )?use ")
 OUTSIDE = ("bench", "bindings", "examples", "include", "tests", "fleet", "report")
 ENDINGS = {".c", ".h", ".cc", ".cpp", ".hpp", ".rs", ".py", ".sh"}
-
-
-def stood_on():
-    """Returns all crates on which each crate depends."""
-    lines = [line.partition("#")[0] for line in (ROOT / "crates.txt").read_text().splitlines()]
-    below = {line.partition(":")[0].split()[0]: set(line.partition(":")[2].split()) for line in lines if ":" in line}
-    for crate in below:
-        while more := {lower for it in below[crate] for lower in below.get(it, ())} - below[crate]:
-            below[crate] |= more
-    return below
 
 
 def blocks(line):
@@ -101,7 +91,7 @@ def functions(crate):
 
 
 def main():
-    below = stood_on()
+    below = lower_crates()
     source = {crate: "\n".join(code_of(path.read_text()) for path in (ROOT / "crates" / crate / "src").rglob("*.rt")) for crate in below}
     outside = "\n".join(path.read_text() for folder in OUTSIDE for path in (ROOT / folder).rglob("*")
                         if path.suffix in ENDINGS and path.is_file() and path != ROOT / "include/pie.h")

@@ -40,6 +40,16 @@ def refusing(folder, what):
     return library
 
 
+def lower_crates():
+    """Returns all crates on which each crate of crates.txt depends."""
+    lines = [line.partition("#")[0] for line in (ROOT / "crates.txt").read_text().splitlines()]
+    below = {line.partition(":")[0].split()[0]: set(line.partition(":")[2].split()) for line in lines if ":" in line}
+    for crate in below:
+        while more := {lower for it in below[crate] for lower in below.get(it, ())} - below[crate]:
+            below[crate] |= more
+    return below
+
+
 def check(holds, *what):
     if not holds:
         failures.append(what)

@@ -445,14 +445,17 @@ def control_table():
 
 
 def base_text():
-    """Returns the delay of the empty queue in each kind of bottleneck, in us."""
-    rows = [row for parts in RUNS.rows.values() for blocks in parts.values() for row in blocks.values()]
+    """Returns the delay of the empty queue in each kind of bottleneck, in us, and apart from it that of a link which sends at grants."""
+    every = [(name, row) for (name, _), parts in RUNS.rows.items() for blocks in parts.values() for row in blocks.values()]
+    rows = [row for name, row in every if "--grant" not in SCENARIOS[name]["options"]]
+    granted = {f"`{name}`, {float(row['base']):.1f} ms" for name, row in every if "--grant" in SCENARIOS[name]["options"]}
     parts = []
     for is_ours in (True, False):
         found = [1e3 * float(row["base"]) for row in rows if (row["audit"] != "-") == is_ours]
         least, most = f"{min(found):.0f}", f"{max(found):.0f}"
         parts.append(f"{least} µs" if least == most else f"{least} to {most} µs")
-    return f"{parts[0]} at the link, and by {parts[1]}"
+    grants = f" (with grants: {'; '.join(sorted(granted))})" if granted else ""
+    return f"{parts[0]} at the link{grants}, and by {parts[1]}"
 
 
 def queues_table(scenario, queues, more=()):

@@ -373,8 +373,8 @@ def of_opened_anew(folder):
 # ----- The link
 
 def overload_link(folder):
-    """Sends UDP through the link at twice its rate, in a namespace of its own, until packets were dropped early. The metrics are read when the queue
-    is empty again."""
+    """Sends UDP through the link at twice its rate, in a namespace of its own, until packets were dropped early. The metrics are read when all
+    packets arrived and the queue is empty again."""
     files = {name: Path(folder, f"link.{name}") for name in ("history", "flight", "prom")}
     for file in Path(folder).glob("link.*"):
         file.unlink()
@@ -382,7 +382,9 @@ def overload_link(folder):
              "--flight", files["flight"], "--metrics", files["prom"]]
     process = subprocess.Popen([LINK / "out/link", *words], stdout=subprocess.PIPE, stderr=subprocess.PIPE, text=True)
     wait_for(lambda: Path("/sys/class/net/south").exists() and files["prom"].exists())
-    for line in ("link set north up", "link set south up", f"addr add {HOSTS[0]} peer {HOSTS[1]} dev north"):
+    # (without an IPv6 address the devices send nothing by themselves, so all arrivals are the sender's)
+    for line in ("link set north addrgenmode none", "link set south addrgenmode none", "link set north up", "link set south up",
+                 f"addr add {HOSTS[0]} peer {HOSTS[1]} dev north"):
         subprocess.run(["ip", *line.split()], check=True)
     with socket.socket(socket.AF_INET, socket.SOCK_DGRAM) as sender:
         begun, sent, looked = time.monotonic(), 0, 0
@@ -396,13 +398,15 @@ def overload_link(folder):
             if looked > PATIENCE:
                 break
             time.sleep(0.0007)
-    wait_for(lambda: queue_of(files["prom"].read_text()) == 0)
     # (tx_dropped counts the packets beyond the device's room, which came while the link had no processor)
-    return process, files, sent - int(Path("/sys/class/net/north/statistics/tx_dropped").read_text())
+    sent -= int(Path("/sys/class/net/north/statistics/tx_dropped").read_text())
+    wait_for(lambda: has_all(read(files["prom"].read_text()), sent))
+    return process, files, sent
 
 
-def queue_of(text):
-    return read(text)["queue_packets"]
+def has_all(samples, sent):
+    """An empty queue is not enough: the device may still hold packets that the link has not read."""
+    return samples["arrived_packets_total"] >= sent and samples["queue_packets"] == 0
 
 
 def of_link(folder):

@@ -12,8 +12,11 @@ With --share, a part of the gate after `rt ci` whose libraries it uses, it tries
 the same. So 40 days try all, and the same commit tries the same mutations. A mutation that needs a check of a whole crate that is not small is
 reported as NOT RUN.
 
-usage: tests/mutations.py [--jobs N] [CRATE | CRATE/NAME ..]    such as pie_book, or pie_book/departs_half; all by default
-       tests/mutations.py [--jobs N] --share [DAY]              DAY: a number of days, in place of the commit's day"""
+With --read, nothing is proved: it names each mutation that the prover can't read, for example because a type changed. Such a mutation fails the gate
+on the day of its share.
+
+usage: tests/mutations.py [--jobs N] [--read] [CRATE | CRATE/NAME ..]    such as pie_book, or pie_book/departs_half; all by default
+       tests/mutations.py [--jobs N] --share [DAY]                       DAY: a number of days, in place of the commit's day"""
 import argparse
 import functools
 import os
@@ -48,7 +51,7 @@ FUNCTION = re.compile(r"( *)(?:pub(?:\(\w+\))? )?(?:unsafe )?(?:extern \"C\" )?f
 CALLED = re.compile(r"\b(\w+)(?:::<[^()]*>)?\(")
 # The prover's messages at a limit of its own, and for a text that it cannot read.
 LIMIT = re.compile(r"antt ran out of|outgrew the memory limit|stopped at the step limit")
-UNREAD = re.compile(r"error\[[\w-]+\]|src/\S+: error: (?!`)|(is not in scope|is no name|operand is missing|expected the end|cannot continue)")
+UNREAD = re.compile(r"error\[[\w-]+\]|error: rattle does not read|src/\S+: error: (?!`)|(is not in scope|is no name|operand is missing|expected the end|cannot continue)")
 # A refusal that shows little: a proof file uses a name that the edit removed.
 NAMES = re.compile(r"(note: )?(\./)?proofs/.*(has no field|is not in scope|has no `|was not admitted)")
 
@@ -247,9 +250,9 @@ def judged(done):
         return True, "refused by a limit of the prover alone"
     if done.returncode != 1 or not re.match(r"only=\d+ proved=|logic=not-proved", lines[-1]):
         return False, "NOT TRIED: " + "\n".join(["the prover gave no verdict", *lines[-6:]])
-    unread = next((line for line in told if re.match(r"(\./)?(src|specs)/", line) and UNREAD.search(line)), "")
-    if unread:
-        return False, f"BAD EDIT: the prover can't read it: {unread[:200]}"
+    cause = next((line for line in lines if re.match(r"(\./)?(src|specs)/|.*: error: rattle does", line) and UNREAD.search(line)), "")
+    if cause:
+        return False, f"BAD EDIT: the prover can't read it: {cause[:200]}"
     only = " (only because a proof file names what the edit took away)" if told and not first else ""
     return True, f"refused{only}{': ' if first else ''}{first[:140]}"
 
@@ -291,6 +294,17 @@ def tried_in_turn(kit, groups, is_share):
     """Returns the results of each mutation of these batches of one crate."""
     with tempfile.TemporaryDirectory(prefix="pie-mutation-kept-") as kept:
         return [said for batch in groups for said in tried(kit, kept if len(groups) > 1 else None, batch, is_share)]
+
+
+def unread(kit, batch):
+    """Returns each mutation of a batch that the prover can't read, and its message."""
+    done = checked(kit, None, batch, [""])
+    if done.returncode == 0:
+        return []
+    if len(batch) == 1:
+        return [(batch[0].name, next((line for line in done.stdout.splitlines() if UNREAD.search(line)), done.stdout[-200:]))]
+    half = len(batch) // 2
+    return [*unread(kit, batch[:half]), *unread(kit, batch[half:])]
 
 
 def goals_of(batch):
@@ -388,6 +402,7 @@ def main():
     parser = argparse.ArgumentParser(usage=__doc__.split("usage: ")[1])
     parser.add_argument("--jobs", type=int, default=os.cpu_count())
     parser.add_argument("--share", type=int, nargs="?", const=-1)
+    parser.add_argument("--read", action="store_true")
     parser.add_argument("names", nargs="*")
     given = parser.parse_args()
     rt = shutil.which("rt")
@@ -407,6 +422,13 @@ def main():
         build_below(mutations)
         parts = by_crate(batches(mutations))
     kit, begun, used, counts = Path(rt).resolve().parent.parent, time.monotonic(), seconds(), {True: 0, False: 0, None: 0}
+    if given.read and given.share is None:
+        with ThreadPoolExecutor(max(given.jobs, 1)) as pool:
+            found = [it for part in pool.map(lambda it: unread(kit, it), batches(mutations)) for it in part]
+        for name, text in found:
+            print(f"{ME}: {name}: BAD EDIT: {text}")
+        print(f"{ME}: {len(mutations)} mutations, of which the prover can't read {len(found)}")
+        return int(bool(found))
     with ThreadPoolExecutor(max(given.jobs, 1)) as pool:
         for found in pool.map(lambda it: tried_in_turn(kit, it, given.share is not None), parts):
             for it, is_refused, text in found:

@@ -75,22 +75,28 @@ def used(path):
     return found
 
 
-def answers_of(law):
-    """Returns the file that proves a law."""
+def proof_of(law):
+    """Returns the text that proves a law, and the files of pie_guarantees that the text uses: its answers, or the lemmas of its attribute."""
     found = list((LAWS / "proofs").glob(f"*/{law}/Answers.antt"))
-    if len(found) != 1:
-        sys.exit(f"tests/wrong_rules.py: {len(found)} files prove {law}")
-    return found[0]
+    if found:
+        return found[0].read_text(), [path for path in used(found[0]) if path != found[0]]
+    for path in (LAWS / "src").glob("*.rt"):
+        if using := re.search(rf"^#\[tactic\(auto, using\(([^)]*)\).*\npub fn {law}\b", path.read_text(), re.M):
+            lemmas = re.findall(r"crate::proofs::(\w+)::(\w+)", using[1])
+            files = [file for name, _ in lemmas for file in used(LAWS / "proofs" / f"{name}.antt")]
+            return " ".join(lemma for _, lemma in lemmas), sorted(set(files))
+    sys.exit(f"tests/wrong_rules.py: nothing proves {law}")
 
 
 def rests_on(law):
     """Returns the lemmas on which a law depends, by the words of their proofs: each with its file."""
     texts = {}
-    for path in used(answers_of(law)):
+    proof, files = proof_of(law)
+    for path in files:
         starts = [*LEMMA.finditer(path.read_text())]
         for found, after in zip(starts, [*starts[1:], None]):
             texts.setdefault(found[1], []).append((path.stem, path.read_text()[found.end():after.start() if after else None]))
-    names, todo = set(), [answers_of(law).read_text()]
+    names, todo = set(), [proof]
     while todo:
         new = {word for word in re.findall(r"[^\s(){},;.]+", todo.pop()) if word in texts} - names
         names |= new
@@ -135,7 +141,7 @@ class Crate:
                 sys.exit(f"tests/wrong_rules.py: {path}: {texts[ROOT / path].count(old)} times: {old}")
             if is_wrong:
                 texts[ROOT / path] = texts[ROOT / path].replace(old, new)
-        texts |= {path: path.read_text() for law in rule["law"] for path in used(answers_of(law)) if path.name != "Answers.antt"}
+        texts |= {path: path.read_text() for law in rule["law"] for path in proof_of(law)[1]}
         own = {}
         for path in sorted((LAWS / "specs").glob("*.antt")):
             if path.stem != "Lib":

@@ -14,9 +14,9 @@ pub use Rattle.std.specs.Prelude.{if◌then◌else◌, ◌||◌}
 pub use Rattle.pie_audit.specs.{All, Answer, Appends, AreLegal, AuditorView, Audits, Preamble, BeginsAt, BeginsBy, BegunBy, CanBeMade, Clean, RemainingLines}
 pub use Rattle.pie_audit.specs.{Command, CoreView, Differs, Err, Event, EventFits, FaultedBy, FindsAfter, FindsBy, Follows, FollowsFrom, Resumes}
 pub use Rattle.pie_audit.specs.{Going, HasField, VisitedFrom, IfErr, IfOk, IfSome, IsFirstWrong, IsFound, IsLegal, IsLegalAt, NoDeviceFailedBy, IsWrite, IsWrong}
-pub use Rattle.pie_audit.specs.{Line, LinePlace, LinesAt, LinesRead, LinesView, Made, None, Note, Ok, OnOk, Opening, Option, ParamsFit, Result, Row}
+pub use Rattle.pie_audit.specs.{Line, LinePlace, LinesAt, LinesRead, LinesView, Valid, None, Note, Ok, OnOk, Opening, Option, ParamsFit, Result, Row}
 pub use Rattle.pie_audit.specs.{Setter, Represents, Some, CoreSnapshot, TakesRow, IsHistoryText, IsExcerptText, IsSetterAfter, TextProcessedBy, Three, ProcessedBy, TraceFault}
-pub use Rattle.pie_audit.specs.{Unmakeable, active_after, after_line, remaining_after_opening, remaining_by, remaining_from, counted_with, decision, differs}
+pub use Rattle.pie_audit.specs.{Invalid, active_after, after_line, remaining_after_opening, remaining_by, remaining_from, counted_with, decision, differs}
 pub use Rattle.pie_audit.specs.{differs_at, event_in, event_row, fault_after, fault_by, filter_map, find, finding_after, finding_by}
 pub use Rattle.pie_audit.specs.{is_active_after, is_device, is_resumed, is_same_answer, is_some, lines_after, min, nat_lt, next_number, number_of}
 pub use Rattle.pie_audit.specs.{opening_refusal, option_map, resumed_rows, records_of, refusal_by_rule, same_answers, sets_after, sets_probability}

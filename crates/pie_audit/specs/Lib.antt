@@ -10,6 +10,7 @@ pub mod Setters
 pub mod Start
 pub mod Follower
 pub mod Lines
+pub mod Kinds
 pub mod Preambles
 unfoldable pub use Names.*
 unfoldable pub use Agreement.*
@@ -23,4 +24,5 @@ unfoldable pub use Setters.*
 unfoldable pub use Start.*
 unfoldable pub use Follower.*
 unfoldable pub use Lines.*
+unfoldable pub use Kinds.*
 unfoldable pub use Preambles.*

@@ -38,5 +38,5 @@ pub use Rattle.pie_record.specs.Write.{event_row, written_rows}
 pub use Rattle.pie_record.specs.declared.fault.TraceFault.{TraceFault}
 pub use Rattle.pie_record.specs.declared.history_reader.ReaderState.TheVariants.{Faulted, Going}
 pub use Rattle.pie_record.specs.declared.history_record.Line.{Line}
-pub use Rattle.pie_record.specs.declared.history_record.Line.TheVariants.{Made, Note, Unmakeable}
+pub use Rattle.pie_record.specs.declared.history_record.Line.TheVariants.{Valid, Note, Invalid}
 pub use Rattle.pie_record.specs.declared.version.Version.TheVariants.{Three}

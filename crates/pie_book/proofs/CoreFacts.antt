@@ -287,7 +287,7 @@ module _ (opening : Opening) (core : CoreView) (history : List Event) (shows : R
       let waiting : waiting_next core.waiting now d ≡ waiting_after opening (history ++ event ∷ []) =
       (λ i. waiting_next (shows.waiting i) (max (shows.moment i) (caller_moment command)) d)
       ∙ sym (waiting_after-push opening history event (departed-of-legal opening history shows.legal)) in
-      let told : controller_event d (arriving_size command) (oldest_since core.waiting) (bytes_of core.waiting)
+      let controller_is : controller_event d (arriving_size command) (oldest_since core.waiting) (bytes_of core.waiting)
       (bytes_of (waiting_next core.waiting now d)) (caller_moment command) ≡ controller_event_at opening (place_of history event) =
       λ i. controller_event d (arriving_size command) (oldest_since (shows.waiting i)) (bytes_of (shows.waiting i)) (bytes_of (waiting i))
       (caller_moment command) in
@@ -307,7 +307,7 @@ module _ (opening : Opening) (core : CoreView) (history : List Event) (shows : R
         count = rw (shows.count, length-append history (event ∷ [])) refl;
         moment = moment-next core command ∙ moment;
         waiting = waiting;
-        controller = rw (controller_events-push opening history event, ← told, controller_event-command core now command)
+        controller = rw (controller_events-push opening history event, ← controller_is, controller_event-command core now command)
             (Represents_call (opened_of opening) (controller_events opening history) core.held shows.controller (call_in core command) small);
         stats = counts ∙ sym (stats_after-push opening history event);
       }

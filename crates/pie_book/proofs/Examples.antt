@@ -151,8 +151,8 @@ tails = (refl, refl, refl, refl)
 
 -- the event of an entry of the tail is the recorded one, for any event; an answer that the command cannot have is
 -- stored as no effect
-entries : let told = λ (events : List Event). map (λ e. event_of_entry (recorded_event_in e)) events in
-    (told (history 14) ≡ history 14) × (told three ≡ three) × (told (event_of 3 (Depart 4) Marked ∷ []) ≡ event_of 3 (Depart 4) Empty ∷ [])
+entries : let recorded = λ (events : List Event). map (λ e. event_of_entry (recorded_event_in e)) events in
+    (recorded (history 14) ≡ history 14) × (recorded three ≡ three) × (recorded (event_of 3 (Depart 4) Marked ∷ []) ≡ event_of 3 (Depart 4) Empty ∷ [])
 unfolding worked
 entries = (refl, refl, refl)
 

@@ -33,20 +33,20 @@ impl Core {
         ensures after { OnOk result (self.new ≡ core_after self.old command) }
         ensures refused { OnErr result (self.new ≡ self.old) }
     {
-        match self.taken(&command) {
+        match self.check(&command) {
             Ok(moment) => Ok(self.advance(caller, moment, command).answer()),
             Err(why) => Err(why),
         }
     }
 
     /// Returns the moment of the command, or the refusal of the command without regard to the tail.
-    pub(crate) fn taken(&self, command: &Command) -> Result<Nanos, Refusal>
+    pub(crate) fn check(&self, command: &Command) -> Result<Nanos, Refusal>
         ensures refused { IfErr result (λ why. refusal_of self.now command.now ≡ Some why) }
         ensures taken { IfOk result (λ _. refusal_of self.now command.now ≡ None) }
         ensures moment { IfOk result (λ moment. moment ≡ caller_moment command.now) }
         ensures room { IfOk result (λ _. self.now.count < self.now.events) }
     {
-        self.raw.taken(command)
+        self.raw.check(command)
     }
 
     /// Decides a command that is not refused, at its moment `moment`, and counts it. Returns the event.
@@ -73,7 +73,7 @@ impl Core {
 
 impl RawCore {
     /// Returns the moment of the command, or its refusal, from the parts of the core.
-    fn taken(&self, command: &Command) -> Result<Nanos, Refusal>
+    fn check(&self, command: &Command) -> Result<Nanos, Refusal>
         ensures refused { IfErr result (λ why. refusal_of self.now command.now ≡ Some why) }
         ensures taken { IfOk result (λ _. refusal_of self.now command.now ≡ None) }
         ensures moment { IfOk result (λ moment. moment ≡ caller_moment command.now) }

@@ -1,14 +1,13 @@
 -- Names from lower crates that the files of this folder use, in one place.
 pub use Rattle.pie_c.specs.Names.{Opening}
-pub use Rattle.pie_c.specs.{last_moment, profile_number, profile_of, opening_in, opening_of, is_bad_size, verdict_number}
-pub use Rattle.pie_c.specs.{PieOpening, RawParams, Depart, Held, IsSound, arrived, capped, departed, opened, updated, arrival_of}
-pub use Rattle.pie_c.specs.{departure_refusal, if_taken, unless_refused, waited_refusal, held_by_opening, takes_stamps, with_arrival, with_departure}
-pub use Rattle.pie_c.specs.{with_rate, with_registers, PieState, Event, first_bad, default_profile, Ecn}
+pub use Rattle.pie_c.specs.{last_moment, profile_number, profile_of, opening_in, opening_of, is_bad_size, verdict_number, PieOpening, RawParams}
+pub use Rattle.pie_c.specs.{Depart, Held, IsSound, arrived, capped, departed, opened, updated, arrival_of, departure_refusal, if_taken}
+pub use Rattle.pie_c.specs.{unless_refused, waited_refusal, held_by_opening, takes_stamps, with_arrival, with_departure, with_rate, with_registers}
+pub use Rattle.pie_c.specs.{PieState, Event, first_bad, default_profile, Ecn}
 unfoldable pub use Rattle.pie_c.specs.{choices_of, elements_of, opening_refusal, are_in_range, cause, verdict, arrival_refusal, moment_refusal}
-unfoldable pub use Rattle.pie_c.specs.{packet_refusal, reset_refusal, update_refusal, held_in, is_activity_sound, is_rate_sound}
-unfoldable pub use Rattle.pie_c.specs.{is_sound, state_of}
+unfoldable pub use Rattle.pie_c.specs.{packet_refusal, reset_refusal, update_refusal, held_in, is_activity_sound, is_rate_sound, is_sound, state_of}
 pub use Rattle.std.proofs.Common.{Bool, List, None, Some, [], ap, arith, false, if◌then◌else◌, min, nat_le, nat_lt, refl, rules, subst, suc, sym}
-pub use Rattle.std.proofs.Common.{true, ℕ, ◌&&◌, ◌++◌, ◌<◌, ◌==◌, ◌^◌, ◌∙◌, ◌∷◌, ◌≡◌, ◌≤◌}
+pub use Rattle.std.proofs.Common.{true, ℕ, ◌++◌, ◌<◌, ◌==◌, ◌^◌, ◌∙◌, ◌∷◌, ◌≡◌, ◌≤◌}
 pub use Rattle.std.proofs.lemmas.Bool.{eqb-true}
 pub use Rattle.std.proofs.lemmas.Bool.Decides.{nat_tests}
 pub use Rattle.pie_aqm.specs.Steps.{passed, with_count}
@@ -16,7 +15,7 @@ unfoldable pub use Rattle.pie_aqm.specs.Steps.{accu_left, count_kept_open, is_un
 pub use Rattle.pie_aqm.specs.declared.verdict.ArrivingPacket.{ArrivingPacket}
 unfoldable pub use Rattle.pie_book.specs.History.{waiting_after}
 pub use Rattle.pie_event.specs.CauseName.{name_of, place_of_cause}
-pub use Rattle.pie_event.specs.declared.profile.Profile.TheVariants.{One, Two}
+pub use Rattle.pie_event.specs.declared.profile.Profile.TheVariants.{One}
 pub use Rattle.pie_event.specs.declared.verdict.Verdict.{Verdict}
 pub use Rattle.pie_params.specs.Elements.{usual}
 pub use Rattle.pie_params.specs.declared.elements.Decay.TheVariants.{Half}
@@ -24,4 +23,3 @@ pub use Rattle.pie_params.specs.declared.elements.Delay.TheVariants.{Stamp}
 pub use Rattle.pie_params.specs.declared.elements.Picking.TheVariants.{Random}
 pub use Rattle.pie_params.specs.declared.elements.Size.TheVariants.{Scaled}
 pub use Rattle.pie_params.specs.declared.elements.Step.TheVariants.{Uncapped}
-pub use Rattle.pie_params.specs.declared.raw.RawParams.{RawParams}

@@ -18,8 +18,8 @@ unmoved before after refusal held is = grind (arith, nat_tests)
 -- an event with this explanation is recorded as `noted` if the fields for its kind are
 pub explained-as : (before after : PieState) (day : Option Clock) (made : Event) (decided : Option Cause) (wait : ℕ) (one : Explained) (met : Conditions) (noted : MeterInput)
     → met ≡ conditions_of (before.active == 1) before.params.target before.last after → ExplainsCall before after day made decided wait one
-    → (HasConditions met one → one.told.event.answer ≡ made.answer → size_in one ≡ size_by made.command → noted ≡ meter_input_of one)
-    → (noted ≡ meter_input_of one) × (one.told.clock ≡ day)
+    → (HasConditions met one → one.explanation.event.answer ≡ made.answer → size_in one ≡ size_by made.command → noted ≡ meter_input_of one)
+    → (noted ≡ meter_input_of one) × (one.explanation.clock ≡ day)
 explained-as before after day made decided wait one met noted is tells notes = (
   notes (subst (λ (m : Conditions). HasConditions m one) (sym is) tells.meets) (ap (λ (e : Event). e.answer) tells.event)
       (ap (λ (e : Event). size_by e.command) tells.event),
@@ -29,10 +29,10 @@ explained-as before after day made decided wait one met noted is tells notes = (
 -- a call adds its event as `Adds` states, if its flag is true exactly without a refusal
 pub adds-by : (refusal : ℕ) (before after : LivePeriod) (explained-as : Explained → Type 0) (taken : Bool) (noted : MeterInput) → IsSet before after
     → (taken ≡ false → after ≡ before)
-    → ((all : List Explained) (one : Explained) → taken ≡ true → noted ≡ meter_input_of one → one.told.clock ≡ clock_of before → Holds before all
+    → ((all : List Explained) (one : Explained) → taken ≡ true → noted ≡ meter_input_of one → one.explanation.clock ≡ clock_of before → Holds before all
     → Holds after (all ++ one ∷ []))
     → Decides taken (refusal ≡ 0)
-    → ((one : Explained) → refusal ≡ 0 → explained-as one → (noted ≡ meter_input_of one) × (one.told.clock ≡ clock_of before))
+    → ((one : Explained) → refusal ≡ 0 → explained-as one → (noted ≡ meter_input_of one) × (one.explanation.clock ≡ clock_of before))
     → Adds refusal before after explained-as
 adds-by refusal before after explained-as taken noted set same adds decides is = record {
   refused = λ r. grind (arith, same, decides);

@@ -23,18 +23,18 @@ conditions_of was held last after = record {
 -- the explanation of an event that changed the state `before` to `after`, with this cause and this time of the departed
 -- packet in the queue
 pub record ExplainsCall (before after : PieState) (day : Option Clock) (made : Event) (decided : Option Cause) (wait : ℕ) (one : Explained) : Type 0 where
-  pub event : one.told.event ≡ made
-  pub cause : one.told.cause ≡ decided
-  pub waited : one.told.waited ≡ wait
-  pub clock : one.told.clock ≡ day
+  pub event : one.explanation.event ≡ made
+  pub cause : one.explanation.cause ≡ decided
+  pub waited : one.explanation.waited ≡ wait
+  pub clock : one.explanation.clock ≡ day
   pub meets : HasConditions (conditions_of (before.active == 1) before.params.target before.last after) one
 
 -- the sums after a call with this refusal: if they are those of some events, they are then those of these and one more
 -- event with this explanation; after a refusal they are unchanged
-pub record Adds (refusal : ℕ) (before after : LivePeriod) (told : Explained → Type 0) : Type 0 where
+pub record Adds (refusal : ℕ) (before after : LivePeriod) (explains : Explained → Type 0) : Type 0 where
   pub refused : (refusal ≡ 0 → ⊥) → after ≡ before
   pub settings : IsSet before after
-  pub adds : (all : List Explained) (one : Explained) → refusal ≡ 0 → told one → Holds before all → Holds after (all ++ one ∷ [])
+  pub adds : (all : List Explained) (one : Explained) → refusal ≡ 0 → explains one → Holds before all → Holds after (all ++ one ∷ [])
 
 -- the event of an arrival: its verdict and its cause, which does not depend on the number of packets
 abbrev pub AddsArrival : PieState → ℕ → ℕ → PieEvent → LivePeriod → PieState → PieEvent → LivePeriod → Type 0

@@ -21,7 +21,7 @@ pub extern "C" fn pie_open_period(period: &mut LivePeriod, every: u64, wall: u32
     ensures refused { (every_refusal every ≡ 0 → ⊥) → period.new ≡ period.old }
     ensures every { every_refusal every ≡ 0 → period.new.every ≡ every }
     ensures wall { every_refusal every ≡ 0 → period.new.wall ≡ (if wall == 0 then 0 else 1) }
-    ensures unwritten { every_refusal every ≡ 0 → period.new.told ≡ 0 }
+    ensures no_clock { every_refusal every ≡ 0 → period.new.told ≡ 0 }
     ensures holds { every_refusal every ≡ 0 → Holds period.new [] }
 {
     if every == 0 || every > MAX_NANOS {
@@ -37,7 +37,7 @@ pub extern "C" fn pie_open_period(period: &mut LivePeriod, every: u64, wall: u32
 #[tactic(auto, unfolding(crate::specs::Calls::moment_refusal))]
 pub extern "C" fn pie_period_clock(period: &mut LivePeriod, moment: u64, unix: u64) -> u32
     ensures code { result ≡ moment_refusal moment }
-    ensures written { period.new ≡ (if moment_refusal moment == 0
+    ensures clock { period.new ≡ (if moment_refusal moment == 0
         then record period.old { told = 1; clock_moment = moment; clock_unix = unix } else period.old) }
     ensures holds { (all : List Explained) → Holds period.old all → Holds period.new all }
 {

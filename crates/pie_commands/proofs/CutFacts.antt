@@ -13,9 +13,9 @@ last-faulted many known why before counts =
     inr (Err (Trace why), refl, IfSome_then known counts (λ text fault. (Err why, fault, (refl, refl))))
 
 -- the events were counted, and the excerpt up to the last of them was cut
-pub last-told : (many number : ℕ) (known : Option (List ℕ)) (end : End) (before now : Option (List ℕ))
+pub last-counted : (many number : ℕ) (known : Option (List ℕ)) (end : End) (before now : Option (List ℕ))
     → IfSome known (λ text. LastEither (records_of text) (Ok number)) → EndsBy end_of_cut (CutsEither (last_of number many)) known end before now
     → EndsBy end_of_cut (CutsLast many) known end before now
-last-told many number known end before now counts (inl end_unable) = inl end_unable
-last-told many number known end before now counts (inr (given, is, cuts)) =
+last-counted many number known end before now counts (inl end_unable) = inl end_unable
+last-counted many number known end before now counts (inr (given, is, cuts)) =
     inr (given, is, IfSome_then known (if-all known _ _ _ counts cuts cuts) (λ text both. (Ok number, both.0, both.1)))

@@ -16,18 +16,18 @@ use Rattle.pie_record.specs.declared.fault.TraceFault.TheVariants as trace_fault
 
 -- the result of a file is the result of its text
 pub tells-given : {R : Type 0} (works joined : Bool) (remaining : R → Option (List ℕ)) (first : R) (input : Option R)
-    (files : Text → Option (List ℕ)) (earlier : List Text) (name : Text) (before : Option EndView) (told : Result Joined Unaudited)
+    (files : Text → Option (List ℕ)) (earlier : List Text) (name : Text) (before : Option EndView) (outcome : Result Joined Unaudited)
     (after : Option EndView) → IsLeft first earlier input
-    → HasReadOutcome joined ((works ≡ true) × CanOpen input (files name) name) (ReadsNamed remaining input files name) before told after
-    → HasTextOutcome joined ((works ≡ true) × (opens_after files earlier name ≡ true)) (text_given (remaining first) files (Some name)) before told after
-tells-given {R} works joined remaining first input files earlier name before told after left tells = by joined told tells
+    → HasReadOutcome joined ((works ≡ true) × CanOpen input (files name) name) (ReadsNamed remaining input files name) before outcome after
+    → HasTextOutcome joined ((works ≡ true) × (opens_after files earlier name ≡ true)) (text_given (remaining first) files (Some name)) before outcome after
+tells-given {R} works joined remaining first input files earlier name before outcome after left tells = by joined outcome tells
   where
     is : (known : Option (List ℕ)) → ReadsNamed remaining input files name known → known ≡ text_given (remaining first) files (Some name)
     is known reads = reads-given remaining first input files name known (left-stays first earlier input left) reads
 
-    by : (joined : Bool) (told : Result Joined Unaudited)
-        → HasReadOutcome joined ((works ≡ true) × CanOpen input (files name) name) (ReadsNamed remaining input files name) before told after
-        → HasTextOutcome joined ((works ≡ true) × (opens_after files earlier name ≡ true)) (text_given (remaining first) files (Some name)) before told after
+    by : (joined : Bool) (outcome : Result Joined Unaudited)
+        → HasReadOutcome joined ((works ≡ true) × CanOpen input (files name) name) (ReadsNamed remaining input files name) before outcome after
+        → HasTextOutcome joined ((works ≡ true) × (opens_after files earlier name ≡ true)) (text_given (remaining first) files (Some name)) before outcome after
     by joined (Err Unopened) tells = (λ opens. tells.0 (opens.0, opens-left first files earlier input name left opens.1), tells.1)
     by joined (Err (Faulty why)) tells =
         (subst (λ (k : Option (List ℕ)). IfSome k (λ text. FindsEither (records_of text) (Err why))) (is tells.0 tells.1) tells.2.0, tells.2.1)
@@ -42,27 +42,27 @@ any-more : {X : Type 0} (test : X → Bool) (xs : List X) (x : X) (before : Bool
 any-more test xs x before is = grind (arith, nat_tests, list_any-append)
 
 -- the lines of the files, with one more
-lines-more : (told : List FileOutcome) (one : FileOutcome) → flat_map outcome_lines (told ++ one ∷ []) ≡ flat_map outcome_lines told ++ outcome_lines one
-lines-more told one =
-    flat_map-append outcome_lines told (one ∷ []) ∙ ap (λ (line : List ℕ). flat_map outcome_lines told ++ line) (append-nil (outcome_lines one))
+lines-more : (outcomes : List FileOutcome) (one : FileOutcome) → flat_map outcome_lines (outcomes ++ one ∷ []) ≡ flat_map outcome_lines outcomes ++ outcome_lines one
+lines-more outcomes one =
+    flat_map-append outcome_lines outcomes (one ∷ []) ∙ ap (λ (line : List ℕ). flat_map outcome_lines outcomes ++ line) (append-nil (outcome_lines one))
 
 -- one file more at the end
-told-more : (works joined : Bool) (input : Option (List ℕ)) (files : Text → Option (List ℕ)) (earlier : List Text) (before : Option EndView)
-    (told : List FileOutcome) (between : Option EndView) (one : FileOutcome) (after : Option EndView) → HaveOutcomes works joined input files earlier before told between
-    → HasTextOutcome joined ((works ≡ true) × (opens_after files (earlier ++ map (λ t. t.0) told) one.0 ≡ true)) (text_given input files (Some one.0)) between
+outcomes-more : (works joined : Bool) (input : Option (List ℕ)) (files : Text → Option (List ℕ)) (earlier : List Text) (before : Option EndView)
+    (outcomes : List FileOutcome) (between : Option EndView) (one : FileOutcome) (after : Option EndView) → HaveOutcomes works joined input files earlier before outcomes between
+    → HasTextOutcome joined ((works ≡ true) × (opens_after files (earlier ++ map (λ t. t.0) outcomes) one.0 ≡ true)) (text_given input files (Some one.0)) between
     one.1 after
-    → HaveOutcomes works joined input files earlier before (told ++ one ∷ []) after
-told-more works joined input files earlier before [] between one after told is =
+    → HaveOutcomes works joined input files earlier before (outcomes ++ one ∷ []) after
+outcomes-more works joined input files earlier before [] between one after have is =
     let first : HasTextOutcome joined ((works ≡ true) × (opens_after files earlier one.0 ≡ true)) (text_given input files (Some one.0)) between one.1 after =
     subst (λ (e : List Text). HasTextOutcome joined ((works ≡ true) × (opens_after files e one.0 ≡ true)) (text_given input files (Some one.0)) between one.1
     after) (append-nil earlier) is in
     let here : HasTextOutcome joined ((works ≡ true) × (opens_after files earlier one.0 ≡ true)) (text_given input files (Some one.0)) before one.1 after =
     subst (λ (e : Option EndView). HasTextOutcome joined ((works ≡ true) × (opens_after files earlier one.0 ≡ true)) (text_given input files (Some one.0)) e
-    one.1 after) told first in (after, here, refl)
-told-more works joined input files earlier before (first ∷ more) between one after told is = (
-  told.0,
-  told.1,
-  told-more works joined input files (earlier ++ first.0 ∷ []) told.0 more between one after told.2
+    one.1 after) have first in (after, here, refl)
+outcomes-more works joined input files earlier before (first ∷ more) between one after have is = (
+  have.0,
+  have.1,
+  outcomes-more works joined input files (earlier ++ first.0 ∷ []) have.0 more between one after have.2
       (subst (λ (e : List Text). HasTextOutcome joined ((works ≡ true) × (opens_after files e one.0 ≡ true)) (text_given input files (Some one.0)) between one.1
       after) (sym (append_assoc earlier (first.0 ∷ []) (map (λ t. t.0) more))) is),
 )
@@ -70,30 +70,30 @@ told-more works joined input files earlier before (first ∷ more) between one a
 pub audits-none : (works joined : Bool) (input : Option (List ℕ)) (files : Text → Option (List ℕ)) (before : Option (List ℕ))
     → AuditsFiles works joined input files [] false false None before before
 audits-none works joined input files before = record {
-  told = [];
+  outcomes = [];
   in_order = refl;
-  outcomes = refl;
+  audited = refl;
   written = Appends-nil before;
   any_unaudited = refl;
   any_broken = refl;
 }
 
 pub audits-more : (works joined : Bool) (input : Option (List ℕ)) (files : Text → Option (List ℕ)) (names : List Text) (unfound broken : Bool)
-    (end after : Option EndView) (before mid now : Option (List ℕ)) (name : Text) (told : Result Joined Unaudited)
+    (end after : Option EndView) (before mid now : Option (List ℕ)) (name : Text) (outcome : Result Joined Unaudited)
     → AuditsFiles works joined input files names unfound broken end before mid
-    → HasTextOutcome joined ((works ≡ true) × (opens_after files names name ≡ true)) (text_given input files (Some name)) end told after
-    → Appends mid now (lines_of name told)
-    → AuditsFiles works joined input files (names ++ name ∷ []) (unfound || is_unfound told) (broken || is_broken told) after before now
-audits-more works joined input files names unfound broken end after before mid now name told audits tells written = record {
-  told = audits.told ++ (name, told) ∷ [];
-  in_order = map-append (λ (t : FileOutcome). t.0) audits.told ((name, told) ∷ []) ∙ ap (λ (all : List Text). all ++ name ∷ []) audits.in_order;
-  outcomes = told-more works joined input files [] None audits.told end (name, told) after audits.outcomes
-      (subst (λ (e : List Text). HasTextOutcome joined ((works ≡ true) × (opens_after files e name ≡ true)) (text_given input files (Some name)) end told after)
+    → HasTextOutcome joined ((works ≡ true) × (opens_after files names name ≡ true)) (text_given input files (Some name)) end outcome after
+    → Appends mid now (lines_of name outcome)
+    → AuditsFiles works joined input files (names ++ name ∷ []) (unfound || is_unfound outcome) (broken || is_broken outcome) after before now
+audits-more works joined input files names unfound broken end after before mid now name outcome audits tells written = record {
+  outcomes = audits.outcomes ++ (name, outcome) ∷ [];
+  in_order = map-append (λ (t : FileOutcome). t.0) audits.outcomes ((name, outcome) ∷ []) ∙ ap (λ (all : List Text). all ++ name ∷ []) audits.in_order;
+  audited = outcomes-more works joined input files [] None audits.outcomes end (name, outcome) after audits.audited
+      (subst (λ (e : List Text). HasTextOutcome joined ((works ≡ true) × (opens_after files e name ≡ true)) (text_given input files (Some name)) end outcome after)
       (sym audits.in_order) tells);
-  written = rw (lines-more audits.told (name, told)) (Appends-trans before mid now (flat_map outcome_lines audits.told) (lines_of name told)
+  written = rw (lines-more audits.outcomes (name, outcome)) (Appends-trans before mid now (flat_map outcome_lines audits.outcomes) (lines_of name outcome)
       audits.written written);
-  any_unaudited = any-more (λ (t : FileOutcome). is_unfound t.1) audits.told (name, told) unfound audits.any_unaudited;
-  any_broken = any-more (λ (t : FileOutcome). is_broken t.1) audits.told (name, told) broken audits.any_broken;
+  any_unaudited = any-more (λ (t : FileOutcome). is_unfound t.1) audits.outcomes (name, outcome) unfound audits.any_unaudited;
+  any_broken = any-more (λ (t : FileOutcome). is_broken t.1) audits.outcomes (name, outcome) broken audits.any_broken;
 }
 
 -- the audits of the first names

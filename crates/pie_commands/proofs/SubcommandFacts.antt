@@ -52,35 +52,35 @@ opens-kept old new earlier name keeps opens = go (is_dash name) (old name) refl 
     go false None is opens = let wrong : false ≡ true = rw is at opens in cc
     go false (Some text) is opens = ap is_some (keeps name text is)
 
-told-kept : (joined : Bool) (input : Option (List ℕ)) (old new : Held) → Keeps old new → (opens more : Type 0) → (opens → more) → (name : Text)
-    (before : Option EndView) (told : Result Joined Unaudited) (after : Option EndView)
-    → HasTextOutcome joined more (text_given input new (Some name)) before told after → HasTextOutcome joined opens (text_given input old (Some name)) before told after
-told-kept joined input old new keeps opens more first name before (Err Unopened) after tells = (λ o. tells.0 (first o), tells.1)
-told-kept joined input old new keeps opens more first name before (Err (Faulty why)) after tells = (
+outcome-kept : (joined : Bool) (input : Option (List ℕ)) (old new : Held) → Keeps old new → (opens more : Type 0) → (opens → more) → (name : Text)
+    (before : Option EndView) (outcome : Result Joined Unaudited) (after : Option EndView)
+    → HasTextOutcome joined more (text_given input new (Some name)) before outcome after → HasTextOutcome joined opens (text_given input old (Some name)) before outcome after
+outcome-kept joined input old new keeps opens more first name before (Err Unopened) after tells = (λ o. tells.0 (first o), tells.1)
+outcome-kept joined input old new keeps opens more first name before (Err (Faulty why)) after tells = (
   known-kept (text_given input old (Some name)) (text_given input new (Some name)) (λ text. FindsEither (records_of text) (Err why))
       (given-kept input old new (Some name) keeps) tells.0,
   tells.1,
 )
-told-kept true input old new keeps opens more first name before (Ok told) after tells = (
+outcome-kept true input old new keeps opens more first name before (Ok outcome) after tells = (
   tells.0,
-  known-kept (text_given input old (Some name)) (text_given input new (Some name)) (λ text. JoinsText (records_of text) before told after)
+  known-kept (text_given input old (Some name)) (text_given input new (Some name)) (λ text. JoinsText (records_of text) before outcome after)
       (given-kept input old new (Some name) keeps) tells.1,
 )
-told-kept false input old new keeps opens more first name before (Ok told) after tells = (
+outcome-kept false input old new keeps opens more first name before (Ok outcome) after tells = (
   tells.0,
-  known-kept (text_given input old (Some name)) (text_given input new (Some name)) (λ text. FindsEither (records_of text) (Ok told.finding))
+  known-kept (text_given input old (Some name)) (text_given input new (Some name)) (λ text. FindsEither (records_of text) (Ok outcome.finding))
       (given-kept input old new (Some name) keeps) tells.1,
 )
 
 all-kept : (works joined : Bool) (input : Option (List ℕ)) (old new : Held) → Keeps old new → (earlier : List Text) (before : Option EndView)
-    (told : List FileOutcome) (after : Option EndView) → HaveOutcomes works joined input new earlier before told after
-    → HaveOutcomes works joined input old earlier before told after
-all-kept works joined input old new keeps earlier before [] after told = told
-all-kept works joined input old new keeps earlier before (one ∷ more) after told = (
-  told.0,
-  told-kept joined input old new keeps ((works ≡ true) × (opens_after old earlier one.0 ≡ true)) ((works ≡ true) × (opens_after new earlier one.0 ≡ true))
-      (λ opens. (opens.0, opens-kept old new earlier one.0 keeps opens.1)) one.0 before one.1 told.0 told.1,
-  all-kept works joined input old new keeps (earlier ++ one.0 ∷ []) told.0 more after told.2,
+    (outcomes : List FileOutcome) (after : Option EndView) → HaveOutcomes works joined input new earlier before outcomes after
+    → HaveOutcomes works joined input old earlier before outcomes after
+all-kept works joined input old new keeps earlier before [] after have = have
+all-kept works joined input old new keeps earlier before (one ∷ more) after have = (
+  have.0,
+  outcome-kept joined input old new keeps ((works ≡ true) × (opens_after old earlier one.0 ≡ true)) ((works ≡ true) × (opens_after new earlier one.0 ≡ true))
+      (λ opens. (opens.0, opens-kept old new earlier one.0 keeps opens.1)) one.0 before one.1 have.0 have.1,
+  all-kept works joined input old new keeps (earlier ++ one.0 ∷ []) have.0 more after have.2,
 )
 
 files-kept : (works joined : Bool) (input : Option (List ℕ)) (old new : Held) (names : List Text) (end : End) (before now : Option (List ℕ))

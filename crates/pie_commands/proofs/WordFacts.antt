@@ -51,7 +51,7 @@ asked-word _ = refl
 
 pub same-word : (one other : Subcommand) → Some (word_of one) ≡ Some (word_of other) → one ≡ other
 same-word one other same =
-    let told : Some one ≡ Some other = sym (asked-word one) ∙ ap (option_and_then asked_by) same ∙ asked-word other in
+    let asked : Some one ≡ Some other = sym (asked-word one) ∙ ap (option_and_then asked_by) same ∙ asked-word other in
     cc
 
 -- a name selects at most one subcommand

@@ -92,12 +92,12 @@ in_order (Some (when.Moment from)) (Some (when.Moment to)) = nat_le from to
 in_order (Some (when.Unix from)) (Some (when.Unix to)) = nat_le from to
 in_order _ _ = true
 
--- the selection of these events between these bounds, if the bounds and the length of an interval are valid, the length is above 0, and `told` is
+-- the selection of these events between these bounds, if the bounds and the length of an interval are valid, the length is above 0, and `allowed` is
 -- true
 abbrev pub choice_at : Option Which → Option (Option When) → Option (Option When) → Option (Option ℕ) → Bool → Option Selection
-choice_at (Some which) (Some from) (Some to) (Some every) told =
-    if lasts every && (told && in_order from to) then Some (record { which = which; from = from; to = to }) else None
-choice_at _ _ _ _ told = None
+choice_at (Some which) (Some from) (Some to) (Some every) allowed =
+    if lasts every && (allowed && in_order from to) then Some (record { which = which; from = from; to = to }) else None
+choice_at _ _ _ _ allowed = None
 
 -- the selection of these options; none if they are not valid together
 unfoldable pub choice_of : List Row → Option Selection

@@ -47,7 +47,7 @@ abbrev pub FileOutcome : Type 0
 FileOutcome = Text × Result Joined Unaudited
 
 abbrev pub outcome_lines : FileOutcome → List ℕ
-outcome_lines told = lines_of told.0 told.1
+outcome_lines outcome = lines_of outcome.0 outcome.1
 
 -- ---- the status
 
@@ -88,32 +88,32 @@ abbrev pub HasTextOutcome : Bool → Type 0 → Option (List ℕ) → Option End
 HasTextOutcome joined opens known before (Err Unopened) after = (opens → ⊥) × (joined ≡ true → after ≡ None)
 HasTextOutcome joined opens known before (Err (Faulty why)) after =
     IfSome known (λ text. FindsEither (records_of text) (Err why)) × (joined ≡ true → after ≡ None)
-HasTextOutcome true opens known before (Ok told) after = IsLeftBy told.finding after × IfSome known (λ text. JoinsText (records_of text) before told after)
-HasTextOutcome false opens known before (Ok told) after =
-    (told.joint ≡ None) × IfSome known (λ text. FindsEither (records_of text) (Ok told.finding))
+HasTextOutcome true opens known before (Ok outcome) after = IsLeftBy outcome.finding after × IfSome known (λ text. JoinsText (records_of text) before outcome after)
+HasTextOutcome false opens known before (Ok outcome) after =
+    (outcome.joint ≡ None) × IfSome known (λ text. FindsEither (records_of text) (Ok outcome.finding))
 
 -- the result of a text that was read by `reads`, or of a file that could not be opened
 abbrev pub HasReadOutcome : Bool → Type 0 → (Option (List ℕ) → Type 0) → Option EndView → Result Joined Unaudited → Option EndView → Type 0
 HasReadOutcome joined opens reads before (Err Unopened) after = (opens → ⊥) × (joined ≡ true → after ≡ None)
-HasReadOutcome joined opens reads before told after = (known : Option (List ℕ)) × reads known × HasTextOutcome joined opens known before told after
+HasReadOutcome joined opens reads before outcome after = (known : Option (List ℕ)) × reads known × HasTextOutcome joined opens known before outcome after
 
 -- the results of one file after another, after files of the names `earlier`. If `works`, each file with a known
 -- text can be opened, and standard input once
 abbrev pub HaveOutcomes : Bool → Bool → Option (List ℕ) → (Text → Option (List ℕ)) → List Text → Option EndView → List FileOutcome → Option EndView → Type 0
 HaveOutcomes works joined input files earlier before [] after = after ≡ before
-HaveOutcomes works joined input files earlier before (told ∷ more) after = (between : Option EndView)
-    × HasTextOutcome joined ((works ≡ true) × (opens_after files earlier told.0 ≡ true)) (text_given input files (Some told.0)) before told.1 between
-    × HaveOutcomes works joined input files (earlier ++ told.0 ∷ []) between more after
+HaveOutcomes works joined input files earlier before (first ∷ more) after = (between : Option EndView)
+    × HasTextOutcome joined ((works ≡ true) × (opens_after files earlier first.0 ≡ true)) (text_given input files (Some first.0)) before first.1 between
+    × HaveOutcomes works joined input files (earlier ++ first.0 ∷ []) between more after
 
 -- each of these files was audited in turn, and the lines of each were written; no end comes before the first
 pub record AuditsFiles (works joined : Bool) (input : Option (List ℕ)) (files : Text → Option (List ℕ)) (names : List Text) (unfound broken : Bool)
     (end : Option EndView) (before now : Option (List ℕ)) : Type 0 where
-  pub told : List FileOutcome
-  pub in_order : map (λ t. t.0) told ≡ names
-  pub outcomes : HaveOutcomes works joined input files [] None told end
-  pub written : Appends before now (flat_map outcome_lines told)
-  pub any_unaudited : unfound ≡ list_any (λ t. is_unfound t.1) told
-  pub any_broken : broken ≡ list_any (λ t. is_broken t.1) told
+  pub outcomes : List FileOutcome
+  pub in_order : map (λ t. t.0) outcomes ≡ names
+  pub audited : HaveOutcomes works joined input files [] None outcomes end
+  pub written : Appends before now (flat_map outcome_lines outcomes)
+  pub any_unaudited : unfound ≡ list_any (λ t. is_unfound t.1) outcomes
+  pub any_broken : broken ≡ list_any (λ t. is_broken t.1) outcomes
 
 -- the end of an audit of files: the worst end; or a line could not be written; or memory was short and nothing was
 -- written

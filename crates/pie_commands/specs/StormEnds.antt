@@ -14,7 +14,7 @@ use Rattle.pie_params.specs.declared.elements.Step.{Step}
 use Rattle.pie_params.specs.declared.elements.Step.TheVariants.{Capped, Uncapped}
 use Rattle.pie_params.specs.declared.elements.Size.{Size}
 use Rattle.pie_params.specs.declared.elements.Size.TheVariants.{Unscaled, Scaled}
-use Rattle.pie_record.specs.FirstRecord.{which_of}
+use Rattle.pie_record.specs.FirstRecord.{one_of_two}
 use Rattle.pie_record.specs.Words.{decay_word, delay_word, picking_word, size_word, step_word}
 use Rattle.pie_storm.specs.declared.plan_numbers.StormNumbers.{StormNumbers}
 use Rattle.pie_storm.specs.declared.plan.Plan.{Plan}
@@ -29,7 +29,7 @@ use Rattle.pie_commands.specs.Ends.{WritesNothing}
 -- the choice that a word names, of two choices with their keywords; the first without a word
 abbrev pub choice_by : {T : Type 0} → List ℕ → T → List ℕ → T → Option Text → Option T
 choice_by first one second other None = Some one
-choice_by first one second other (Some word) = which_of first one second other word
+choice_by first one second other (Some word) = one_of_two first one second other word
 
 -- the choice that an option's text names
 abbrev pub choice_in : {T : Type 0} → Text → List ℕ → T → List ℕ → T → List Row → Option T

@@ -124,9 +124,9 @@ fn audit_named<H: NamedFiles + Clock, R: Read + Drop, W: Write, E: Write>(
     output: &mut W,
     errors: &mut E,
 ) -> io::Result<Result<Joined, Unaudited>>
-    ensures writes_line { IfOk result (λ told. HasReadOutcome are_joined ((H.works ≡ true) × CanOpen input.old (H.holds rt.now name.now) name.now)
-        (ReadsNamed R.remaining input.old (H.holds rt.now) name.now) end.old told end.new) }
-    ensures written { IfOk result (λ told. Appends (W.contents output.old) (W.contents output.new) (lines_of name.now told)) }
+    ensures writes_line { IfOk result (λ outcome. HasReadOutcome are_joined ((H.works ≡ true) × CanOpen input.old (H.holds rt.now name.now) name.now)
+        (ReadsNamed R.remaining input.old (H.holds rt.now) name.now) end.old outcome end.new) }
+    ensures written { IfOk result (λ outcome. Appends (W.contents output.old) (W.contents output.new) (lines_of name.now outcome)) }
     ensures input { input.new ≡ left_for name.now input.old }
 {
     match outcome_of_named(rt, alloc, is_shown, are_joined, name, input, end, errors) {
@@ -139,10 +139,10 @@ fn audit_named<H: NamedFiles + Clock, R: Read + Drop, W: Write, E: Write>(
 }
 
 /// Returns true if an event of the file differs, or if the file does not continue at the end of the file before it.
-fn is_broken(told: Result<Joined, Unaudited>) -> bool
-    ensures { result ≡ is_broken told }
+fn is_broken(outcome: Result<Joined, Unaudited>) -> bool
+    ensures { result ≡ is_broken outcome }
 {
-    match told {
+    match outcome {
         Err(_) => false,
         Ok(joined) => match joined.finding {
             Finding::Differs { .. } => true,
@@ -155,17 +155,17 @@ fn is_broken(told: Result<Joined, Unaudited>) -> bool
 }
 
 /// Returns `before`, or true if this file is broken.
-fn any_broken(before: bool, told: Result<Joined, Unaudited>) -> bool
-    ensures { result ≡ (before || is_broken told) }
+fn any_broken(before: bool, outcome: Result<Joined, Unaudited>) -> bool
+    ensures { result ≡ (before || is_broken outcome) }
 {
-    before || is_broken(told)
+    before || is_broken(outcome)
 }
 
 /// Returns true if one of the files before was not audited, or this one.
-fn any_unaudited(before: bool, told: Result<Joined, Unaudited>) -> bool
-    ensures { result ≡ (before || is_unfound told) }
+fn any_unaudited(before: bool, outcome: Result<Joined, Unaudited>) -> bool
+    ensures { result ≡ (before || is_unfound outcome) }
 {
-    before || told.is_err()
+    before || outcome.is_err()
 }
 
 /// Returns the worst end: `unfound` is true if a file could not be audited, `different` if an event or a joint differs.
@@ -210,17 +210,17 @@ pub(crate) fn audit_files<H: NamedFiles + Clock, R: Read + Drop, W: Write, E: Wr
     let mut broken = false;
     for place in 0..names.len() {
         let name = name_at(names, place);
-        let told = match audit_named(
+        let outcome = match audit_named(
             rt, alloc, is_shown, are_joined, name, &mut given, &mut end, output, errors,
         ) {
-            Ok(told) => told,
+            Ok(outcome) => outcome,
             Err(_) => {
                 drop(end);
                 return end_with_fault(errors, TraceFault::Write);
             }
         };
-        unfound = any_unaudited(unfound, told);
-        broken = any_broken(broken, told);
+        unfound = any_unaudited(unfound, outcome);
+        broken = any_broken(broken, outcome);
     }
     drop(end);
     worst(unfound, broken)

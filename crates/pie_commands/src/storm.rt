@@ -10,7 +10,7 @@ use crate::options::{flag, number_or, text};
 use clap::ArgMatches;
 use pie_book::{Event, Profile};
 use pie_params::{Decay, Delay, Elements, Picking, Size, Step};
-use pie_record::first_record::which_of;
+use pie_record::first_record::one_of_two;
 use pie_record::words::{decay_word, delay_word, picking_word, size_word, step_word};
 use pie_storm::{StormNumbers, write_storm};
 use pie_trace::TraceFault;
@@ -31,7 +31,7 @@ fn choice<T: Copy>(word: Option<&str>, first: &[u8], one: T, second: &[u8], othe
     ensures { result ≡ choice_by first.now one second.now other (option_map (λ word. word.now) word.entry) }
 {
     match word {
-        Some(word) => which_of(first, one, second, other, word.as_bytes()),
+        Some(word) => one_of_two(first, one, second, other, word.as_bytes()),
         None => Some(one),
     }
 }

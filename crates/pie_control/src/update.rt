@@ -51,7 +51,7 @@ fn quotient(product: u128, threshold: u64) -> u128
         16384 => product / 16384,
         32768 => product / 32768,
         65536 => product / 65536,
-        _ => product / u128::from(threshold),
+        _ => product / u128::from(threshold.max(1)),
     }
 }
 

@@ -14,8 +14,8 @@ pub use Rattle.std.specs.Option.{option_or}
 pub use Rattle.std.specs.Prelude.{nat_le, nat_lt, not, slice_get, ◌&&◌, ◌||◌, ◌⊎◌}
 pub use Rattle.pie_cut.specs.{All, Appends, AreSegments, AuditorView, AuditsFrom, PreamblesDetermine, BeginsWith, BegunBy, Clean, Clock, RemainingLines, CoreView}
 pub use Rattle.pie_cut.specs.{Differs, EndView, Err, Event, EventFits, Finding, Resumes, IfSome, IsCut, IsFound, IsInSegments, IsLegal, IsShort}
-pub use Rattle.pie_cut.specs.{IsText, IsWritten, JoinsBy, Limits, Line, LinePlace, Made, None, Note, Ok, OnOk, Opening, Option, Result, Row, Segments}
-pub use Rattle.pie_cut.specs.{Setter, Represents, Some, CoreSnapshot, Start, TraceFault, Unmakeable, Waiting, WaitingFits, append_known, are_in_range}
+pub use Rattle.pie_cut.specs.{IsText, IsWritten, JoinsBy, Limits, Line, LinePlace, Valid, None, Note, Ok, OnOk, Opening, Option, Result, Row, Segments}
+pub use Rattle.pie_cut.specs.{Setter, Represents, Some, CoreSnapshot, Start, TraceFault, Invalid, Waiting, WaitingFits, append_known, are_in_range}
 pub use Rattle.pie_cut.specs.{chosen_at, chosen_by, remaining_by, cons_option, end_place, first_place, flat_map, from_opening, has_begun, history_lines}
 pub use Rattle.pie_cut.specs.{is_past, is_past_at, is_reached_at, is_resumed, is_some, kept, latest_clock, lines_written, position_at, position_by, min, moment_in}
 pub use Rattle.pie_cut.specs.{next_number, setter_field_of, opening_refusal, resumed_rows, past_by, place_after, queued_row, reached_by, records_of}
@@ -41,11 +41,11 @@ pub use Rattle.pie_excerpt.specs.Fits.{ResumeFits}
 pub use Rattle.pie_excerpt.specs.declared.resume.Resume.{Resume}
 pub use Rattle.pie_record.proofs.Laws.{LineFits, event_count-cons, latest_clock-none, latest_clock-push, line-again, lines-fit, lines_from-failed}
 pub use Rattle.pie_record.proofs.Laws.{lines_from-line, lines_from-none, field-reads, reads-one}
-pub use Rattle.pie_record.specs.HistoryLines.{after_opening, latest_clock_in, remaining_from, events_in, history_version, is_event, lines_from}
+pub use Rattle.pie_record.specs.HistoryLines.{after_opening, clock_in_line, remaining_from, events_in, history_version, is_event, lines_from}
 unfoldable pub use Rattle.pie_record.specs.ReadBack.{AreLinesOf}
 pub use Rattle.pie_record.specs.Text.{HasField}
 pub use Rattle.pie_record.specs.Write.{line_rows, line_unless_note, without_notes}
 pub use Rattle.pie_record.specs.declared.version.Version.{Version}
 pub use Rattle.pie_record.specs.declared.version.Version.TheVariants.{Three}
-pub use Rattle.pie_audit.proofs.ProcessorFacts.{begun-faulted, begun-found, one-value, part-begun}
+pub use Rattle.pie_audit.proofs.ProcessorFacts.{begun-found, one-value, part-begun}
 pub use Rattle.pie_explain.proofs.ExplainFacts.{all-written, appends-more, appends-page, by-lines, moment-represents}

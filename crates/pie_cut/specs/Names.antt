@@ -5,8 +5,7 @@ pub use Rattle.std.specs.Option.{is_some}
 pub use Rattle.std.specs.Prelude.{All, Bool, Err, IfErr, IfOk, IfSome, List, None, Ok, OnOk, Option, Result, Some, [], false, length, map, min, true, ℕ}
 pub use Rattle.pie_audit.specs.Auditor.{AuditorView, Audits, AuditsFrom}
 pub use Rattle.pie_audit.specs.TextBegun.{BegunBy}
-pub use Rattle.pie_audit.specs.Finding.{LinePlace}
-pub use Rattle.pie_audit.specs.Finding.{finding, finding_from, first_difference}
+pub use Rattle.pie_audit.specs.Finding.{LinePlace, finding, finding_from, first_difference}
 unfoldable pub use Rattle.pie_audit.specs.Finding.{difference_from, events_of, line_places}
 pub use Rattle.pie_audit.specs.Origin.{Origin, at_core, at_opening, count_after, opening_in}
 unfoldable pub use Rattle.pie_book.specs.Core.{core_along}
@@ -43,4 +42,4 @@ pub use Rattle.pie_record.specs.Write.{change_event, line_rows}
 pub use Rattle.pie_record.specs.declared.clock.Clock.{Clock}
 pub use Rattle.pie_record.specs.declared.fault.TraceFault.{TraceFault}
 pub use Rattle.pie_record.specs.declared.history_record.Line.{Line}
-pub use Rattle.pie_record.specs.declared.history_record.Line.TheVariants.{Made, Note, Unmakeable}
+pub use Rattle.pie_record.specs.declared.history_record.Line.TheVariants.{Valid, Note, Invalid}

@@ -25,7 +25,7 @@ impl Limits {
     pub const MOST_PACKETS: u32 = 1_048_576;
     /// The longest tail, in events.
     pub const LONGEST_TAIL: u32 = 1_048_576;
-    /// The greatest number of events: about a month and a half of the smallest frames at 10 Gbit/s, each with its
+    /// The greatest number of events: about 55 days of the smallest frames at 10 Gbit/s, each with its
     /// departure.
     pub const MOST_EVENTS: u64 = 1 << 47;
 

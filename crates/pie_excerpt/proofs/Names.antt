@@ -28,7 +28,7 @@ pub use Rattle.pie_params.specs.declared.elements.Decay.{Decay}
 pub use Rattle.pie_params.specs.declared.elements.Decay.TheVariants.{Half, Zero}
 pub use Rattle.pie_record.proofs.Laws.{and_after, back_ecn, back_u32, back_u64, decimal-some, has-all, kind-first, number-back, number-then, ok-same}
 pub use Rattle.pie_record.proofs.Laws.{chosen-read, long-draft, numbers-back, packet-read, params-back, records_of-first, tested, word-has}
-unfoldable pub use Rattle.pie_record.specs.FirstRecord.{draft_at, limits_at, which_of}
+unfoldable pub use Rattle.pie_record.specs.FirstRecord.{draft_at, limits_at, one_of_two}
 pub use Rattle.pie_record.specs.FirstRecord.{Checked}
 pub use Rattle.pie_record.specs.Text.{Took}
 pub use Rattle.pie_record.specs.declared.first_record.FirstKind.{FirstKind}

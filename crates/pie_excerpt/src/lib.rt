@@ -14,7 +14,7 @@ mod writing;
 
 pub use law::{preambles_are_resumed, preambles_are_written_again, records_are_read_back};
 pub use number_ranges::{params_are_good, resume_fits};
-pub use preamble::{Begun, begin_resumed, fault_within, is_resume};
+pub use preamble::{ExcerptStart, begin_resumed, fault_within, is_resume};
 pub use reading::read_resume;
 pub use resume::Resume;
 pub use round_trip::{add_queue, add_resume, resume_of_excerpt, write_excerpt};

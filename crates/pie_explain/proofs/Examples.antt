@@ -9,11 +9,11 @@ abbrev after_100 : Bool → Start
 after_100 tells = record { events = 100; tells = tells }
 
 -- event 97 set the probability, or no event did; named or not. Event 101 is in the excerpt
-told : (setter_from_start (after_100 true) (Event 97) ≡ Event 97) × (setter_from_start (after_100 true) Opening ≡ Opening)
+setters : (setter_from_start (after_100 true) (Event 97) ≡ Event 97) × (setter_from_start (after_100 true) Opening ≡ Opening)
     × (setter_from_start (after_100 false) (Event 97) ≡ Unknown) × (setter_from_start (after_100 false) (Event 100) ≡ Unknown)
     × (setter_from_start (after_100 false) Opening ≡ Unknown) × (setter_from_start (after_100 false) (Event 101) ≡ Event 101)
     × (setter_from_start from_opening Opening ≡ Opening) × (setter_from_start from_opening (Event 3) ≡ Event 3)
-told = (refl, refl, refl, refl, refl, refl, refl, refl)
+setters = (refl, refl, refl, refl, refl, refl, refl, refl)
 
 -- the event by the number in the first record
 numbers : (setter_from None ≡ Unknown) × (setter_from (Some 0) ≡ Opening) × (setter_from (Some 97) ≡ Event 97)

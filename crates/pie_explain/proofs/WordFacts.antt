@@ -54,10 +54,10 @@ wall-line all wall old =
 
 -- ==== Explanations one by one, as a report
 
-words-push : (form : Form) (all : List Explained) (told : Explained) → explanation_texts form (all ++ told ∷ []) ≡ explanation_texts form all ++ explanation_text form told
+words-push : (form : Form) (all : List Explained) (one : Explained) → explanation_texts form (all ++ one ∷ []) ≡ explanation_texts form all ++ explanation_text form one
 unfolding explanation_texts
-words-push form all told = flat_map-append (explanation_text form) all (told ∷ [])
-    ∙ ap (λ (text : List ℕ). flat_map (explanation_text form) all ++ text) (append-nil (explanation_text form told))
+words-push form all one = flat_map-append (explanation_text form) all (one ∷ [])
+    ∙ ap (λ (text : List ℕ). flat_map (explanation_text form) all ++ text) (append-nil (explanation_text form one))
 
 words-none : (form : Form) → explanation_texts form [] ≡ []
 unfolding explanation_texts
@@ -66,10 +66,10 @@ words-none form = refl
 pub pages_none : (form : Form) → pages form [] ≡ header form
 pages_none form = ap (λ (text : List ℕ). header form ++ text) (words-none form) ∙ append-nil (header form)
 
-pub pages_reported : (form : Form) (all : List Explained) (told : Explained) (old now : List ℕ) → now ≡ old ++ explanation_text form told
-    → Grows (pages form all) (pages form (all ++ told ∷ [])) old now
-pages_reported form all told old now is = record {
-  more = explanation_text form told;
+pub pages_reported : (form : Form) (all : List Explained) (one : Explained) (old now : List ℕ) → now ≡ old ++ explanation_text form one
+    → Grows (pages form all) (pages form (all ++ one ∷ [])) old now
+pages_reported form all one old now is = record {
+  more = explanation_text form one;
   grown = is;
-  turned = rw (words-push form all told) (sym (append_assoc (header form) (explanation_texts form all) (explanation_text form told)));
+  turned = rw (words-push form all one) (sym (append_assoc (header form) (explanation_texts form all) (explanation_text form one)));
 }

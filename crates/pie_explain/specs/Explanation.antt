@@ -39,8 +39,8 @@ explanation opening history number event set_by clock = record {
 
 -- an explanation with the controller's numbers after this history, which ends with the event
 abbrev pub with_after : Opening → List Event → Explanation → Explained
-with_after opening history told = record {
-  told = told;
+with_after opening history one = record {
+  explanation = one;
   after = registers_after opening history;
   delay = delay_after opening history;
 }
@@ -69,21 +69,21 @@ explanation_in core number event set_by clock = record {
 
 -- an explanation with the numbers of a core that has decided the event
 abbrev pub with_core : CoreView → Explanation → Explained
-with_core core told = record { told = told; after = registers_of core; delay = delay_in core.held (bytes_of core.waiting) }
+with_core core one = record { explanation = one; after = registers_of core; delay = delay_in core.held (bytes_of core.waiting) }
 
 -- ---- the explanation of an event of lines, wherever they begin
 
 -- the effective moment of an event after these events
 abbrev pub moment_after : Origin → List Event → Event → ℕ
 moment_after (at_opening opening) events event = moment_of opening events event
-moment_after (at_core opening core told) events event = moment_at (core_along core events) event
+moment_after (at_core opening core first) events event = moment_at (core_along core events) event
 
 -- the explanation of the event with this number after these events
 abbrev pub explanation_after : Origin → List Event → ℕ → Event → Setter → Option Clock → Explanation
 explanation_after (at_opening opening) events number event set_by clock = explanation opening events number event set_by clock
-explanation_after (at_core opening core told) events number event set_by clock = explanation_in (core_along core events) number event set_by clock
+explanation_after (at_core opening core first) events number event set_by clock = explanation_in (core_along core events) number event set_by clock
 
 -- an explanation with the controller's numbers after these events, which end with the event
 abbrev pub ended_after : Origin → List Event → Explanation → Explained
-ended_after (at_opening opening) events told = with_after opening events told
-ended_after (at_core opening core set_by) events told = with_core (core_along core events) told
+ended_after (at_opening opening) events one = with_after opening events one
+ended_after (at_core opening core set_by) events one = with_core (core_along core events) one

@@ -1,29 +1,29 @@
 -- The explanations of the events of a history's lines.
 use Rattle.std.specs.Prelude.{◌+◌, ◌∷◌, ◌++◌, if◌then◌else◌}
-use Rattle.pie_explain.specs.Names.{ℕ, Bool, true, false, List, [], Option, Some, None, option_map, filter_map, Line, Made, latest_clock, events_of}
+use Rattle.pie_explain.specs.Names.{ℕ, Bool, true, false, List, [], Option, Some, None, option_map, filter_map, Line, Valid, latest_clock, events_of}
 use Rattle.pie_explain.specs.Names.{Explained, Explanation, Selection, Setter, picks, setter_from_start, nat_lt, Start, Origin, count_after, difference_from}
 use Rattle.pie_explain.specs.Names.{ended_after, explanation_after, moment_after, setter_in}
 use Rattle.pie_audit.specs.Finding.{LinePlace, line_places, number_at}
 
 -- the explanation if the flag is true
 abbrev pub explanation_if : Bool → Explanation → Option Explanation
-explanation_if true told = Some told
-explanation_if false told = None
+explanation_if true found = Some found
+explanation_if false found = None
 
 -- the explanation of a line after these lines, if the line is an event with the next number that is chosen
 abbrev pub explanation_of : Origin → Selection → List Line → Setter → Line → Option Explanation
-explanation_of origin choice lines set_by (Made event) =
+explanation_of origin choice lines set_by (Valid event) =
     explanation_if (picks choice (count_after origin lines + 1) (moment_after origin (events_of lines) event) (latest_clock lines) event)
     (explanation_after origin (events_of lines) (count_after origin lines + 1) event set_by (latest_clock lines))
 explanation_of origin choice lines set_by _ = None
 
 -- `None` from the first event that differs on
 abbrev pub explanation_unless : Option ℕ → Option Explanation → Option Explanation
-explanation_unless (Some event) told = None
-explanation_unless None told = told
+explanation_unless (Some event) found = None
+explanation_unless None found = found
 
 abbrev pub explanation_before_difference : Origin → List Line → Option Explanation → Option Explanation
-explanation_before_difference origin lines told = explanation_unless (difference_from origin lines) told
+explanation_before_difference origin lines found = explanation_unless (difference_from origin lines) found
 
 -- the explanation at a place, if no event up to it, itself included, differs
 abbrev pub explanation_at : Origin → Selection → LinePlace → Option Explained
@@ -40,7 +40,7 @@ explanations origin choice lines = filter_map (explanation_at origin choice) (li
 
 -- an explanation with the event that set the probability as far as the text names it
 abbrev pub with_known_setter : Start → Explained → Explained
-with_known_setter start one = record one { told = record one.told { set_by = setter_from_start start one.told.set_by } }
+with_known_setter start one = record one { explanation = record one.explanation { set_by = setter_from_start start one.explanation.set_by } }
 
 -- the explanation at a place, if its event is one of the text
 abbrev pub explanation_since : Start → Origin → Selection → LinePlace → Option Explained

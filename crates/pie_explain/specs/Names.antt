@@ -22,4 +22,4 @@ pub use Rattle.pie_explain.specs.declared.explanation.Explanation.{Explanation}
 pub use Rattle.pie_record.specs.HistoryLines.{event_count, is_event, latest_clock}
 pub use Rattle.pie_record.specs.declared.fault.TraceFault.{TraceFault}
 pub use Rattle.pie_record.specs.declared.history_record.Line.{Line}
-pub use Rattle.pie_record.specs.declared.history_record.Line.TheVariants.{Made}
+pub use Rattle.pie_record.specs.declared.history_record.Line.TheVariants.{Valid}

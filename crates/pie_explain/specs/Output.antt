@@ -26,11 +26,11 @@ header form = header_of field_names form
 
 -- the clock record for wall-clock times, if the form has them
 abbrev pub clock_for : Form → Option Clock → Option Clock
-clock_for form told = if form.by_wall then told else None
+clock_for form clock = if form.by_wall then clock else None
 
 -- the text of an explanation
 unfoldable pub explanation_text : Form → Explained → List ℕ
-explanation_text form told = if form.csv then line_of (record_by form.by_wall told) else words_by (clock_for form told.told.clock) told
+explanation_text form one = if form.csv then line_of (record_by form.by_wall one) else words_by (clock_for form one.explanation.clock) one
 
 -- the text of several explanations, one after the other
 unfoldable pub explanation_texts : Form → List Explained → List ℕ

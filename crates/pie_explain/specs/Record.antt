@@ -77,9 +77,9 @@ active_field false = codes "0"
 
 -- the event, the moment of its command, and its effective moment
 abbrev pub head_fields : Explanation → List (List ℕ)
-head_fields told =
-    decimal told.number ∷ kind_word told.event.command ∷ decimal told.event.caller ∷ decimal (caller_moment told.event.command)
-    ∷ decimal told.moment ∷ []
+head_fields explanation =
+    decimal explanation.number ∷ kind_word explanation.event.command ∷ decimal explanation.event.caller ∷ decimal (caller_moment explanation.event.command)
+    ∷ decimal explanation.moment ∷ []
 
 -- the tag and the size of the event's packet
 abbrev pub packet_fields : Option Packet → List (List ℕ)
@@ -95,18 +95,18 @@ held_fields held delay =
 
 -- the verdict of the event, its cause, and the numbers before it
 abbrev pub condition_fields : Explanation → List (List ℕ)
-condition_fields told = verdict_word told.event.answer ∷ cause_word told.cause ∷ held_fields told.before told.delay
+condition_fields explanation = verdict_word explanation.event.answer ∷ cause_word explanation.cause ∷ held_fields explanation.before explanation.delay
 
 -- the other fields of the event and of the controller before it
 abbrev pub more_fields : Explanation → List (List ℕ)
-more_fields told =
-    ecn_field (packet_of told.event) ∷ number_field (word_of told.event.command) ∷ number_field (wait_where told.event.answer told.waited)
-    ∷ active_field told.before.active ∷ number_field (setter_number told.set_by) ∷ []
+more_fields explanation =
+    ecn_field (packet_of explanation.event) ∷ number_field (word_of explanation.event.command) ∷ number_field (wait_where explanation.event.answer explanation.waited)
+    ∷ active_field explanation.before.active ∷ number_field (setter_number explanation.set_by) ∷ []
 
 -- the twenty-seven fields, and all of them except the last, the controller's activity after the event
 abbrev pub most_fields : Explained → List (List ℕ)
 most_fields all =
-    head_fields all.told ++ packet_fields (packet_of all.told.event) ++ condition_fields all.told ++ more_fields all.told
+    head_fields all.explanation ++ packet_fields (packet_of all.explanation.event) ++ condition_fields all.explanation ++ more_fields all.explanation
     ++ held_fields all.after all.delay
 
 abbrev pub record_of : Explained → List (List ℕ)
@@ -120,7 +120,7 @@ wall_field (Some unix) = utc_text unix
 -- the record, with the wall-clock time of the effective moment as a last field if `by_wall`
 abbrev pub record_by : Bool → Explained → List (List ℕ)
 record_by by_wall all =
-    if by_wall then record_of all ++ wall_field (time_of all.told.clock all.told.moment) ∷ [] else record_of all
+    if by_wall then record_of all ++ wall_field (time_of all.explanation.clock all.explanation.moment) ∷ [] else record_of all
 
 -- these fields as a line of CSV: none of them has a comma, a quote or a line's end in it
 abbrev pub line_of : List (List ℕ) → List ℕ

@@ -209,17 +209,17 @@ setter_words (setter.Event event) before =
 setter_words setter.Unknown before = joined (codes "  probability " ∷ per_cent before.prob ∷ codes ", set before this text begins;" ∷ [])
 
 unfoldable pub before_words : Option Clock → Explanation → List ℕ
-before_words clock told =
-    joined (codes "  before it: " ∷ decimal told.before.packets ∷ codes " packets, " ∷ decimal told.before.bytes ∷ codes " bytes, a delay of "
-    ∷ millis told.delay ∷ codes "\n" ∷ setter_words told.set_by told.before ∷ last_words clock told.updates told.before.last
-    ∷ codes " burst allowance " ∷ millis told.before.burst ∷ codes "\n" ∷ [])
+before_words clock explanation =
+    joined (codes "  before it: " ∷ decimal explanation.before.packets ∷ codes " packets, " ∷ decimal explanation.before.bytes ∷ codes " bytes, a delay of "
+    ∷ millis explanation.delay ∷ codes "\n" ∷ setter_words explanation.set_by explanation.before ∷ last_words clock explanation.updates explanation.before.last
+    ∷ codes " burst allowance " ∷ millis explanation.before.burst ∷ codes "\n" ∷ [])
 
 -- ---- the whole
 
 -- an explanation in words. With a clock record its moments are wall-clock times
 unfoldable pub words_by : Option Clock → Explained → List ℕ
 words_by clock all =
-    joined (deed_words all.told.number all.told.before.active all.told.event.command all.told.event.answer all.told.waited
-    ∷ codes "  at " ∷ moment_words clock all.told.moment ∷ codes ", by caller " ∷ decimal all.told.event.caller ∷ codes "\n"
-    ∷ reason_words clock all.told.before all.told.cause ∷ turned_words all.told.before.active all.after.active
-    ∷ before_words clock all.told ∷ [])
+    joined (deed_words all.explanation.number all.explanation.before.active all.explanation.event.command all.explanation.event.answer all.explanation.waited
+    ∷ codes "  at " ∷ moment_words clock all.explanation.moment ∷ codes ", by caller " ∷ decimal all.explanation.event.caller ∷ codes "\n"
+    ∷ reason_words clock all.explanation.before all.explanation.cause ∷ turned_words all.explanation.before.active all.after.active
+    ∷ before_words clock all.explanation ∷ [])

@@ -42,7 +42,7 @@ pub struct Explanation {
 #[derive(Clone, Copy)]
 pub struct Explained {
     /// The event and the numbers that it met.
-    pub told: Explanation,
+    pub explanation: Explanation,
     /// The controller's numbers after it.
     pub after: Registers,
     /// The queueing delay after it (RFC 8033, section 5.2).
@@ -107,12 +107,14 @@ impl Explained {
         clock: Option<Clock>,
     ) -> Explained
         ensures after { (opening : Opening) (history : List Event) → Represents opening core.now history
-            → result.told ≡ explanation opening history number event.now set_by clock }
-        ensures in_state { result.told ≡ explanation_in core.now number event.now set_by clock }
+            → result.explanation ≡ explanation opening history number event.now set_by clock }
+        ensures in_state { result.explanation ≡ explanation_in core.now number event.now set_by clock }
+        ensures event { result.explanation.event ≡ event.now }
+        ensures clock { result.explanation.clock ≡ clock }
     {
         let before = core.registers();
         let now = moment_of(core, event);
-        let told = Explanation {
+        let explanation = Explanation {
             number,
             event: *event,
             moment: now,
@@ -124,17 +126,25 @@ impl Explained {
             updates: core.stats().updates,
             clock,
         };
-        let (after, delay) = (told.before, told.delay);
-        Explained { told, after, delay }
+        let (after, delay) = (explanation.before, explanation.delay);
+        Explained {
+            explanation,
+            after,
+            delay,
+        }
     }
 
-    /// Stores the numbers of a core that has decided the event.
+    /// Stores the numbers of a core that has decided the event. `event` is the explained event, and `clock` the last
+    /// clock record. They are copied only now: a copy across the decision costs more.
     #[inline(always)]
-    pub(crate) fn end(&mut self, core: &Core)
-        ensures after { (opening : Opening) (history : List Event) → Represents opening core.now history
-            → self.new ≡ with_after opening history self.old.told }
-        ensures in_state { self.new ≡ with_core core.now self.old.told }
+    pub(crate) fn end(&mut self, event: &Event, clock: Option<Clock>, core: &Core)
+        ensures after { (opening : Opening) (history : List Event) → self.old.explanation.event ≡ event.now → self.old.explanation.clock ≡ clock
+            → Represents opening core.now history → self.new ≡ with_after opening history self.old.explanation }
+        ensures in_state { self.old.explanation.event ≡ event.now → self.old.explanation.clock ≡ clock
+            → self.new ≡ with_core core.now self.old.explanation }
     {
+        self.explanation.event = *event;
+        self.explanation.clock = clock;
         self.after = core.registers();
         self.delay = core.delay();
     }

@@ -16,9 +16,9 @@ pub struct Form {
 
 impl Form {
     /// Returns the clock record for wall-clock times, or `None` if the form has none.
-    pub fn clock(self, told: Option<Clock>) -> Option<Clock>
-        ensures { result ≡ (if self.by_wall then told else None) }
+    pub fn clock(self, clock: Option<Clock>) -> Option<Clock>
+        ensures { result ≡ (if self.by_wall then clock else None) }
     {
-        if self.by_wall { told } else { None }
+        if self.by_wall { clock } else { None }
     }
 }

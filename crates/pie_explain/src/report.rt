@@ -28,6 +28,10 @@ pub trait Report: Drop {
 
     ghost whole: { Self → List Explained → List ℕ };
 
+    /// Returns true if arrivals, departures and other events have code of their own, which is faster if all of
+    /// `report_event` is inlined.
+    fn is_by_kind(&self) -> bool;
+
     /// Writes the text before the first event onto `page`.
     fn begin(&self, page: &mut Page) -> Result<Self::State, AllocError>
         ensures shown { IfOk result (λ state. shows self.now state []) }
@@ -37,12 +41,12 @@ pub trait Report: Drop {
     fn report_event(
         &self,
         state: &mut Self::State,
-        told: &Explained,
+        explained: &Explained,
         page: &mut Page,
     ) -> Result<(), AllocError>
         ensures { (all : List Explained) → shows self.now state.old all
-            → OnOk result (shows self.now state.new (all ++ told.now ∷ [])
-            × Grows (so_far self.now all) (so_far self.now (all ++ told.now ∷ [])) page.old page.new) };
+            → OnOk result (shows self.now state.new (all ++ explained.now ∷ [])
+            × Grows (so_far self.now all) (so_far self.now (all ++ explained.now ∷ [])) page.old page.new) };
 
     /// Writes the text after the last event onto `page`.
     fn end(&self, state: &Self::State, page: &mut Page) -> Result<(), AllocError>
@@ -80,11 +84,15 @@ pub fn push_header(page: &mut Page, names: &str, form: Form) -> Result<(), Alloc
 /// # Errors
 ///
 /// Returns `AllocError` if memory is short.
-pub fn push_words(page: &mut Page, clock: Option<Clock>, told: &Explained) -> Result<(), AllocError>
-    ensures { OnOk result (page.new ≡ page.old ++ words_by clock told.now) }
+pub fn push_words(
+    page: &mut Page,
+    clock: Option<Clock>,
+    explained: &Explained,
+) -> Result<(), AllocError>
+    ensures { OnOk result (page.new ≡ page.old ++ words_by clock explained.now) }
 {
     let mut text = page.words();
-    push_text(&mut text, clock, told)?;
+    push_text(&mut text, clock, explained)?;
     page.put(text)
 }
 
@@ -114,6 +122,11 @@ impl Report for Records {
 
     ghost whole = { λ it. pages (as_records it.by_wall) };
 
+    #[inline(always)]
+    fn is_by_kind(&self) -> bool {
+        true
+    }
+
     fn begin(&self, page: &mut Page) -> Result<RecordWriter, AllocError> {
         let (csv, by_wall) = (true, self.by_wall);
         push_header(page, NAMES, Form { csv, by_wall })?;
@@ -121,8 +134,13 @@ impl Report for Records {
     }
 
     #[inline(always)]
-    fn report_event(&self, state: &mut RecordWriter, told: &Explained, page: &mut Page) -> Written {
-        state.push(page, self.by_wall, told)
+    fn report_event(
+        &self,
+        state: &mut RecordWriter,
+        explained: &Explained,
+        page: &mut Page,
+    ) -> Written {
+        state.push(page, self.by_wall, explained)
     }
 
     fn end(&self, state: &RecordWriter, page: &mut Page) -> Written {
@@ -142,14 +160,19 @@ impl Report for Words {
 
     ghost whole = { λ it. pages (in_words it.by_wall) };
 
+    #[inline(always)]
+    fn is_by_kind(&self) -> bool {
+        true
+    }
+
     fn begin(&self, page: &mut Page) -> Written {
         Ok(())
     }
 
-    fn report_event(&self, state: &mut (), told: &Explained, page: &mut Page) -> Written {
+    fn report_event(&self, state: &mut (), explained: &Explained, page: &mut Page) -> Written {
         let (csv, by_wall) = (false, self.by_wall);
         let form = Form { csv, by_wall };
-        push_words(page, form.clock(told.told.clock), told)
+        push_words(page, form.clock(explained.explanation.clock), explained)
     }
 
     fn end(&self, state: &(), page: &mut Page) -> Written {

@@ -3,6 +3,7 @@ ghost use Rattle.std.specs.Prelude.{◌≡◌};
 ghost use Rattle.pie_explain.specs.Selection.{is_from, is_to, time_of};
 
 use crate::choice::Which;
+use pie_audit::Auditor;
 use pie_book::Event;
 use pie_record::Clock;
 use pie_units::When;
@@ -69,12 +70,25 @@ impl Selection {
         }
     }
 
-    /// Returns true if the event with this number and effective moment is selected. `clock` is the last clock
-    /// record before it.
-    pub(crate) fn picks(self, number: u64, moment: u64, clock: Option<Clock>, event: &Event) -> bool
-        ensures { result ≡ picks self number moment clock event.now }
+    /// Returns true if the event with this number and effective moment is selected. `auditor` has the last clock
+    /// record before it. The selection of all events needs none of them.
+    #[inline(always)]
+    pub(crate) fn picks(&self, number: u64, moment: u64, auditor: &Auditor, event: &Event) -> bool
+        ensures { result ≡ picks self.now number moment auditor.now.clock event.now }
     {
-        let time = time_of(clock, moment);
+        match (self.which, self.from, self.to) {
+            (Which::All, None, None) => true,
+            _ => self.picks_apart(number, moment, auditor, event),
+        }
+    }
+
+    /// Returns the result of `picks` for any selection.
+    #[cold]
+    #[inline(never)]
+    fn picks_apart(&self, number: u64, moment: u64, auditor: &Auditor, event: &Event) -> bool
+        ensures { result ≡ picks self.now number moment auditor.now.clock event.now }
+    {
+        let time = time_of(auditor.clock(), moment);
         self.which.chooses(number, event)
             && (is_from(self.from, moment, time) && is_to(self.to, moment, time))
     }

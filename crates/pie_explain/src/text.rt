@@ -86,12 +86,12 @@ fn push_update(page: &mut String, number: u64, active: bool, answer: Answer) -> 
 
 /// Writes the first lines: the event and its outcome.
 #[tactic(auto, unfolding(crate::specs::Words::deed_words))]
-fn push_deed(page: &mut String, told: &Explanation) -> Written
+fn push_deed(page: &mut String, explanation: &Explanation) -> Written
     ensures { OnOk result (string_bytes page.new ≡ string_bytes page.old
-        ++ deed_words told.now.number told.now.before.active told.now.event.command told.now.event.answer told.now.waited) }
+        ++ deed_words explanation.now.number explanation.now.before.active explanation.now.event.command explanation.now.event.answer explanation.now.waited) }
 {
-    let (number, answer) = (told.number, told.event.answer);
-    match told.event.command {
+    let (number, answer) = (explanation.number, explanation.event.answer);
+    match explanation.event.command {
         Command::Arrive { packet, .. } => {
             push_packet(page, number, packet)?;
             let verdict = verdict_text(answer);
@@ -99,13 +99,13 @@ fn push_deed(page: &mut String, told: &Explanation) -> Written
         }
         Command::Depart { .. } => match answer {
             Answer::Left(packet) => {
-                let waited = Millis(told.waited);
+                let waited = Millis(explanation.waited);
                 push_packet(page, number, packet)?;
                 write!(page, "left\n  it had waited {waited}\n")
             }
             _ => push_event(page, number, ": no packet was there to leave\n"),
         },
-        Command::Update { .. } => push_update(page, number, told.before.active, answer),
+        Command::Update { .. } => push_update(page, number, explanation.before.active, answer),
         Command::Reset { .. } => push_event(page, number, ": a reset\n"),
         Command::SetParams { .. } => push_event(page, number, ": new parameters\n"),
     }
@@ -391,18 +391,18 @@ fn turned_text(was_active: bool, is_active: bool) -> &'static str
 
 /// Writes the controller's numbers before the event.
 #[tactic(auto, unfolding(crate::specs::Words::before_words))]
-fn push_before(page: &mut String, clock: Option<Clock>, told: &Explanation) -> Written
-    ensures { OnOk result (string_bytes page.new ≡ string_bytes page.old ++ before_words clock told.now) }
+fn push_before(page: &mut String, clock: Option<Clock>, explanation: &Explanation) -> Written
+    ensures { OnOk result (string_bytes page.new ≡ string_bytes page.old ++ before_words clock explanation.now) }
 {
-    let before = &told.before;
+    let before = &explanation.before;
     let (packets, bytes) = (Digits(before.packets), Digits(before.bytes));
-    let (delay, burst) = (Millis(told.delay), Millis(before.burst));
+    let (delay, burst) = (Millis(explanation.delay), Millis(before.burst));
     write!(
         page,
         "  before it: {packets} packets, {bytes} bytes, a delay of {delay}\n"
     )?;
-    push_setter(page, told.set_by, before)?;
-    push_last(page, clock, told.updates, before.last)?;
+    push_setter(page, explanation.set_by, before)?;
+    push_last(page, clock, explanation.updates, before.last)?;
     write!(page, " burst allowance {burst}\n")
 }
 
@@ -411,16 +411,16 @@ fn push_before(page: &mut String, clock: Option<Clock>, told: &Explanation) -> W
 pub(crate) fn push_text(page: &mut String, clock: Option<Clock>, all: &Explained) -> Written
     ensures { OnOk result (string_bytes page.new ≡ string_bytes page.old ++ words_by clock all.now) }
 {
-    let told = &all.told;
-    let (event, was_active) = (&told.event, told.before.active);
+    let explanation = &all.explanation;
+    let (event, was_active) = (&explanation.event, explanation.before.active);
     let caller = event.caller;
     let now = MomentWords {
         clock,
-        moment: told.moment,
+        moment: explanation.moment,
     };
-    push_deed(page, told)?;
+    push_deed(page, explanation)?;
     write!(page, "  at {now}, by caller {caller}\n")?;
-    push_reason(page, clock, &told.before, told.cause)?;
+    push_reason(page, clock, &explanation.before, explanation.cause)?;
     page.push_str(turned_text(was_active, all.after.active))?;
-    push_before(page, clock, told)
+    push_before(page, clock, explanation)
 }

@@ -51,7 +51,7 @@ impl Display for MomentWords {
     ghost use Rattle.std.specs.Prelude.{Some};
     ghost use Rattle.pie_explain.specs.Words.{moment_words};
 
-    ghost output = { λ told. Some (moment_words told.clock told.moment) };
+    ghost output = { λ words. Some (moment_words words.clock words.moment) };
 
     #[tactic(auto, unfolding(crate::specs::Words::moment_words))]
     fn fmt<W: fmt::Write>(&self, f: &mut fmt::Formatter<W>) -> fmt::Result {

@@ -20,6 +20,7 @@ refused_before opening before later lawful moment due e =
 pub refused_ahead : AtEachEvent (λ opening before event. (ahead moment due : ℕ) → caller_moment event.command ≡ effective_moment opening before + ahead
     → refusal_by_rule opening (before ++ event ∷ []) (Update moment) ≡ Some (TooSoon due)
     → moment < effective_moment opening before + ahead + (params_after opening (before ++ event ∷ [])).t_update)
+unfolding AtEachEvent
 refused_ahead opening before event later lawful ahead moment due far e =
     let split : before ++ event ∷ [] ++ later ≡ before ++ (event ∷ later) = append_assoc before (event ∷ []) later in
     let now = effective_moment-push opening before event in
@@ -40,6 +41,7 @@ pub refused_after : AtEachEvent (λ opening before event. is_update (deed_of eve
     → moment < effective_moment opening (before ++ event ∷ []) + (params_after opening before).t_update
     → refusal_by_rule opening (before ++ event ∷ []) (Update moment)
     ≡ Some (TooSoon (effective_moment opening (before ++ event ∷ []) + (params_after opening before).t_update)))
+unfolding AtEachEvent
 refused_after opening before event later lawful is moment within early =
     let step = step_at opening before event later lawful in
     let h = held_after opening before in

@@ -1,6 +1,6 @@
 -- The verdict of every packet.
 use Rattle.pie_guarantees.proofs.Names.{◌≡◌, ◌≤◌, ◌+◌, ◌*◌, ◌^◌, ℕ, List, [], ◌∷◌, ◌++◌, map, Bool, refl, sym, ap, ◌∙◌, cond, ◌⊎◌}
-use Rattle.pie_guarantees.proofs.Names.{AtEachEvent, BetweenAny, if◌then◌else◌}
+use Rattle.pie_guarantees.proofs.Names.{AtEachEvent, AtEachHistory, BetweenAny, if◌then◌else◌}
 use Rattle.pie_guarantees.proofs.Names.{inl, length, arith, subst, All, Some, Option, sum_by, append-nil, append_assoc, length-map, map-append}
 use Rattle.pie_guarantees.proofs.Names.{filter_map-append, sum_by_push, sum_by-cons, bytes_of, Deed, deed, deed_of, departure, answer_of}
 use Rattle.pie_guarantees.proofs.Names.{after_call, Held, filter_map-push, with_one, Packet, Waiting, Verdict, Command, Arrive, Depart}
@@ -55,7 +55,8 @@ adds-next opening before event step old =
       deed-is opening before event step,
     ) (omega (arith, one, old))
 
-pub each_once : (opening : Opening) (history : List Event) → IsLawful opening history → Adds history
+pub each_once : AtEachHistory (λ opening history. Adds history)
+unfolding AtEachHistory
 each_once opening history lawful = throughout Adds opening refl (adds-next opening) history lawful
 
 -- ---- order
@@ -95,7 +96,8 @@ ordered-first : (opening : Opening) → waiting_after opening [] ≡ [] → Orde
 unfolding packets_departed packets_queued
 ordered-first opening none = rw none refl
 
-pub in_order : (opening : Opening) (history : List Event) → IsLawful opening history → Ordered opening history
+pub in_order : AtEachHistory (λ opening history. Ordered opening history)
+unfolding AtEachHistory
 in_order opening history lawful =
     throughout (Ordered opening) opening (ordered-first opening (none-waits opening)) (ordered-next opening) history lawful
 
@@ -133,14 +135,15 @@ bounded-at opening before event step =
     (bounded (held_after opening before) (waiting_after opening before) opening.limits.packets event.command
     (effective_moment opening (before ++ event ∷ [])))
 
-pub in_the_ring : (opening : Opening) (history : List Event) → IsLawful opening history
-    → length (waiting_after opening history) ≤ opening.limits.packets
+pub in_the_ring : AtEachHistory (λ opening history. length (waiting_after opening history) ≤ opening.limits.packets)
+unfolding AtEachHistory
 in_the_ring opening =
     throughout (λ history. length (waiting_after opening history) ≤ opening.limits.packets) opening (rw none-waits (omega arith))
     (λ before event step within. (bounded-at opening before event step).ring within)
 
 pub room_for_bytes : AtEachEvent (λ opening before event. (packet : Packet) → packet_queued (deed_of event) ≡ Some packet
     → bytes_after opening (before ++ event ∷ []) ≤ (params_after opening before).limit_bytes)
+unfolding AtEachEvent
 room_for_bytes opening before event later lawful packet is =
     (bounded-at opening before event (step_at opening before event later lawful)).queue packet is
 
@@ -161,8 +164,9 @@ below-next most opening before event step set old = record {
   bytes = let or = (bounded-at opening before event step).or in grind arith;
 }
 
-pub bytes_below : (most : ℕ) (opening : Opening) (history : List Event) → IsLawful opening history → opening.params.limit_bytes ≤ most
-    → All (λ event. SetsLimit most event.command) history → bytes_after opening history ≤ most
+pub bytes_below : (most : ℕ) → AtEachHistory (λ opening history. opening.params.limit_bytes ≤ most
+    → All (λ event. SetsLimit most event.command) history → bytes_after opening history ≤ most)
+unfolding AtEachHistory
 bytes_below most opening history lawful low set =
     (along (λ before left. Below most opening before) (λ before event. SetsLimit most event.command) opening
     (λ before event left step set old. below-next most opening before event step set old) [] history []
@@ -180,7 +184,7 @@ same-beginning some other rest more e l =
 
 pub first_out : BetweenAny (λ opening before between. length (packets_departed between) ≡ length (waiting_after opening before)
     → packets_departed between ≡ packets_waiting opening before)
-unfolding packets_departed packets_queued
+unfolding AtEachHistory BetweenAny packets_departed packets_queued
 first_out opening before between later lawful many =
     let first = in_order opening before (beginning opening before (between ++ later) (rw (append_assoc before between later) at lawful)) in
     let both = in_order opening (before ++ between) (beginning opening (before ++ between) later lawful) in
@@ -207,6 +211,7 @@ pub waits_bounded : (rate : ℕ) (opening : Opening) (before : List Event) (even
     → length (packets_departed between) ≡ length (waiting_after opening (before ++ event ∷ []))
     → Carries rate opening (before ++ event ∷ []) between
     → rate * time_of opening (before ++ event ∷ []) between ≤ 8 * 10 ^ 9 * (params_after opening before).limit_bytes
+unfolding AtEachEvent BetweenAny
 waits_bounded rate opening before event between later packet lawful in_queue many carries =
     let b = before ++ event ∷ [] in
     let split : before ++ event ∷ [] ++ between ++ later ≡ before ++ (event ∷ (between ++ later)) =

@@ -9,9 +9,8 @@ use Rattle.pie_guarantees.specs.{IsLasting, had_room, was_considered}
 use Rattle.pie_aqm.specs.Steps as Steps
 use Rattle.pie_guarantees.proofs.BurstFacts.{counted_with, counted-with}
 use Rattle.pie_guarantees.proofs.LawfulFacts.{IsStep, along, counted-cons, sound_at}
-use Rattle.pie_guarantees.proofs.NextFacts.{next_above}
+use Rattle.pie_guarantees.proofs.NextFacts.{next_above, low_none, lows, low_rise, low_tenth, more-times, one-rise}
 use Rattle.pie_guarantees.proofs.RecoveryFacts.{same-update}
-use Rattle.pie_guarantees.proofs.SteadyFacts.{low_none, lows, low_rise, low_tenth, more-times, one-rise}
 
 -- ---- the controller's numbers from call to call
 
@@ -109,6 +108,7 @@ module _ (least : ℕ) (opening : Opening) (before between : List Event) where
 pub tenth_reached : (least : ℕ) → BetweenAny (λ opening before between. (params_after opening before).target ≤ least
     → 2048 ≤ untuned_rise (params_after opening before) least → AllAlong (IsLasting least opening) before between
     → updates_to_a_tenth (params_after opening before) least ≤ updates_in between → 10 ^ 11 ≤ probability_after opening (before ++ between))
+unfolding BetweenAny
 tenth_reached least opening before between later lawful above steep lasts many =
     let climbs = (climbs-after least opening before between later lawful above lasts).prob in
     let tenth = low_tenth (params_after opening before) least steep (updates_in between) many in omega (arith, climbs, tenth)
@@ -116,6 +116,7 @@ tenth_reached least opening before between later lawful above steep lasts many =
 pub burst_used : (least : ℕ) → BetweenAny (λ opening before between. (params_after opening before).target ≤ least
     → AllAlong (IsLasting least opening) before between
     → burst_left opening before ≤ updates_in between * (params_after opening before).t_update → burst_left opening (before ++ between) ≡ 0)
+unfolding BetweenAny
 burst_used least opening before between later lawful above lasts many =
     let left = (climbs-after least opening before between later lawful above lasts).left in omega (arith, left, many)
 
@@ -130,6 +131,7 @@ pub all_considered : (least : ℕ) (opening : Opening) (before : List Event) (be
     → burst_left opening before ≤ updates_in between * (params_after opening before).t_update → active_after opening (before ++ between) ≡ true
     → 2 * (params_after opening before).mean_pkt < bytes_after opening (before ++ between) → had_room (deed_of event) ≡ true
     → was_considered opening (before ++ between) event ≡ true
+unfolding BetweenAny
 all_considered least opening before between event later lawful above lasts some many on long room =
     let h = held_after opening (before ++ between) in
     let climbs = climbs-after least opening before between (event ∷ later) lawful above lasts in

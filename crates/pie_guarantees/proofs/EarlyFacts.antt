@@ -3,7 +3,7 @@ use Rattle.pie_guarantees.proofs.Names.{◌≡◌, ◌≤◌, ◌<◌, ◌+◌, 
 use Rattle.pie_guarantees.proofs.Names.{is_capable, bytes_of, counted, is_considered, is_picked, picked_choice, Held, chosen, offered, verdict}
 use Rattle.pie_guarantees.proofs.Names.{answer_of, Packet, Waiting, ArrivingPacket, Arrive, Answer, DroppedEarly, Marked, Command}
 use Rattle.pie_guarantees.proofs.Names.{Event, Opening, arrival_of, answer_by, held_after, waiting_after, IsLawful, IsArrivalOf, is_early, RawParams}
-use Rattle.pie_guarantees.proofs.Names.{AtEachEvent, bytes_after, params_after, effective_moment, deed, waiting_next, sum_by_push, Verdict, Empty, []}
+use Rattle.pie_guarantees.proofs.Names.{AtEachEvent, MarksOnlyCapable, OnlyMarks, SparesCapable, active_after, parts_after, bytes_after, params_after, effective_moment, deed, waiting_next, sum_by_push, Verdict, Empty, []}
 use Rattle.pie_queue.specs.declared.ecn.Ecn.{Ecn}
 use Rattle.pie_guarantees.proofs.LawfulFacts.{IsStep, step_at}
 
@@ -58,22 +58,28 @@ early_at opening before event step e = (early_arrival opening before event step 
 unless : (answer : Answer) → (is_early answer ≡ true → ⊥) → is_early answer ≡ false
 unless answer never = grind (arith, nat_tests)
 
-module _ (opening : Opening) (before : List Event) (event : Event) (later : List Event) (lawful : IsLawful opening (before ++ event ∷ later)) where
-  picked : is_early event.answer ≡ true → IsPicked (held_after opening before) (bytes_of (waiting_after opening before))
-  picked = early_at opening before event (step_at opening before event later lawful)
+picked : (opening : Opening) (before : List Event) (event : Event) (later : List Event) → IsLawful opening (before ++ event ∷ later)
+    → is_early event.answer ≡ true → IsPicked (held_after opening before) (bytes_after opening before)
+picked opening before event later lawful = early_at opening before event (step_at opening before event later lawful)
 
-  pub in_a_burst : 0 < (held_after opening before).control.burst → is_early event.answer ≡ false
-  in_a_burst some = unless event.answer (λ e. omega (arith, some, (picked e).no_burst))
+pub in_a_burst : AtEachEvent (λ opening before event. 0 < (parts_after opening before).burst → is_early event.answer ≡ false)
+unfolding AtEachEvent
+in_a_burst o b event l lawful some = unless event.answer (λ e. omega (arith, some, (picked o b event l lawful e).no_burst))
 
-  pub at_a_short_queue : bytes_of (waiting_after opening before) ≤ 2 * (held_after opening before).params.mean_pkt → is_early event.answer ≡ false
-  at_a_short_queue few = unless event.answer (λ e. omega (arith, few, (picked e).long))
+pub at_a_short_queue : AtEachEvent (λ opening before event. bytes_after opening before ≤ 2 * (params_after opening before).mean_pkt
+    → is_early event.answer ≡ false)
+unfolding AtEachEvent
+at_a_short_queue o b event l lawful few = unless event.answer (λ e. omega (arith, few, (picked o b event l lawful e).long))
 
-  pub while_inactive : (held_after opening before).active ≡ false → is_early event.answer ≡ false
-  while_inactive off = unless event.answer (λ e. let on = (picked e).active in let wrong : true ≡ false = sym on ∙ off in cc)
+pub while_inactive : AtEachEvent (λ opening before event. active_after opening before ≡ false → is_early event.answer ≡ false)
+unfolding AtEachEvent
+while_inactive o b event l lawful off =
+    unless event.answer (λ e. let on = (picked o b event l lawful e).active in let wrong : true ≡ false = sym on ∙ off in cc)
 
-  pub at_low_delay : 2 * (held_after opening before).control.old_delay < (held_after opening before).params.target
-      → (held_after opening before).control.prob < 200_000_000_000 → is_early event.answer ≡ false
-  at_low_delay low small = unless event.answer (λ e. let high = (picked e).high in grind arith)
+pub at_low_delay : AtEachEvent (λ opening before event. 2 * (parts_after opening before).old_delay < (params_after opening before).target
+    → (parts_after opening before).prob < 200_000_000_000 → is_early event.answer ≡ false)
+unfolding AtEachEvent
+at_low_delay o b event l lawful low small = unless event.answer (λ e. let high = (picked o b event l lawful e).high in grind arith)
 
 -- ---- the packets still queued
 
@@ -83,6 +89,7 @@ still-wait waiting now command answer e = grind (arith, nat_tests, sum_by_push)
 
 pub leaves_two : AtEachEvent (λ opening before event. is_early event.answer ≡ true
     → 2 * (params_after opening before).mean_pkt < bytes_after opening (before ++ event ∷ []))
+unfolding AtEachEvent
 leaves_two opening before event later lawful e =
     let step = step_at opening before event later lawful in
     let still = still-wait (waiting_after opening before) (effective_moment opening (before ++ event ∷ [])) event.command event.answer e in
@@ -97,21 +104,22 @@ empty-queue h waiting packets (Arrive moment packet word) e = absurd (finds-none
 empty-queue h waiting packets _ e = grind (arith, nat_tests)
 
 pub empty_if_none : AtEachEvent (λ opening before event. event.answer ≡ Empty → waiting_after opening before ≡ [])
+unfolding AtEachEvent
 empty_if_none opening before event later lawful e =
     empty-queue (held_after opening before) (waiting_after opening before) opening.limits.packets event.command
     (sym (step_at opening before event later lawful).here.answered ∙ e)
 
 -- ---- marks and drops of a packet
 
-pub fate-early : (params : RawParams) (prob : ℕ) (ecn : Ecn) → prob < params.mark_ecnth → is_capable ecn ≡ true
+fate-early : (params : RawParams) (prob : ℕ) (ecn : Ecn) → prob < params.mark_ecnth → is_capable ecn ≡ true
     → answer_of (chosen (picked_choice params prob ecn)) ≡ DroppedEarly → ⊥
 fate-early params prob ecn below capable dropped = grind (arith, nat_tests)
 
-pub fate-marked : (params : RawParams) (prob : ℕ) (ecn : Ecn) → is_capable ecn ≡ false
+fate-marked : (params : RawParams) (prob : ℕ) (ecn : Ecn) → is_capable ecn ≡ false
     → answer_of (chosen (picked_choice params prob ecn)) ≡ Marked → ⊥
 fate-marked params prob ecn other marked = grind (arith, nat_tests)
 
-pub arrival-chosen : (opening : Opening) (before : List Event) (event : Event) (packet : Packet) → IsStep opening before event
+arrival-chosen : (opening : Opening) (before : List Event) (event : Event) (packet : Packet) → IsStep opening before event
     → IsArrivalOf event packet → is_early event.answer ≡ true
     → event.answer ≡ answer_of (chosen (picked_choice (held_after opening before).params (held_after opening before).control.prob packet.ecn))
 arrival-chosen opening before event packet step arrival e =
@@ -121,3 +129,17 @@ arrival-chosen opening before event packet step arrival e =
     let is : event.answer ≡ answer_of (verdict h a) =
     step.here.answered ∙ ap (λ (c : Command). answer_by h w opening.limits.packets c) arrival.2 in
     is ∙ ap answer_of (chosen-of h a (ap (λ (x : Answer). is_early x) (sym is) ∙ e)).verdict
+
+pub only_capable_marked : AtEachEvent (λ opening before event. MarksOnlyCapable event)
+unfolding AtEachEvent
+only_capable_marked opening before event later lawful packet arrival other marked =
+    let h = held_after opening before in
+    let is = arrival-chosen opening before event packet (step_at opening before event later lawful) arrival (ap (λ (x : Answer). is_early x) marked) in
+    fate-marked h.params h.control.prob packet.ecn other (sym is ∙ marked)
+
+pub capable_spared : AtEachEvent (λ opening before event. OnlyMarks opening before → SparesCapable event)
+unfolding AtEachEvent
+capable_spared opening before event later lawful below packet arrival capable dropped =
+    let h = held_after opening before in
+    let is = arrival-chosen opening before event packet (step_at opening before event later lawful) arrival (ap (λ (x : Answer). is_early x) dropped) in
+    fate-early h.params h.control.prob packet.ecn below capable (sym is ∙ dropped)

@@ -1,6 +1,5 @@
 -- In a lawful history, a core represents the events before each place, and each event changes the core as its call does.
 use Rattle.pie_guarantees.proofs.Names.{◌≡◌, ◌≤◌, ◌<◌, ◌+◌, ℕ, List, [], ◌∷◌, ◌++◌, false, sym, subst, ap, ◌∙◌, arith, ⊤, All, None, length, ◌^◌}
-use Rattle.pie_guarantees.proofs.Names.{AtEachEvent}
 use Rattle.pie_guarantees.proofs.Names.{append-nil, append_assoc, All-head, All-tail, first_bad, deed_of, caller_moment, IsTaken, after_call, Held}
 use Rattle.pie_guarantees.proofs.Names.{IsSound, places, place_of, Waiting, Command, Event, Opening, call_of}
 use Rattle.pie_guarantees.proofs.Names.{IsLegalAt, has_bad_size, is_too_soon, refusal_by_rule, due_after, held_after, effective_moment, waiting_after}
@@ -122,7 +121,8 @@ steady_at opening before later lawful =
     steady-along opening [] before later (steady-first opening lawful.opens lawful.params) lawful.legal lawful.set
 
 -- each event of a lawful history is a step
-pub step_at : AtEachEvent (λ opening before event. IsStep opening before event)
+pub step_at : (opening : Opening) (before : List Event) (event : Event) (later : List Event) → IsLawful opening (before ++ event ∷ later)
+    → IsStep opening before event
 step_at opening before event later lawful =
     step-of opening before event (steady_at opening before (event ∷ later) lawful)
     (at_place (IsLegalAt opening) before event later lawful.legal)

@@ -1,58 +1,49 @@
 -- Imports of this folder's files from lower crates, in one place.
-pub use Rattle.std.proofs.Common.{All, Bool, List, None, Option, Some, [], ap, arith, cond, drop, false, fold, if◌then◌else◌, inl, inr, length, map}
-pub use Rattle.std.proofs.Common.{max, min, nat_le, nat_lt, refl, subst, suc, sym, true, zero, ℕ, ◌&&◌, ◌*◌, ◌++◌, ◌+◌, ◌-◌, ◌/◌, ◌<◌, ◌==◌, ◌^◌, ◌∙◌}
-pub use Rattle.std.proofs.Common.{◌∷◌, ◌≡◌, ◌≤◌, ◌⊎◌}
+pub use Rattle.std.proofs.Common.{All, Bool, List, None, Option, Some, [], ap, arith, cond, drop, false, fold, if◌then◌else◌, inl, length, map, max}
+pub use Rattle.std.proofs.Common.{min, nat_lt, refl, subst, suc, sym, true, zero, ℕ, ◌&&◌, ◌*◌, ◌++◌, ◌+◌, ◌-◌, ◌/◌, ◌<◌, ◌==◌, ◌^◌, ◌∙◌, ◌∷◌, ◌≡◌}
+pub use Rattle.std.proofs.Common.{◌≤◌, ◌⊎◌, get_or, take}
 pub use Rattle.std.proofs.Math.Nat.{div-le_of_le-mul, div-mul-le_self, le_of_mul-le-mul_right, lt-mul-div-succ, pow-suc}
-pub use Rattle.std.proofs.lemmas.Bool.{eqb-false, leb-true, ltb-false}
 pub use Rattle.std.proofs.lemmas.Bool.Decides.{nat_tests}
 pub use Rattle.std.proofs.lemmas.Int.{clamps, ints}
 pub use Rattle.std.proofs.lemmas.List.{append-nil, append_assoc, length-map, map-append}
-pub use Rattle.std.proofs.lemmas.List.Elements.{All-cons, All-head, All-nil, All-tail, All-weaker, filter_map-append}
-pub use Rattle.std.proofs.lemmas.List.Sums.{sum_by-append, sum_by-cons, sum_by_push}
+pub use Rattle.std.proofs.lemmas.List.Elements.{All-cons, All-head, All-nil, All-tail, filter_map-append}
+pub use Rattle.std.proofs.lemmas.List.Sums.{sum_by-cons, sum_by_push}
 pub use Rattle.std.proofs.lemmas.Nat.{le-div, mul-le}
-pub use Rattle.std.specs.Int.{int_min}
-pub use Rattle.std.specs.Prelude.{Err, Ok, Result, int_div, negsuc, not, pos, sum_by, ℤ, ⊤, ◌*ℤ◌, ◌+ℤ◌, ◌-ℤ◌, ◌||◌, ◌≤ℤ◌}
+pub use Rattle.std.specs.Prelude.{Err, Ok, Result, int_div, not, pos, sum_by, ℤ, ⊤, ◌*ℤ◌, ◌-ℤ◌, ◌||◌, ◌≤ℤ◌}
 pub use Rattle.pie_aqm.proofs.Sounds.{in-range, threshold-holds, Sound_call, Sound_opened, next-hold}
 pub use Rattle.pie_aqm.proofs.Places.{filter_map-push, place_of, with_one}
 pub use Rattle.pie_aqm.specs.Calls.{IsTaken, after_call}
 pub use Rattle.pie_aqm.specs.Held.{Held, IsSound}
 unfoldable pub use Rattle.pie_aqm.specs.History.{held_of}
 pub use Rattle.pie_aqm.specs.Places.{Place, places}
-pub use Rattle.pie_aqm.specs.Steps.{anew, bytes_with, choice, chosen, is_calm, judged, now_at, offered}
+pub use Rattle.pie_aqm.specs.Steps.{chosen, offered}
 unfoldable pub use Rattle.pie_aqm.specs.Steps.{verdict}
-pub use Rattle.pie_book.proofs.CoreFacts.{answer_fits, at_place, departed-of-legal, first_shows, held-is, next-core, next-legal}
-pub use Rattle.pie_book.proofs.CoreFacts.{effective_moment-push, waiting_after-push}
+pub use Rattle.pie_book.proofs.CoreFacts.{at_place, departed-of-legal, first_shows, held-is, next-core, next-legal, effective_moment-push}
+pub use Rattle.pie_book.proofs.CoreFacts.{waiting_after-push}
 unfoldable pub use Rattle.pie_book.proofs.Examples.{worked}
-pub use Rattle.pie_book.specs.Decision.{arrival_of, call_of, departure_call}
-pub use Rattle.pie_book.specs.Decision.{IsLegal, IsLegalAt, answer_by, answer_to_departure, decision, has_bad_size, is_too_soon, refusal_by_rule}
+pub use Rattle.pie_book.specs.Decision.{arrival_of, call_of, IsLegal, IsLegalAt, answer_by, decision, has_bad_size, is_too_soon, refusal_by_rule}
 pub use Rattle.pie_book.specs.Decision.{refusal_with}
 pub use Rattle.pie_guarantees.specs.{active_after, delay_after, params_after, parts_after, bytes_after, effective_moment, waiting_after, count_of}
-pub use Rattle.pie_guarantees.specs.{is_dropped_bytes, is_dropped_packets, is_reset, Answer, Arrive, Command, Depart, DroppedEarly, Enqueued, Event}
-pub use Rattle.pie_guarantees.specs.{Left, Marked, Opening, Packet, SetParams, Update, Waiting, Deed, deed_of, departure, is_update, AllAllow, Allows}
-pub use Rattle.pie_guarantees.specs.{IsAllowed, IsWhole, KeepsParams, SetsAllow, burst_left, updates_in, AtEachEvent, BetweenAny, IsLawful}
-pub use Rattle.pie_guarantees.specs.{SetsInRange, IsActiveUpdate}
-pub use Rattle.pie_guarantees.specs.{IsSteady, least_rise, old_delay_after, probability_after, untuned_fall, untuned_rise, updates_from}
-pub use Rattle.pie_guarantees.specs.{updates_to_a_tenth, IsArrivalOf, IsEarly, MarksOnlyCapable, OnlyMarks, SparesCapable, is_early, RawParams}
-pub use Rattle.pie_guarantees.specs.{burst_begins, burst_continues, burst_opening, first_drop, lowered, lowered_opening, IsBetween, samples_after}
-pub use Rattle.pie_guarantees.specs.{flows_in_turn, flows_opening, half_is_reached, last_update}
+pub use Rattle.pie_guarantees.specs.{is_dropped_bytes, is_dropped_packets, is_reset, Answer, Arrive, Command, Depart, DroppedEarly, Event, Marked}
+pub use Rattle.pie_guarantees.specs.{Opening, Packet, SetParams, Update, Waiting, Deed, deed_of, departure, is_update, AllAllow, Allows, IsAllowed}
+pub use Rattle.pie_guarantees.specs.{IsWhole, KeepsParams, SetsAllow, burst_left, updates_in, IsLawful, SetsInRange, IsActiveUpdate, IsSteady}
+pub use Rattle.pie_guarantees.specs.{least_rise, old_delay_after, probability_after, untuned_fall, untuned_rise, updates_from, updates_to_a_tenth}
+pub use Rattle.pie_guarantees.specs.{IsArrivalOf, IsEarly, MarksOnlyCapable, OnlyMarks, SparesCapable, is_early, RawParams, burst_begins}
+pub use Rattle.pie_guarantees.specs.{burst_continues, burst_opening, first_drop, lowered, lowered_opening, IsBetween, samples_after, flows_in_turn}
+pub use Rattle.pie_guarantees.specs.{flows_opening, half_is_reached, last_update}
 pub use Rattle.pie_book.specs.Estimates.{average_after, due_after}
 unfoldable pub use Rattle.pie_book.specs.Estimates.{held_after}
 pub use Rattle.pie_book.specs.Statistics.{is_dropped_early, is_marked, is_queued}
-pub use Rattle.pie_book.specs.Core.{after_command, answer_in, call_in, first_core, waiting_next}
-pub use Rattle.pie_book.specs.Types.{ArrivingPacket, DroppedBytes, DroppedPackets, Empty}
-pub use Rattle.pie_book.specs.Types.{Refusal, Reset, Verdict}
-pub use Rattle.pie_control.proofs.Bounds.{bounded_of-below, decay-below, int_div-below}
+pub use Rattle.pie_book.specs.Core.{after_command, call_in, first_core, waiting_next}
+pub use Rattle.pie_book.specs.Types.{ArrivingPacket, Empty, Reset, Verdict}
 pub use Rattle.pie_control.specs.Next.{decays}
 unfoldable pub use Rattle.pie_control.specs.Delay.{delay_of}
 unfoldable pub use Rattle.pie_control.specs.Next.{decayed, next, raw_step, tuned_step, tuning_divisor}
-pub use Rattle.pie_early.specs.Decision.{counted, counted_as, joined, picked_choice}
+pub use Rattle.pie_early.specs.Decision.{counted, counted_as, picked_choice}
 unfoldable pub use Rattle.pie_early.specs.Decision.{is_considered, is_picked}
-pub use Rattle.pie_early.specs.declared.early.Choice.{Choice}
-pub use Rattle.pie_early.specs.declared.early.Choice.TheVariants.{Drop, Enqueue, Mark}
-pub use Rattle.pie_event.specs.Deed.{arrival_deed, deed, departure_deed, fits, caller_moment, with_ce}
+pub use Rattle.pie_event.specs.Deed.{deed, caller_moment}
 pub use Rattle.pie_event.specs.Verdict.{answer_of}
-pub use Rattle.pie_fixed.specs.Fixed.{bounded_of}
-unfoldable pub use Rattle.pie_guarantees.specs.{AllAlong, after_updates}
+unfoldable pub use Rattle.pie_guarantees.specs.{AllAlong, AtEachEvent, AtEachHistory, BetweenAny, after_updates}
 pub use Rattle.pie_params.specs.Elements.{is_capped, usual}
 pub use Rattle.pie_params.specs.Profile.{default_profile}
 pub use Rattle.pie_params.specs.Range.{first_bad}
@@ -62,5 +53,4 @@ pub use Rattle.pie_queue.specs.Ecn.{is_capable}
 pub use Rattle.pie_queue.specs.Queue.{bytes_of}
 pub use Rattle.pie_rate.specs.Average.{average_of, averaged}
 unfoldable pub use Rattle.pie_rate.specs.Average.{average}
-pub use Rattle.std.proofs.Common.{get_or, take}
 pub use Rattle.std.proofs.Math.Seq.{drop-append_seam, take-append_seam}

@@ -1,8 +1,8 @@
--- The relation of the next probability to the delay.
-use Rattle.pie_guarantees.proofs.Names.{◌≡◌, ◌≤◌, ◌<◌, ◌+◌, ◌*◌, ◌/◌, ◌^◌, ℕ, true, false, arith, ℤ, pos}
-use Rattle.pie_guarantees.proofs.Names.{◌-ℤ◌, ◌*ℤ◌, ◌≤ℤ◌, int_div, nat_tests, clamps, ints, le-div, mul-le}
-use Rattle.pie_guarantees.proofs.Names.{div-mul-le_self, Elements, Step, is_capped, decayed, decays, next, raw_step, tuned_step}
-use Rattle.pie_guarantees.proofs.Names.{tuning_divisor}
+-- The relation of the next probability to the delay, and its change by updates at one delay.
+use Rattle.pie_guarantees.proofs.Names.{◌≡◌, ◌≤◌, ◌<◌, ◌+◌, ◌*◌, ◌/◌, ◌^◌, ℕ, true, false, arith, ℤ, pos, ◌-ℤ◌, ◌*ℤ◌, ◌≤ℤ◌, int_div, nat_tests}
+use Rattle.pie_guarantees.proofs.Names.{clamps, ints, le-div, mul-le, div-mul-le_self, Elements, Step, is_capped, decayed, decays, next, raw_step}
+use Rattle.pie_guarantees.proofs.Names.{tuned_step, tuning_divisor, ◌-◌, zero, suc, refl, ap, ◌∙◌, min, lt-mul-div-succ, after_updates, next-hold}
+use Rattle.pie_guarantees.proofs.Names.{least_rise, untuned_fall, untuned_rise, updates_from, updates_to_a_tenth}
 use Rattle.pie_params.specs.declared.raw.RawParams.{RawParams}
 use Rattle.pie_params.specs.declared.elements.Decay.{Decay}
 
@@ -112,3 +112,244 @@ unfolding next decayed
 next_decays elements params prob delay old is fallen =
     let t = tuned-down elements.step prob params delay old (decays_low elements.decay params delay old is) fallen in
     grind (arith, nat_tests, ints, clamps)
+
+-- ---- updates at one delay, by the table of auto-tuning
+
+-- ---- the table of auto-tuning
+
+first-divisor : tuning_divisor 0 ≡ 2048
+unfolding tuning_divisor
+first-divisor = refl
+
+-- a higher probability is divided by less
+divisor-falls : (low high : ℕ) → low ≤ high → tuning_divisor high ≤ tuning_divisor low
+unfolding tuning_divisor
+divisor-falls low high le = grind (arith, nat_tests)
+
+-- ---- one update
+
+raw-above : (params : RawParams) (delay : ℕ) → params.target ≤ delay → raw_step params delay delay ≡ pos (untuned_rise params delay)
+unfolding raw_step
+raw-above params delay above = grind (arith, ints)
+
+raw-below : (params : RawParams) (delay : ℕ) → delay ≤ params.target → raw_step params delay delay ≡ pos 0 -ℤ pos (untuned_fall params delay)
+unfolding raw_step
+raw-below params delay below = grind (arith, ints)
+
+-- a quotient of a negative number is rounded toward zero
+quotient-below : (n d : ℕ) → int_div (pos 0 -ℤ pos n) (pos d) ≡ pos 0 -ℤ pos (n / d)
+quotient-below n d = grind (arith, ints)
+
+tuned-below : (step : Step) (prob n : ℕ) → tuned_step step prob (pos 0 -ℤ pos n) ≡ pos 0 -ℤ pos (n / tuning_divisor prob)
+unfolding tuned_step
+tuned-below step prob n = let q = quotient-below n (tuning_divisor prob) in grind (arith, nat_tests, ints, clamps)
+
+-- a rise is at least `least_rise`, and at most the tuned rise
+pub one-rise : (elements : Elements) (params : RawParams) (prob delay : ℕ) → 0 < params.target → params.target ≤ delay
+    → (min (10 ^ 12) (prob + least_rise params delay prob) ≤ next elements params prob delay delay)
+    × (next elements params prob delay delay ≤ prob + untuned_rise params delay / tuning_divisor prob)
+unfolding next decayed tuned_step
+one-rise elements params prob delay some above =
+    rw (none_decays elements.decay params delay delay some above, raw-above params delay above)
+    (grind (arith, nat_tests, ints, clamps), grind (arith, nat_tests, ints, clamps))
+
+pub fallen-step : (elements : Elements) (params : RawParams) (prob delay : ℕ) → delay ≤ params.target
+    → tuned_step elements.step prob (raw_step params delay delay) ≡ pos 0 -ℤ pos (untuned_fall params delay / tuning_divisor prob)
+fallen-step elements params prob delay below =
+    ap (λ (z : ℤ). tuned_step elements.step prob z) (raw-below params delay below) ∙ tuned-below elements.step prob (untuned_fall params delay)
+
+one-fall : (elements : Elements) (params : RawParams) (prob delay : ℕ) → delay ≤ params.target → 0 < next elements params prob delay delay
+    → next elements params prob delay delay + untuned_fall params delay / tuning_divisor prob ≤ prob
+unfolding next decayed
+one-fall elements params prob delay below some = let t = fallen-step elements params prob delay below in grind (arith, nat_tests, ints, clamps)
+
+one-fall-most : (elements : Elements) (params : RawParams) (prob delay : ℕ) → prob ≤ 10 ^ 12 → decays elements.decay params delay delay ≡ false
+    → delay ≤ params.target → prob ≤ next elements params prob delay delay + untuned_fall params delay / tuning_divisor prob
+unfolding next decayed
+one-fall-most elements params prob delay within still below =
+    let t = fallen-step elements params prob delay below in grind (arith, nat_tests, ints, clamps)
+
+-- ---- several updates
+
+-- a smaller divisor gives a greater quotient
+div-more : (n d e : ℕ) → 0 < e → e ≤ d → n / d ≤ n / e
+div-more n d e some le =
+    le-div (n / d) n e some (let whole = div-mul-le_self n d in let part = mul-le (n / d) e (n / d) d (omega arith) le in omega (arith, whole, part))
+
+-- from a higher probability, a rise is at least as large
+rise-grows : (params : RawParams) (delay low high : ℕ) → low ≤ high → least_rise params delay low ≤ least_rise params delay high
+rise-grows params delay low high le =
+    let more = div-more (untuned_rise params delay) (tuning_divisor low) (tuning_divisor high) (divisor-some high) (divisor-falls low high le) in
+    omega (arith, more)
+
+pub more-times : (n rise : ℕ) → suc n * rise ≡ rise + n * rise
+more-times n rise = grind arith
+
+-- the distance of n steps
+enough : (far by : ℕ) → 0 < by → far ≤ (far / by + 1) * by
+enough far by some = let rest = lt-mul-div-succ far some in omega (arith, rest)
+
+module _ (params : RawParams) (delay : ℕ) where
+  -- the least probability after n updates, from any probability, if the delay does not fall
+  pub lows : ℕ → ℕ
+  lows zero = 0
+  lows (suc n) = min (10 ^ 12) (lows n + least_rise params delay (lows n))
+
+  pub low_none : lows 0 ≡ 0
+  unfolding lows
+  low_none = refl
+
+  pub low_rise : (n prob : ℕ) → lows n ≤ prob → lows (suc n) ≤ min (10 ^ 12) (prob + least_rise params delay prob)
+  unfolding lows
+  low_rise n prob le = let more = rise-grows params delay (lows n) prob le in omega (arith, le, more)
+
+  lows-within : (n : ℕ) → lows n ≤ 10 ^ 12
+  unfolding lows
+  lows-within zero = omega arith
+  lows-within (suc n) = omega arith
+
+  lows-rise : (m n : ℕ) → (lows m ≤ lows (m + n)) × (min (10 ^ 12) (lows m + n * least_rise params delay (lows m)) ≤ lows (m + n))
+  unfolding lows
+  lows-rise m zero = let none : m + zero ≡ m = omega arith in rw none (omega arith, omega arith)
+  lows-rise m (suc n) =
+      let one : m + suc n ≡ suc (m + n) = omega arith in
+      let rest = lows-rise m n in
+      let more = rise-grows params delay (lows m) (lows (m + n)) rest.0 in
+      let times = more-times n (least_rise params delay (lows m)) in
+      let within = lows-within m in rw one (omega (arith, rest.0, within), omega (arith, rest.1, more, times))
+
+  module _ (steep : 2048 ≤ untuned_rise params delay) where
+    rise-some : (low : ℕ) → 0 < least_rise params delay low
+    rise-some low =
+        let one = le-div 1 (untuned_rise params delay) (tuning_divisor low) (divisor-some low)
+        (let top = divisor-falls 0 low (omega arith) in let first = first-divisor in omega (arith, steep, top, first)) in
+        omega (arith, one)
+
+    -- if n updates reach this value, more updates reach further
+    further : (m low high : ℕ) → high ≤ 10 ^ 12 → low ≤ lows m → high ≤ lows (m + updates_from params delay low high)
+    further m low high top there =
+        let far = (lows-rise m (updates_from params delay low high)).1 in
+        let steps = enough (high - low) (least_rise params delay low) (rise-some low) in
+        let more = mul-le (updates_from params delay low high) (least_rise params delay low) (updates_from params delay low high)
+        (least_rise params delay (lows m)) (omega arith) (rise-grows params delay low (lows m) there) in
+        omega (arith, far, steps, more, there, top)
+
+    first-row : 10 ^ 6 ≤ lows (updates_from params delay 0 (10 ^ 6))
+    first-row =
+        let none : 0 + updates_from params delay 0 (10 ^ 6) ≡ updates_from params delay 0 (10 ^ 6) = omega arith in
+        rw none at (further 0 0 (10 ^ 6) (omega arith) (omega arith))
+
+    pub low_tenth : (n : ℕ) → updates_to_a_tenth params delay ≤ n → 10 ^ 11 ≤ lows n
+    low_tenth n many =
+        let split : updates_to_a_tenth params delay + (n - updates_to_a_tenth params delay) ≡ n = omega (arith, many) in
+        let tenth = further _ (10 ^ 10) (10 ^ 11) (omega arith) (further _ (10 ^ 9) (10 ^ 10) (omega arith)
+        (further _ (10 ^ 8) (10 ^ 9) (omega arith) (further _ (10 ^ 7) (10 ^ 8) (omega arith)
+        (further _ (10 ^ 6) (10 ^ 7) (omega arith) first-row)))) in
+        let stays = rw split at (lows-rise (updates_to_a_tenth params delay) (n - updates_to_a_tenth params delay)).0 in
+        omega (arith, tenth, stays)
+
+module _ (elements : Elements) (params : RawParams) (delay : ℕ) where
+  -- after one update, and after n updates
+  abbrev once : ℕ → ℕ
+  once prob = next elements params prob delay delay
+
+  abbrev after : ℕ → ℕ → ℕ
+  after n prob = after_updates n elements params delay prob
+
+  once-within : (prob : ℕ) → once prob ≤ 10 ^ 12
+  once-within prob = next-hold elements params prob delay delay
+
+  after-within : (n prob : ℕ) → prob ≤ 10 ^ 12 → after n prob ≤ 10 ^ 12
+  unfolding after_updates
+  after-within zero prob within = within
+  after-within (suc n) prob within = after-within n (once prob) (once-within prob)
+
+  pub after_both : (m n prob : ℕ) → after (m + n) prob ≡ after n (after m prob)
+  unfolding after_updates
+  after_both zero n prob = let none : 0 + n ≡ n = omega arith in ap (λ (k : ℕ). after k prob) none
+  after_both (suc m) n prob =
+      let one : suc m + n ≡ suc (m + n) = omega arith in ap (λ (k : ℕ). after k prob) one ∙ after_both m n (once prob)
+
+  module _ (some : 0 < params.target) (above : params.target ≤ delay) where
+    -- the probability never falls; each update increases it by at least the first and at most the second amount
+    rises : (n rise most prob : ℕ) → rise ≤ least_rise params delay prob → prob ≤ 10 ^ 12
+        → (prob ≤ after n prob) × (min (10 ^ 12) (prob + n * rise) ≤ after n prob)
+        × (after n prob ≤ most → after n prob ≤ prob + n * (untuned_rise params delay / tuning_divisor most))
+    unfolding after_updates
+    rises zero rise most prob least within = (omega arith, omega arith, λ below. omega arith)
+    rises (suc n) rise most prob least within =
+        let up = next_up elements params prob delay delay within some above (omega arith) in
+        let grows = rise-grows params delay prob (once prob) up in
+        let rest = rises n rise most (once prob) (omega (arith, least, grows)) (once-within prob) in
+        let one = (one-rise elements params prob delay some above).0 in
+        let times = more-times n rise in (
+          omega (arith, up, rest.0),
+          omega (arith, one, rest.1, times, least),
+          λ below.
+              let more = div-more (untuned_rise params delay) (tuning_divisor prob) (tuning_divisor most) (divisor-some most)
+              (divisor-falls prob most (omega (arith, up, rest.0, below))) in
+              let one = (one-rise elements params prob delay some above).1 in
+              let times = more-times n (untuned_rise params delay / tuning_divisor most) in
+              let later = rest.2 below in omega (arith, one, later, more, times),
+        )
+
+    pub rises_at_least : (n prob : ℕ) → prob ≤ 10 ^ 12 → min (10 ^ 12) (prob + n * least_rise params delay prob) ≤ after n prob
+    rises_at_least n prob within = (rises n (least_rise params delay prob) 0 prob (omega arith) within).1
+
+    pub rises_at_most : (n prob most : ℕ) → prob ≤ 10 ^ 12 → after n prob ≤ most
+        → after n prob ≤ prob + n * (untuned_rise params delay / tuning_divisor most)
+    rises_at_most n prob most within below = (rises n 0 most prob (omega arith) within).2 below
+
+  module _ (below : delay ≤ params.target) where
+    -- the probability never rises; each update decreases it by at least the first amount, and, if it does not decay, by at most the second
+    falls : (n fall least prob : ℕ) → (after n prob ≤ prob)
+        × (0 < least → least ≤ after n prob → after n prob + n * (untuned_fall params delay / tuning_divisor least) ≤ prob)
+        × (prob ≤ 10 ^ 12 → decays elements.decay params delay delay ≡ false → untuned_fall params delay / tuning_divisor prob ≤ fall
+        → prob ≤ after n prob + n * fall)
+    unfolding after_updates
+    falls zero fall least prob = (omega arith, λ some above. omega arith, λ within still most. omega arith)
+    falls (suc n) fall least prob =
+        let down = next_down elements params prob delay delay below (omega arith) in
+        let rest = falls n fall least (once prob) in (
+          omega (arith, down, rest.0),
+          λ some above.
+              let one = one-fall elements params prob delay below (omega (arith, some, above, rest.0)) in
+              let more = div-more (untuned_fall params delay) (tuning_divisor least) (tuning_divisor prob) (divisor-some prob)
+              (divisor-falls least prob (omega (arith, above, rest.0, down))) in
+              let times = more-times n (untuned_fall params delay / tuning_divisor least) in
+              let later = rest.1 some above in omega (arith, one, later, more, times),
+          λ within still most.
+              let one = one-fall-most elements params prob delay within still below in
+              let less = div-more (untuned_fall params delay) (tuning_divisor (once prob)) (tuning_divisor prob) (divisor-some prob)
+              (divisor-falls (once prob) prob down) in
+              let times = more-times n fall in
+              let later = rest.2 (once-within prob) still (omega (arith, less, most)) in omega (arith, one, later, most, times),
+        )
+
+    pub stays_down : (n prob : ℕ) → after n prob ≤ prob
+    stays_down n prob = (falls n 0 0 prob).0
+
+    pub falls_at_least : (n prob least : ℕ) → 0 < least → least ≤ after n prob
+        → after n prob + n * (untuned_fall params delay / tuning_divisor least) ≤ prob
+    falls_at_least n prob least = (falls n 0 least prob).1
+
+    pub falls_at_most : (n prob : ℕ) → prob ≤ 10 ^ 12 → decays elements.decay params delay delay ≡ false
+        → prob ≤ after n prob + n * (untuned_fall params delay / tuning_divisor prob)
+    falls_at_most n prob within still = (falls n (untuned_fall params delay / tuning_divisor prob) 0 prob).2 within still (omega arith)
+
+  -- ---- the increase to a tenth
+
+  module _ (some : 0 < params.target) (above : params.target ≤ delay) where
+    low-after : (n prob : ℕ) → prob ≤ 10 ^ 12 → lows params delay n ≤ after n prob
+    unfolding after_updates lows
+    low-after zero prob within = omega arith
+    low-after (suc n) prob within =
+        let one : n + 1 ≡ suc n = omega arith in
+        let last = rw one at (after_both n 1 prob) in
+        let rise = (one-rise elements params (after n prob) delay some above).0 in
+        let low = low_rise params delay n (after n prob) (low-after n prob within) in rw last (omega (arith, rise, low))
+
+    pub reaches_a_tenth : 2048 ≤ untuned_rise params delay → (n prob : ℕ) → prob ≤ 10 ^ 12 → updates_to_a_tenth params delay ≤ n
+        → 10 ^ 11 ≤ after n prob
+    reaches_a_tenth steep n prob within many =
+        let low = low-after n prob within in let tenth = low_tenth params delay steep n many in omega (arith, low, tenth)

@@ -9,8 +9,7 @@ use Rattle.pie_guarantees.proofs.Names.{KeepsParams, updates_in, AllAlong, IsAct
 use Rattle.pie_guarantees.proofs.Names.{probability_after, RawParams}
 use Rattle.pie_aqm.specs.Steps as Steps
 use Rattle.pie_guarantees.proofs.LawfulFacts.{IsStep, along, counted-cons}
-use Rattle.pie_guarantees.proofs.NextFacts.{decays_low, next_decays}
-use Rattle.pie_guarantees.proofs.SteadyFacts.{after_both, stays_down}
+use Rattle.pie_guarantees.proofs.NextFacts.{decays_low, next_decays, after_both, stays_down}
 
 pub elements-is : (opening : Opening) (history : List Event) → (held_after opening history).elements ≡ opening.choices.elements
 unfolding held_after held_of
@@ -71,7 +70,7 @@ one-update false n elements params delay prob =
 pub steadily : (delay : ℕ) → BetweenAny (λ opening before between. AllAlong (IsSteady delay opening) before between
     → probability_after opening (before ++ between)
     ≡ after_updates (updates_in between) opening.choices.elements (params_after opening before) delay (probability_after opening before))
-unfolding after_updates
+unfolding BetweenAny after_updates
 steadily delay opening before between later lawful steady =
     sym (along Comes (IsSteady delay opening) opening stays before between later lawful steady refl)
   where
@@ -104,7 +103,7 @@ fades-more x y p a b rest one =
     let second : y * 100 * b ≤ p * 98 * b = mul-le (y * 100) b (p * 98) b one (omega arith) in
     grind arith
 
-pub faded-after : (n : ℕ) (elements : Elements) (params : RawParams) (delay prob : ℕ) → decays elements.decay params delay delay ≡ true
+faded-after : (n : ℕ) (elements : Elements) (params : RawParams) (delay prob : ℕ) → decays elements.decay params delay delay ≡ true
     → after_updates n elements params delay prob * 100 ^ n ≤ prob * 98 ^ n
 unfolding after_updates
 faded-after zero elements params delay prob is = omega arith
@@ -114,6 +113,13 @@ faded-after (suc n) elements params delay prob is =
     rw (pow-suc 100 n, pow-suc 98 n)
     (fades-more (after_updates n elements params delay (next elements params prob delay delay)) (next elements params prob delay delay) prob
     (100 ^ n) (98 ^ n) rest one)
+
+pub fades_with_updates : (delay : ℕ) → BetweenAny (λ opening before between. AllAlong (IsSteady delay opening) before between
+    → decays opening.choices.elements.decay (params_after opening before) delay delay ≡ true
+    → probability_after opening (before ++ between) * 100 ^ updates_in between ≤ probability_after opening before * 98 ^ updates_in between)
+unfolding BetweenAny
+fades_with_updates delay opening before between later lawful steady is = rw (steadily delay opening before between later lawful steady)
+    (faded-after (updates_in between) opening.choices.elements (params_after opening before) delay (probability_after opening before) is)
 
 -- a hundred and fourteen times 98 hundredths are less than a tenth
 hundred-fourteen : 98 ^ 114 * 10 ≤ 100 ^ 114
@@ -147,3 +153,9 @@ pub exactly : (after_updates 162 usual default_profile 30_000_000 0 ≡ 100_178_
     × (after_updates 156 usual default_profile 30_000_000 (next usual default_profile 0 30_000_000 0) ≡ 99_247_741_696)
 unfolding after_updates next raw_step tuned_step tuning_divisor decayed
 exactly = (refl, refl, refl, refl, refl, refl)
+
+-- from a tenth on a rise is capped
+pub at_a_tenth : (next usual default_profile 99_999_999_999 1_000_000_000 0 ≡ 786_562_499_999)
+    × (next usual default_profile 100_000_000_000 1_000_000_000 0 ≡ 120_000_000_000)
+unfolding next raw_step tuned_step tuning_divisor decayed
+at_a_tenth = (refl, refl)

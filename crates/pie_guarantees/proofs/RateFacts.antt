@@ -1,7 +1,7 @@
 -- A weighted average lies between its two values.
-use Rattle.pie_guarantees.proofs.Names.{◌≡◌, ◌≤◌, ◌<◌, ◌+◌, ◌*◌, ◌-◌, ◌/◌, ℕ, List, [], ◌∷◌, refl, arith, length, All, fold, All-head, All-tail}
+use Rattle.pie_guarantees.proofs.Names.{AtEachHistory, ◌≡◌, ◌≤◌, ◌<◌, ◌+◌, ◌*◌, ◌-◌, ◌/◌, ℕ, List, [], ◌∷◌, refl, arith, length, All, fold, All-head, All-tail}
 use Rattle.pie_guarantees.proofs.Names.{le-div, mul-le, div-le_of_le-mul, average_of, averaged, IsBetween, min, ◌^◌, delay_of}
-use Rattle.pie_guarantees.proofs.Names.{Elements, Event, Opening, IsLawful, append-nil, held_after, held_of, params_after, bytes_after, delay_after}
+use Rattle.pie_guarantees.proofs.Names.{Elements, append-nil, held_after, held_of, params_after, bytes_after, delay_after}
 use Rattle.pie_guarantees.proofs.Names.{average_after, samples_after, threshold-holds, average, sym, ap, ◌∙◌, subst}
 use Rattle.pie_params.specs.declared.elements.Delay.{Delay}
 use Rattle.pie_params.specs.declared.elements.Delay.TheVariants.{Rate}
@@ -37,17 +37,17 @@ between-later t least most small first (sample ∷ later) so all =
     (weighted t (65536 - t) least most sample first whole here so)
     (All-tail (IsBetween least most) sample later all)
 
-pub between-all : (t least most : ℕ) (times : List ℕ) → t ≤ 65536 → 0 < length times → All (IsBetween least most) times
+between-all : (t least most : ℕ) (times : List ℕ) → t ≤ 65536 → 0 < length times → All (IsBetween least most) times
     → IsBetween least most (average_of t times)
 between-all t least most [] small some all = absurd (omega arith)
 between-all t least most (first ∷ later) small some all =
     between-later t least most small first later (All-head (IsBetween least most) first later all) (All-tail (IsBetween least most) first later all)
 
-pub none-sampled : (t : ℕ) (times : List ℕ) → length times ≡ 0 → average_of t times ≡ 0
+none-sampled : (t : ℕ) (times : List ℕ) → length times ≡ 0 → average_of t times ≡ 0
 none-sampled t [] none = refl
 none-sampled t (first ∷ later) none = absurd (omega arith)
 
-pub delay-between : (bytes average threshold least most : ℕ) → 0 < threshold → IsBetween least most average
+delay-between : (bytes average threshold least most : ℕ) → 0 < threshold → IsBetween least most average
     → IsBetween (min (2 ^ 40) (bytes * least / threshold)) (bytes * most / threshold) (delay_of bytes average threshold)
 unfolding delay_of
 delay-between bytes average threshold least most some between =
@@ -57,19 +57,22 @@ delay-between bytes average threshold least most some between =
 
 -- ---- after a lawful history
 
-pub average_between : (least most : ℕ) (opening : Opening) (history : List Event) → IsLawful opening history
-    → 0 < length (samples_after opening history) → All (IsBetween least most) (samples_after opening history)
-    → IsBetween least most (average_after opening history)
-unfolding held_after held_of average
+pub average_between : (least most : ℕ) → AtEachHistory (λ opening history. 0 < length (samples_after opening history)
+    → All (IsBetween least most) (samples_after opening history) → IsBetween least most (average_after opening history))
+unfolding AtEachHistory held_after held_of average
 average_between least most opening history lawful some all =
     let sound = (sound_at opening history [] (rw (append-nil history) lawful)).0 in
     between-all (params_after opening history).dq_threshold least most (samples_after opening history)
     (threshold-holds (params_after opening history) sound.params).1 some all
 
-pub estimate_between : (least most : ℕ) (opening : Opening) (history : List Event) → IsLawful opening history
-    → opening.choices.elements.delay ≡ Rate → 0 < length (samples_after opening history) → All (IsBetween least most) (samples_after opening history)
+pub no_average : AtEachHistory (λ opening history. length (samples_after opening history) ≡ 0 → average_after opening history ≡ 0)
+unfolding AtEachHistory held_after held_of average
+no_average opening history lawful none = none-sampled (params_after opening history).dq_threshold (samples_after opening history) none
+
+pub estimate_between : (least most : ℕ) → AtEachHistory (λ opening history. opening.choices.elements.delay ≡ Rate → 0 < length (samples_after opening history) → All (IsBetween least most) (samples_after opening history)
     → IsBetween (min (2 ^ 40) (bytes_after opening history * least / (params_after opening history).dq_threshold))
-    (bytes_after opening history * most / (params_after opening history).dq_threshold) (delay_after opening history)
+    (bytes_after opening history * most / (params_after opening history).dq_threshold) (delay_after opening history))
+unfolding AtEachHistory
 estimate_between least most opening history lawful rate some all =
     let h = held_after opening history in
     let sound = (sound_at opening history [] (rw (append-nil history) lawful)).0 in

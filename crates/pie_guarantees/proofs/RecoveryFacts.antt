@@ -10,8 +10,7 @@ use Rattle.pie_guarantees.proofs.BurstFacts.{counted_with, counted-with}
 use Rattle.pie_params.specs.declared.elements.Decay.{Decay}
 use Rattle.pie_aqm.specs.Steps as Steps
 use Rattle.pie_guarantees.proofs.LawfulFacts.{IsStep, along, counted-cons, sound_at}
-use Rattle.pie_guarantees.proofs.NextFacts.{div-mono, divisor-some}
-use Rattle.pie_guarantees.proofs.SteadyFacts.{fallen-step}
+use Rattle.pie_guarantees.proofs.NextFacts.{div-mono, divisor-some, fallen-step}
 
 -- ---- one update
 
@@ -249,12 +248,12 @@ module _ (fall : ℕ) (opening : Opening) (before between : List Event) where
 pub recovers_by_default : BetweenAny (λ opening before between. active_after opening before ≡ true
     → 1_875_000_000 ≤ untuned_fall (params_after opening before) 0 → AllAlong (FindsNoDelay opening) before between → 182 ≤ updates_in between
     → HasRecovered opening (before ++ between))
-unfolding bound under in-row
+unfolding BetweenAny bound under in-row
 recovers_by_default opening before between later lawful = recovers 1_875_000_000 opening before between later lawful 180 refl
 
 pub recovers_in_any_case : BetweenAny (λ opening before between. active_after opening before ≡ true → AllAlong (FindsNoDelay opening) before between
     → 1204 ≤ updates_in between → HasRecovered opening (before ++ between))
-unfolding bound under in-row
+unfolding BetweenAny bound under in-row
 recovers_in_any_case opening before between later lawful on = recovers 0 opening before between later lawful 1202 refl on (omega arith)
 
 -- the bounds are reached

@@ -71,6 +71,7 @@ unfolding Steps.verdict Steps.accu_left
 left-zero h waiting packets command e = grind (arith, nat_tests)
 
 pub picks_clear : AtEachEvent (λ opening before event. IsEarly event → Book.accu_after opening (before ++ event ∷ []) ≡ 0)
+unfolding AtEachEvent
 picks_clear opening before event later lawful early =
     let step = step_at opening before event later lawful in
     ap (λ (g : Held). g.accu) step.held
@@ -214,6 +215,7 @@ pub not_in_a_row : (opening : Opening) (before : List Event) (first : Event) (be
     → IsLawful opening (before ++ first ∷ [] ++ between ++ second ∷ later) → opening.choices.elements.picking ≡ Derandomized → IsEarly first
     → considered_in opening (before ++ first ∷ []) between ≡ 0 → IsEarly second
     → 850_000_000_000 ≤ counted_at opening (before ++ first ∷ [] ++ between) second
+unfolding AtEachEvent
 not_in_a_row opening before first between second later lawful spaced picked none early =
     let b = before ++ first ∷ [] in
     let split : b ++ between ++ second ∷ later ≡ before ++ (first ∷ (between ++ second ∷ later)) =
@@ -237,6 +239,7 @@ continues-unpicked least opening before (event ∷ between) some large on =
 pub not_too_far : (least : ℕ) → BetweenAny (λ opening before between. opening.choices.elements.picking ≡ Derandomized → 0 < least
     → AllAlong (CountsAtLeast least opening) before between → AllAlong (IsUnpicked opening) before between
     → considered_in opening before between * least < 8_500_000_000_000)
+unfolding BetweenAny
 not_too_far least opening before between later lawful spaced some large on =
     let all = (shared opening before between later lawful spaced).1 in
     let none = continues-unpicked least opening before between some large on in

@@ -40,7 +40,7 @@ row-opens row opening = by (first_kind row)
 
 pub opened_well : (text : List ℕ) (opening : Opening) (lines : List Line) → IsHistoryText text opening lines → OpensWell opening
 unfolding history_opening
-opened_well text opening lines told = by (records_of text) told.opens
+opened_well text opening lines is_text = by (records_of text) is_text.opens
   where
     by : (rows : List Row) → history_opening rows ≡ Ok opening → OpensWell opening
     by [] e = cc
@@ -55,15 +55,15 @@ in-range _ fits = tt
 sets : (lines : List Line) → All LineFits lines → All (λ event. SetsInRange event.command) (events_of lines)
 unfolding events_of
 sets [] all = All-nil (λ (event : Event). SetsInRange event.command)
-sets (line.Made event ∷ lines) all =
+sets (line.Valid event ∷ lines) all =
     All-cons (λ (e : Event). SetsInRange e.command) event (filter_map event_in lines)
-    (in-range event.command (All-head LineFits (line.Made event) lines all).command) (sets lines (All-tail LineFits (line.Made event) lines all))
-sets (line.Unmakeable change ∷ lines) all = sets lines (All-tail LineFits (line.Unmakeable change) lines all)
+    (in-range event.command (All-head LineFits (line.Valid event) lines all).command) (sets lines (All-tail LineFits (line.Valid event) lines all))
+sets (line.Invalid change ∷ lines) all = sets lines (All-tail LineFits (line.Invalid change) lines all)
 sets (line.Note ∷ lines) all = sets lines (All-tail LineFits line.Note lines all)
 sets (line.Clock clock ∷ lines) all = sets lines (All-tail LineFits (line.Clock clock) lines all)
 
 pub sets_read : (text : List ℕ) (opening : Opening) (lines : List Line) → IsHistoryText text opening lines
     → All (λ event. SetsInRange event.command) (events_of lines)
-sets_read text opening lines told =
-    sets lines (subst (λ (ls : List Line). All LineFits ls) (ap (λ (c : RemainingLines). c.lines) told.tells)
+sets_read text opening lines is_text =
+    sets lines (subst (λ (ls : List Line). All LineFits ls) (ap (λ (c : RemainingLines). c.lines) is_text.tells)
     (lines-fit (history_version (records_of text)) (2 ^ 32) 2 (after_opening (records_of text))))

@@ -24,11 +24,15 @@ AllAlong P before [] = ⊤
 AllAlong P before (event ∷ later) = P before event × AllAlong P (before ++ event ∷ []) later
 
 -- the property holds of each event of each lawful history, with the events before it
-abbrev pub AtEachEvent : (Opening → List Event → Event → Type 0) → Type 0
+unfoldable pub AtEachEvent : (Opening → List Event → Event → Type 0) → Type 0
 AtEachEvent P = (opening : Opening) (before : List Event) (event : Event) (later : List Event) → IsLawful opening (before ++ event ∷ later)
     → P opening before event
 
+-- the property holds of each lawful history
+unfoldable pub AtEachHistory : (Opening → List Event → Type 0) → Type 0
+AtEachHistory P = (opening : Opening) (history : List Event) → IsLawful opening history → P opening history
+
 -- between any two places of each lawful history: the events before the first, and those from there to the second
-abbrev pub BetweenAny : (Opening → List Event → List Event → Type 0) → Type 0
+unfoldable pub BetweenAny : (Opening → List Event → List Event → Type 0) → Type 0
 BetweenAny P = (opening : Opening) (before : List Event) (between : List Event) (later : List Event) → IsLawful opening (before ++ between ++ later)
     → P opening before between

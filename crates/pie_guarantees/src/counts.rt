@@ -1,7 +1,7 @@
 //! Conservation of packets: the fate of every packet, the size of the queue, and the waiting times.
 ghost use Rattle.std.specs.Prelude.{◌≡◌, ◌≤◌, ◌+◌, ◌*◌, ◌^◌, ◌++◌, ◌∷◌, [], All, List, ℕ, Some, length};
 ghost use Rattle.pie_guarantees.specs.{deed_of, Event, Opening, Packet, params_after, bytes_after, waiting_after, count_of, is_dropped_bytes};
-ghost use Rattle.pie_guarantees.specs.{AtEachEvent, BetweenAny};
+ghost use Rattle.pie_guarantees.specs.{AtEachEvent, AtEachHistory, BetweenAny};
 ghost use Rattle.pie_guarantees.specs.{is_dropped_packets, Carries, SetsLimit, packet_queued, packets_departed, packets_arrived, packets_queued};
 ghost use Rattle.pie_guarantees.specs.{packets_waiting, time_of, IsLawful};
 ghost use Rattle.pie_book.specs.Statistics.{is_dropped_early, is_marked, is_queued};
@@ -10,24 +10,24 @@ ghost use Rattle.pie_book.specs.Statistics.{is_dropped_early, is_marked, is_queu
 /// (`once`). The packets that departed, followed by the queued ones, are exactly those that were queued or marked,
 /// in the order of their arrivals (`order`). They are unchanged except for CE if one was marked. Both are this
 /// project's own.
+#[tactic(auto, using(crate::proofs::CountFacts::each_once, crate::proofs::CountFacts::in_order))]
 pub fn every_packet_is_accounted_for()
-    ensures once { (opening : Opening) (history : List Event) → IsLawful opening history
-        → packets_arrived history ≡ count_of is_queued history + count_of is_marked history + count_of is_dropped_early history
-        + count_of is_dropped_bytes history + count_of is_dropped_packets history }
-    ensures order { (opening : Opening) (history : List Event) → IsLawful opening history
-        → packets_departed history ++ packets_waiting opening history ≡ packets_queued history }
+    ensures once { AtEachHistory (λ opening history. packets_arrived history ≡ count_of is_queued history + count_of is_marked history + count_of is_dropped_early history
+        + count_of is_dropped_bytes history + count_of is_dropped_packets history) }
+    ensures order { AtEachHistory (λ opening history.
+        packets_departed history ++ packets_waiting opening history ≡ packets_queued history) }
 {}
 
 /// No more packets wait than the ring holds (`packets`). A packet that is queued or marked fits under `limit_bytes` with all that wait
 /// (`bytes_queued`, RFC 8033, Appendix A). So no more bytes ever wait than the greatest `limit_bytes` that was ever in force (`bytes`); new
 /// parameters may lower it below the bytes that wait already.
+#[tactic(auto, using(crate::proofs::CountFacts::in_the_ring, crate::proofs::CountFacts::room_for_bytes, crate::proofs::CountFacts::bytes_below))]
 pub fn queues_stay_within_their_limits()
-    ensures packets { (opening : Opening) (history : List Event) → IsLawful opening history
-        → length (waiting_after opening history) ≤ opening.limits.packets }
+    ensures packets { AtEachHistory (λ opening history. length (waiting_after opening history) ≤ opening.limits.packets) }
     ensures bytes_queued { AtEachEvent (λ opening before event. (packet : Packet) → packet_queued (deed_of event) ≡ Some packet
         → bytes_after opening (before ++ event ∷ []) ≤ (params_after opening before).limit_bytes) }
-    ensures bytes { (most : ℕ) (opening : Opening) (history : List Event) → IsLawful opening history → opening.params.limit_bytes ≤ most
-        → All (λ event. SetsLimit most event.command) history → bytes_after opening history ≤ most }
+    ensures bytes { (most : ℕ) → AtEachHistory (λ opening history. opening.params.limit_bytes ≤ most
+        → All (λ event. SetsLimit most event.command) history → bytes_after opening history ≤ most) }
 {}
 
 /// If the number of departures after some moment equals the number of queued packets then, the departing packets are

@@ -36,6 +36,7 @@ pub fn the_probability_follows_the_delay()
 /// A higher delay never gives a lower next probability, if all other numbers are equal (`delay`). If rises are capped, a higher probability before an
 /// update can give a lower one after it: at a delay of one second, after none, 10 per cent becomes 12, and a hair less than 10 becomes 78.7 (`below`,
 /// `from_a_tenth`).
+#[tactic(auto, using(crate::proofs::NextFacts::next_mono, crate::proofs::ProbabilityFacts::at_a_tenth))]
 pub fn what_gives_a_higher_probability()
     ensures delay { (elements : Elements) (params : RawParams) (prob : ℕ) (old : ℕ) (delay : ℕ) (more : ℕ) → delay ≤ more
         → next elements params prob delay old ≤ next elements params prob more old }
@@ -49,6 +50,7 @@ pub fn what_gives_a_higher_probability()
 /// delay, 158 updates, 2.37 seconds, are enough (`from_rest`, `not_from_rest_before`). If the probability decays, it
 /// falls by at least 2 per cent with each update (`fades`); without delay from 1 to a tenth in 87 updates, 1.3
 /// seconds (`faded`, `not_yet_faded`).
+#[tactic(auto, using(crate::proofs::ProbabilityFacts::exactly, crate::proofs::ProbabilityFacts::fades_with_updates, crate::proofs::ProbabilityFacts::steadily))]
 pub fn how_fast_the_probability_changes()
     ensures steady { (delay : ℕ) → BetweenAny (λ opening before between. AllAlong (IsSteady delay opening) before between
         → probability_after opening (before ++ between)
@@ -72,6 +74,7 @@ pub fn how_fast_the_probability_changes()
 /// cent after the sum of the updates that each row of the table takes (`to_a_tenth`): with the defaults at twice the
 /// target after 164 (`at_twice_the_target`); the exact number is 162. If it decays, 114 updates leave at most a tenth
 /// (`fades_to_a_tenth`).
+#[tactic(auto, using(crate::proofs::ProbabilityFacts::a_tenth_is_left, crate::proofs::NextFacts::falls_at_least, crate::proofs::NextFacts::falls_at_most, crate::proofs::NextFacts::reaches_a_tenth, crate::proofs::NextFacts::rises_at_least, crate::proofs::NextFacts::rises_at_most), unfolding(pie_control::specs::Next::tuning_divisor))]
 pub fn steady_delays_move_the_probability()
     ensures rises { (elements : Elements) (params : RawParams) (delay : ℕ) → 0 < params.target → params.target ≤ delay → (n : ℕ) (prob : ℕ)
         → prob ≤ 10 ^ 12 → min (10 ^ 12) (prob + n * least_rise params delay prob) ≤ after_updates n elements params delay prob }

@@ -11,6 +11,7 @@ ghost use Rattle.pie_params.specs.Profile.{default_profile};
 /// seconds of updates 15 milliseconds apart. From some states exactly this number is needed (`not_sooner`). From probability 1, with no delay before,
 /// 178 updates are needed, 2.67 seconds (`from_one`, `not_yet`). With any parameters at most 1204 updates are needed (`in_any_case`), and exactly
 /// this number with an alpha and a beta of 0 (`slowest`).
+#[tactic(auto, using(crate::proofs::RecoveryFacts::recovers_by_default, crate::proofs::RecoveryFacts::recovers_in_any_case, crate::proofs::RecoveryFacts::as_slow))]
 pub fn controllers_recover()
     ensures by_default { BetweenAny (λ opening before between. active_after opening before ≡ true
         → 1_875_000_000 ≤ untuned_fall (params_after opening before) 0 → AllAlong (FindsNoDelay opening) before between

@@ -6,6 +6,7 @@ ghost use Rattle.pie_guarantees.specs.{AtEachEvent, BetweenAny, counted_in, pick
 ghost use Rattle.pie_book.specs.Estimates.{accu_after};
 
 /// A packet that is marked or dropped early leaves an accumulated probability of 0 (RFC 8033, section 5.4).
+#[tactic(auto, using(crate::proofs::SpacingFacts::picks_clear))]
 pub fn picks_start_anew()
     ensures { AtEachEvent (λ opening before event. IsEarly event → accu_after opening (before ++ event ∷ []) ≡ 0) }
 {}
@@ -25,6 +26,7 @@ pub fn picks_are_far_apart()
 /// Let probabilities accumulate, and let the counted probability of each considered packet be at least `least`, above 0. While no packet is picked,
 /// and nothing else resets the accumulated probability, the number of considered packets times `least` is below 8.5 (RFC 8033, section 5.4). So at 1
 /// per cent at least one of 850 in a row is picked, and after a tail drop the count begins again.
+#[tactic(auto, using(crate::proofs::SpacingFacts::not_too_far))]
 pub fn picks_are_not_too_far_apart()
     ensures { (least : ℕ) → BetweenAny (λ opening before between. opening.choices.elements.picking ≡ Derandomized → 0 < least
         → AllAlong (CountsAtLeast least opening) before between → AllAlong (IsUnpicked opening) before between

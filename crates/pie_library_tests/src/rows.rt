@@ -2,7 +2,7 @@
 //! hand.
 
 use crate::books::packet;
-use crate::endless::{Compared, Endless, departures};
+use crate::endless::{Compared, Endless, departures, next_line};
 use pie_book::{Answer, Book, Core, Event, Opening, Profile, Registers, Stats};
 use pie_fixed::Nanos;
 use pie_queue::ByteQueue;
@@ -126,8 +126,8 @@ fn agree<D: Decides>(
     events: u64,
 ) -> bool {
     for _ in 0..events {
-        match lines.next_line() {
-            Ok(Some(Line::Made(event))) => {
+        match next_line(lines) {
+            Some(Line::Valid(event)) => {
                 if place.decide(alloc, &event) != Some(event.answer) {
                     return false;
                 }
@@ -135,7 +135,7 @@ fn agree<D: Decides>(
             _ => return false,
         }
     }
-    matches!(lines.next_line(), Ok(None)) && matches!(lines.next_line(), Ok(None))
+    matches!(lines.next_record(), Ok(false)) && matches!(lines.next_record(), Ok(false))
 }
 
 /// Returns the registers after a history of this many events, each with the answer in the history.

@@ -44,23 +44,23 @@ while_free look_back opening numbers lock history holder owner agreed free =
     let kept = free.2.0 in
     let book = kept.book in
     let represents_list = free.2.3.represents_list in
-    let told = represents_list.told in (
+    let represents = represents_list.represents in (
       book,
       (kept.folds, free.2.1),
       (
         history,
         subst (λ (o : Opening). IsOneHistory o book (callers_of lock.views) history) free.2.2 (record {
           opened = refl;
-          told = told;
-          legal = told.running.legal;
+          represents = represents;
+          legal = represents.running.legal;
           begins = at_all (Follows number_of opening numbers history) (BeginsWith history) (λ p f. f.shown) lock.views follow;
           calls = at_all (Follows number_of opening numbers history) (HasCallsOf history) (λ p f. f.owned) lock.views follow;
-          ends = told.tail;
+          ends = represents.tail;
           tail = represents_list.tail;
           nothing_lost = represents_list.nothing_lost;
-          queue = told.running.waiting;
-          registers = look_back book.opening book.running (events_in history) told.running;
-          stats = told.running.stats;
+          queue = represents.running.waiting;
+          registers = look_back book.opening book.running (events_in history) represents.running;
+          stats = represents.running.stats;
           accepted = represents_list.accepted;
           in_range = represents_list.in_range;
           set = represents_list.set;

@@ -3,9 +3,5 @@ pub mod EntryLists
 pub mod KeptFacts
 pub mod Outcomes
 pub mod Bursting
-pub mod Places
-pub mod Budgets
-pub mod ExamplesEntries
-pub mod ExamplesBursts
 pub mod Headline
 pub mod Examples

@@ -33,6 +33,6 @@ pub use Rattle.pie_link.specs.Headline.{BeginsWith, HasCallsOf, CallerKnowledge,
 unfoldable pub use Rattle.pie_link.specs.Headline.{KeepsOneHistory}
 pub use Rattle.pie_link.specs.Kept.{IsKept, KeptView, RepresentsEntries}
 pub use Rattle.pie_link.specs.declared.entry.Entry.{Entry}
-pub use Rattle.pie_link.specs.declared.entry.Entry.TheVariants.{Folded, Made}
+pub use Rattle.pie_link.specs.declared.entry.Entry.TheVariants.{Folded, Applied}
 pub use Rattle.pie_lock.specs.declared.view.Place.TheVariants.{Holds, HasTwo, Spent, Waits}
 pub use Rattle.pie_lock.specs.declared.view.PassKnowledge.{PassKnowledge}

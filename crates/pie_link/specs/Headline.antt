@@ -48,7 +48,7 @@ pub record IsOneHistory (opening : Opening) (book : BookView) (callers : List Ca
   -- it is one of one thread: the book, opened as the link was, represents its events, and each command was accepted at
   -- its place with the answer that the rules give there
   pub opened : book.opening ≡ opening
-  pub told : BookRepresents book (events_in history)
+  pub represents : BookRepresents book (events_in history)
   pub legal : IsLegal opening (events_in history)
   -- it begins with the front of each caller
   pub begins : All (BeginsWith history) callers

@@ -94,7 +94,7 @@ fn has_left(reply: &Reply) -> bool
     ensures { result ≡ has_left reply.now }
 {
     match reply {
-        Ok(told) => matches!(told.answer, Answer::Left(_)),
+        Ok(reply) => matches!(reply.answer, Answer::Left(_)),
         Err(_) => false,
     }
 }

@@ -27,8 +27,8 @@ history = entry 0 5 ∷ entry 1 7 ∷ []
 abbrev tally : Tally
 tally = record { count = 2; total = 12 }
 
-told : Represents tally history
-told = record { counted = refl; added_up = refl }
+history_represented : Represents tally history
+history_represented = record { counted = refl; added_up = refl }
 
 -- the same counter represents other lists too
 told_too : Represents tally (entry 2 12 ∷ entry 0 0 ∷ [])

@@ -1,5 +1,4 @@
 mod Names
-pub mod Owns
 pub mod Seats
 pub mod Steps
 pub mod Examples

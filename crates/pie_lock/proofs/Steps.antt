@@ -8,9 +8,8 @@ use Rattle.pie_lock.proofs.Names.{meeting, merged, pass_at, taken, with_front, w
 use lib.ListN.{get_elem?}
 use mathlib.Core.Option.{none, some, some-injective}
 use prog.Atomic.{either}
-use Rattle.pie_lock.proofs.Owns.{goes_on_itself}
-use Rattle.pie_lock.proofs.Seats.{agreed_longer, agreed_set, all_shown, below_longer, each_longer, follows_both, follows_fewer, follows_whole}
-use Rattle.pie_lock.proofs.Seats.{in_either, set_at, set_beside}
+use Rattle.pie_lock.proofs.Seats.{goes_on_itself, agreed_longer, agreed_set, all_shown, below_longer, each_longer, follows_both, follows_fewer}
+use Rattle.pie_lock.proofs.Seats.{follows_whole, in_either, set_at, set_beside}
 
 -- writing the only word again changes nothing
 word_again : (words : List ℕ) → length words ≡ 1 → set words 0 (get_or words 0 0) ≡ words
@@ -52,7 +51,7 @@ module _ {S E O : Type 0} (number : E → ℕ) (origin_of : S → O) (represents
 
   pub opens : (first stored : S) (slots : List (Option S)) → slots ≡ Some stored ∷ [] → stored ≡ first → origin_of first ≡ origin → represents_list first []
       → numbers ≢ 0 → Rule (opening (0 ∷ []) slots (opened origin numbers))
-  opens first stored slots only is from told some_numbers =
+  opens first stored slots only is from represents some_numbers =
       let v : Place E O = opened origin numbers in
       subst (λ xs. Rule (opening (0 ∷ []) xs v)) (sym only) (
         refl,
@@ -75,7 +74,7 @@ module _ {S E O : Type 0} (number : E → ℕ) (origin_of : S → O) (represents
             });
             entries_below = All-nil (λ e. number e < numbers);
           },
-          inl (refl, refl, (stored, refl, ap origin_of is ∙ from, subst (λ s. represents_list s []) (sym is) told)),
+          inl (refl, refl, (stored, refl, ap origin_of is ∙ from, subst (λ s. represents_list s []) (sym is) represents)),
         ),
       )
 
@@ -190,7 +189,7 @@ module _ {S E O : Type 0} (number : E → ℕ) (origin_of : S → O) (represents
 
   frees : (slots id : ℕ) (p : PassKnowledge E O) (stored : S) (added : List E) → p.origin ≡ Some (origin_of stored)
       → represents_list stored (p.front ++ added) → All (λ e. number e ≡ p.first) added → Frees slots id added (Holds p, (0, Some stored) ∷ [])
-  frees slots id p stored added from told own s rule sized at wide =
+  frees slots id p stored added from represents own s rule sized at wide =
       let history : List E = rule.1.0 in
       let agreed : Agreed number origin numbers history rule.1.1 rule.1.2 s.views = rule.1.3 in
       let mine : Sits history rule.1.1 rule.1.2 id (Holds p) = agreed.seated id (Holds p) at in
@@ -229,7 +228,7 @@ module _ {S E O : Type 0} (number : E → ℕ) (origin_of : S → O) (represents
             inl (
               get_or-set_same s.words 0 0 0 (let one = rule.0 in omega arith),
               refl,
-              (stored, set_at s.homes 0 (some (Some stored)) none held.2, cc owner, told),
+              (stored, set_at s.homes 0 (some (Some stored)) none held.2, cc owner, represents),
             ),
           ),
         ),
@@ -240,7 +239,7 @@ module _ {S E O : Type 0} (number : E → ℕ) (origin_of : S → O) (represents
       → IsLeaving number origin_of represents_list added stored me → Frees slots id named me
   frees_keep slots id me stored named added same leaving =
       subst (λ (l : List E). Frees slots id l me) (sym same) (subst (Frees slots id added) (sym leaving.holds)
-      (frees slots id (pass_at me.0) stored added leaving.origin leaving.told leaving.own))
+      (frees slots id (pass_at me.0) stored added leaving.origin leaving.represents leaving.own))
 
   -- ---- seats that are split and joined: the word and the slot stay, and so does who has the state
 

@@ -19,7 +19,7 @@ module _ {S E O : Type 0} (number_of : E → ℕ) (origin_of : S → O) (represe
     -- the new front begins with the front of the pass, and has no further entry under its numbers
     pub front : Extends number_of p.first p.limit p.front h.front
     pub origin : h.lock.origin ≡ Some (origin_of h.state)
-    pub told : represents_list h.state h.front
+    pub represents : represents_list h.state h.front
     pub numbered : All (λ e. number_of e < p.lock.numbers) h.front
     -- for a pass with all numbers the front is unchanged
     pub same : HoldsAll p → h.front ≡ p.front

@@ -44,7 +44,7 @@ pub record IsLeaving {S E O : Type 0} (number : E → ℕ) (origin_of : S → O)
     (me : Me (Option S) (Place E O)) : Type 0 where
   pub holds : ◌≡◌ {A = Me (Option S) (Place E O)} me (Holds (pass_at me.0), (0, Some state) ∷ [])
   pub origin : (pass_at me.0).origin ≡ Some (origin_of state)
-  pub told : represents_list state ((pass_at me.0).front ++ added)
+  pub represents : represents_list state ((pass_at me.0).front ++ added)
   pub own : All (λ e. number e ≡ (pass_at me.0).first) added
 
 -- the seat has a pass, and no slot

@@ -10,7 +10,7 @@
 //! - `new` refuses a lock without numbers, and otherwise only reports out of memory; it then returns the state
 //!   (`no_numbers`, `back`). The first pass has all numbers and an empty front (`pass`).
 //! - After a take (`HasTaken`), the front of the `Held` begins with the front of the pass, and has no further entry
-//!   under the pass's numbers (`front`). The state represents the front (`told`) and has the lock's origin (`origin`).
+//!   under the pass's numbers (`front`). The state represents the front (`represents`) and has the lock's origin (`origin`).
 //!   For a pass with all numbers the front is unchanged (`same`).
 //! - `put` requires that each entry that it appends has the pass's first number (`number`). It requires a state that
 //!   has the lock's origin and represents the front with these entries (`origin`, `represents`). The pass then

@@ -37,11 +37,11 @@ pub took : (asked : EventCall) (caller number : ℕ) (events now next : List Pie
     → next ≡ set now place (event_answered asked number (get_or now place d) reply)
     → Took asked caller number events next (place + 1) (replies ++ reply ∷ [])
 took asked caller number events now next place done replies reply d before at some is =
-    let here : place ≡ length replies = sym at ∙ before.so_many in
+    let here : place ≡ length replies = sym at ∙ before.counted in
     let few : length replies < length events = grind (arith, length-answered asked caller events replies) in
     let has_result = answered-more asked caller events replies reply d few in record {
-      told = grind arith;
-      so_many = omega (arith, here, length-append replies (reply ∷ []));
+      events_are = grind arith;
+      counted = omega (arith, here, length-append replies (reply ∷ []));
       same = before.same;
     }
 
@@ -52,4 +52,4 @@ later_stay asked l now i e is = grind (arith, drop-set-lt (i + 1) l i e)
 
 -- a burst begins
 pub begun : (asked : EventCall) (caller : ℕ) (events : List PieEvent) (done : ℕ) → done ≡ 0 → Took asked caller caller events events done []
-begun asked caller events done none = record { told = sym (none_answered asked caller events); so_many = none; same = refl }
+begun asked caller events done none = record { events_are = sym (none_answered asked caller events); counted = none; same = refl }

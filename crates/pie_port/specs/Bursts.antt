@@ -22,7 +22,7 @@ asks asked e = command_unless (has_bad_ecn (call_of_event asked e) e) (call_of_e
 
 -- the event after a result, with the caller's number
 abbrev pub replied : EventCall → ℕ → PieEvent → Reply → PieEvent
-replied asked caller e (Ok told) = under caller (answered_event asked e told.answer)
+replied asked caller e (Ok reply) = under caller (answered_event asked e reply.answer)
 replied asked caller e (Err why) = under caller (numbered_event asked e (refusal_number why))
 
 -- the event after a result, unless its ECN field is invalid
@@ -41,8 +41,8 @@ events_answered asked caller (e ∷ es) (reply ∷ replies) = event_answered ask
 
 -- `done` of the events, with that caller's number, were decided with these results, and are now `now`
 pub record Took (asked : EventCall) (caller number : ℕ) (events now : List PieEvent) (done : ℕ) (replies : List Reply) : Type 0 where
-  pub told : now ≡ events_answered asked caller events replies
-  pub so_many : done ≡ length replies
+  pub events_are : now ≡ events_answered asked caller events replies
+  pub counted : done ≡ length replies
   pub same : number ≡ caller
 
 -- ---- a burst
@@ -54,7 +54,7 @@ pub record IsAnswered (asked : EventCall) (budget : Option ℕ) (continues : Rep
   pub replies : List Reply
   pub answered : AnswersWithin budget continues before.lock before (map (asks asked) events) [] replies after
   pub stays : StaysOne before after
-  pub told : written ≡ events_answered asked before.first events replies
+  pub written_is : written ≡ events_answered asked before.first events replies
   pub counted : count ≡ length replies
   pub done : code ≡ 0
 
@@ -64,7 +64,7 @@ pub record WasNotTried (before : CallerView) (events : List PieEvent) (count cod
   pub stays : written ≡ events
   pub counted : count ≡ 0
   pub some : events ≡ [] → ⊥
-  pub told : code ≡ 121
+  pub code_is : code ≡ 121
 
 -- the result of a burst at an open port
 abbrev pub IsTriedAll : EventCall → Option ℕ → (Reply → Bool) → CallerView → List PieEvent → ℕ → ℕ → List PieEvent → CallerView → Type 0

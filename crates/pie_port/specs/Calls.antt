@@ -34,7 +34,7 @@ pub record IsTried (command : Command) (fills : Result (Told Answer) (Tried Refu
   pub reply : Result (Told Answer) (Tried Refusal)
   pub tried : TriesToAnswer before.lock before command reply after
   pub stays : StaysOne before after
-  pub told : code ≡ code_of reply
+  pub code_is : code ≡ code_of reply
   pub filled : written ≡ fills reply
 
 -- the event's call; an ECN field above 3 is refused before it
@@ -51,7 +51,7 @@ Tries asked port e code written after =
 
 -- the event after a call for new parameters with this result
 abbrev pub set_event : ℕ → PieEvent → Result (Told Answer) (Tried Refusal) → PieEvent
-set_event caller e (Ok told) = under caller (bare_event 5 e (answer_number told.answer))
+set_event caller e (Ok reply) = under caller (bare_event 5 e (answer_number reply.answer))
 set_event caller e (Err Busy) = e
 set_event caller e (Err (Refused why)) = under caller (bare_event 5 e (refusal_number why))
 

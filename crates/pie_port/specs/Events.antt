@@ -31,7 +31,7 @@ refusal_number HistoryFull = 105
 
 -- the code of a call that may be busy
 abbrev pub code_of : Result (Told Answer) (Tried Refusal) → ℕ
-code_of (Ok told) = answer_number told.answer
+code_of (Ok reply) = answer_number reply.answer
 code_of (Err Busy) = 121
 code_of (Err (Refused why)) = refusal_number why
 
@@ -75,6 +75,6 @@ under caller e = record e { caller = caller }
 
 -- the event after a call with this result; unchanged if the link was busy
 abbrev pub filled : EventCall → ℕ → PieEvent → Result (Told Answer) (Tried Refusal) → PieEvent
-filled asked caller e (Ok told) = under caller (answered_event asked e told.answer)
+filled asked caller e (Ok reply) = under caller (answered_event asked e reply.answer)
 filled asked caller e (Err Busy) = e
 filled asked caller e (Err (Refused why)) = under caller (numbered_event asked e (refusal_number why))

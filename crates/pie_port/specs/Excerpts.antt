@@ -45,7 +45,7 @@ pub record IsFilledAt (before : CallerView) (text : ExcerptText) (code : ℕ) (a
   pub reply : Result (Unit {0}) (Tried TooSmall)
   pub tried : TriesToFillExcerpt before.lock before reply text.excerpt filled.excerpt after
   pub stays : StaysOne before after
-  pub told : code ≡ excerpt_code reply
+  pub code_is : code ≡ excerpt_code reply
   pub written : filled.written ≡ written_after reply text.written
 
 -- if one of the two is closed, the call returns that code, and both are unchanged

@@ -56,13 +56,13 @@ params_after p (event ∷ events) = params_after (params_in p event.command) eve
 
 -- the code of a fold
 abbrev pub fold_code : Result (Told ℕ) (Tried Refusal) → List Event → ℕ
-fold_code (Ok told) [] = 106
-fold_code (Ok told) (event ∷ events) = 0
+fold_code (Ok reply) [] = 106
+fold_code (Ok reply) (event ∷ events) = 0
 fold_code (Err why) events = 121
 
 -- the number of the last event that has left the log after the fold, otherwise `before`
 abbrev pub last_after : ℕ → Result (Told ℕ) (Tried Refusal) → ℕ
-last_after before (Ok told) = told.number
+last_after before (Ok reply) = reply.number
 last_after before (Err why) = before
 
 -- the fold of an open port's caller: at most 64 events, at most one for each struct; or the link was busy
@@ -72,7 +72,7 @@ pub record IsFolded (before : CallerView) (structs : List PieEvent) (l : ℕ) (p
   pub events : List Event
   pub tried : TriesToFoldInto before.lock before (min (length structs) 64) reply [] events after
   pub stays : StaysOne before after
-  pub told : code ≡ fold_code reply events
+  pub code_is : code ≡ fold_code reply events
   pub count : folded ≡ length events
   pub number : last ≡ last_after l reply
   pub filled : written ≡ written_events structs events

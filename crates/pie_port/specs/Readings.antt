@@ -17,36 +17,36 @@ bit false = 0
 
 -- the registers, with the number of events and the due moment of the next update
 abbrev pub registers_of : Told Registers → PieRegisters
-registers_of told = record {
-  count = told.number;
-  moment = told.answer.moment;
-  packets = told.answer.packets;
-  bytes = told.answer.bytes;
-  prob = told.answer.prob;
-  old_delay = told.answer.old;
-  accu = told.answer.accu;
-  burst = told.answer.burst;
-  last = told.answer.last;
-  due = min (told.answer.last + told.answer.params.t_update) (2 ^ 64 - 1);
-  average = told.answer.average;
-  measuring = bit told.answer.measuring;
-  active = bit told.answer.active;
-  params = told.answer.params;
+registers_of reply = record {
+  count = reply.number;
+  moment = reply.answer.moment;
+  packets = reply.answer.packets;
+  bytes = reply.answer.bytes;
+  prob = reply.answer.prob;
+  old_delay = reply.answer.old;
+  accu = reply.answer.accu;
+  burst = reply.answer.burst;
+  last = reply.answer.last;
+  due = min (reply.answer.last + reply.answer.params.t_update) (2 ^ 64 - 1);
+  average = reply.answer.average;
+  measuring = bit reply.answer.measuring;
+  active = bit reply.answer.active;
+  params = reply.answer.params;
 }
 
 -- the statistics, with the number of events
 abbrev pub totals_of : Told Stats → PieTotals
-totals_of told = record { count = told.number; stats = stats_of told.answer }
+totals_of reply = record { count = reply.number; stats = stats_of reply.answer }
 
 -- ---- a reading
 
 abbrev pub read_code : {A : Type 0} → Result (Told A) (Tried Refusal) → ℕ
-read_code (Ok told) = 0
+read_code (Ok reply) = 0
 read_code (Err why) = 121
 
 -- the caller's struct after a reading; unchanged if the link was busy
 abbrev pub read_into : {A B : Type 0} → (Told A → B) → B → Result (Told A) (Tried Refusal) → B
-read_into struct_of held (Ok told) = struct_of told
+read_into struct_of held (Ok reply) = struct_of reply
 read_into struct_of held (Err why) = held
 
 module _ {A B : Type 0} (value_after : Opening → List Event → A) (struct_of : Told A → B) where
@@ -55,7 +55,7 @@ module _ {A B : Type 0} (value_after : Opening → List Event → A) (struct_of 
     pub reply : Result (Told A) (Tried Refusal)
     pub tried : TriesToRead value_after before.lock before reply after
     pub stays : StaysOne before after
-    pub told : code ≡ read_code reply
+    pub code_is : code ≡ read_code reply
     pub filled : written ≡ read_into struct_of held reply
 
   abbrev pub TriesToReadInto : Option CallerView → B → ℕ → B → Option CallerView → Type 0

@@ -69,7 +69,7 @@ impl BurstKind for Departures {
     #[inline(always)]
     fn continues_after(reply: &Reply) -> bool {
         match reply {
-            Ok(told) => matches!(told.answer, Answer::Left(_) | Answer::Updated { .. }),
+            Ok(reply) => matches!(reply.answer, Answer::Left(_) | Answer::Updated { .. }),
             Err(why) => matches!(why, Refusal::TooSoon { .. }),
         }
     }
@@ -143,7 +143,7 @@ fn fill_event(event: &mut PieEvent, asked: EventCall, caller: u16, reply: &Reply
         fill_number(event, asked, BAD_ECN);
     } else {
         match reply {
-            Ok(told) => fill_answer(event, asked, &told.answer),
+            Ok(reply) => fill_answer(event, asked, &reply.answer),
             Err(why) => fill_number(event, asked, of_refusal(why)),
         }
     }

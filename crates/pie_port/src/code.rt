@@ -75,7 +75,7 @@ pub(crate) fn of_reply(reply: &Result<Told<Answer>, Tried<Refusal>>) -> u32
     ensures { result ≡ code_of reply.now }
 {
     match reply {
-        Ok(told) => of_answer(&told.answer),
+        Ok(reply) => of_answer(&reply.answer),
         Err(Tried::Busy) => BUSY,
         Err(Tried::Refused(why)) => of_refusal(why),
     }

@@ -28,10 +28,10 @@ pub(crate) fn fill_number(event: &mut PieEvent, asked: EventCall, number: u32)
     ensures { event.new ≡ numbered_event asked event.old number }
 {
     match asked {
-        EventCall::Arrive => event.keep_arrived(number),
-        EventCall::Depart => event.keep_bare(DEPART, number),
-        EventCall::Update => event.keep_bare(UPDATE, number),
-        EventCall::Reset => event.keep_bare(RESET, number),
+        EventCall::Arrive => event.fill_arrival(number),
+        EventCall::Depart => event.fill_other(DEPART, number),
+        EventCall::Update => event.fill_other(UPDATE, number),
+        EventCall::Reset => event.fill_other(RESET, number),
     }
 }
 
@@ -70,10 +70,10 @@ pub(crate) fn fill(
     ensures event { event.new ≡ filled asked caller event.old reply.now }
 {
     match reply {
-        Ok(told) => {
-            fill_answer(event, asked, &told.answer);
+        Ok(reply) => {
+            fill_answer(event, asked, &reply.answer);
             event.caller = caller;
-            of_answer(&told.answer)
+            of_answer(&reply.answer)
         }
         Err(Tried::Busy) => BUSY,
         Err(Tried::Refused(why)) => {
@@ -96,7 +96,7 @@ pub(crate) fn fill_set(
 {
     let number = of_reply(reply);
     if !matches!(reply, Err(Tried::Busy)) {
-        event.keep_bare(PARAMS, number);
+        event.fill_other(PARAMS, number);
         event.caller = caller;
     }
     number

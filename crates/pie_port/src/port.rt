@@ -133,7 +133,7 @@ impl Port {
     {
         let caller = self.caller.first();
         let Some(params) = Params::from_raw(*params) else {
-            event.keep_bare(PARAMS, BAD_PARAMS);
+            event.fill_other(PARAMS, BAD_PARAMS);
             event.caller = caller;
             return BAD_PARAMS;
         };

@@ -61,13 +61,13 @@ pub struct PieTotals {
 }
 
 // Returns the registers, with the number of events, as a struct.
-fn registers(told: &Told<Registers>) -> PieRegisters
-    ensures { result ≡ registers_of told.now }
+fn registers(reply: &Told<Registers>) -> PieRegisters
+    ensures { result ≡ registers_of reply.now }
 {
-    let r = &told.answer;
+    let r = &reply.answer;
     let params = r.params.raw();
     PieRegisters {
-        count: told.number,
+        count: reply.number,
         moment: r.moment,
         packets: r.packets,
         bytes: r.bytes,
@@ -90,8 +90,8 @@ impl Port {
         ensures { IsReadInto registers_after registers_of self.old out.old result out.new self.new }
     {
         match self.link.try_registers(&mut self.caller) {
-            Ok(told) => {
-                *out = registers(&told);
+            Ok(reply) => {
+                *out = registers(&reply);
                 DONE
             }
             Err(_) => BUSY,
@@ -103,10 +103,10 @@ impl Port {
         ensures { IsReadInto stats_after totals_of self.old out.old result out.new self.new }
     {
         match self.link.try_stats(&mut self.caller) {
-            Ok(told) => {
+            Ok(reply) => {
                 *out = PieTotals {
-                    count: told.number,
-                    stats: PieStats::of(&told.answer),
+                    count: reply.number,
+                    stats: PieStats::of(&reply.answer),
                 };
                 DONE
             }

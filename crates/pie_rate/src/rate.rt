@@ -64,6 +64,7 @@ impl Rate {
 
     /// Returns the average time, in nanoseconds, in which `dq_threshold` bytes depart, below `2^60`. It is 0 exactly if
     /// there is no sample (RFC 8033, section 5.2).
+    #[tactic(auto, using(crate::proofs::Laws::average_zero))]
     pub fn average(&self) -> u64
         ensures value { result ≡ self.now.average }
         ensures bound { result < 2 ^ 60 }

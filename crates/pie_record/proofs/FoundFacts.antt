@@ -4,7 +4,6 @@ use Rattle.pie_record.specs.{◌≡◌, ◌<◌, ◌++◌, ◌∷◌, ◌==◌, 
 use Rattle.pie_record.specs.{split_line, records_left, records_at, strip_bom, prepend_known, HasTakenLine, WasTaken, ReadsPlain, IsPlainLine, Keeps, IsAtEnd}
 use Rattle.pie_record.proofs.LineReads.{line-read, feed-read}
 use Rattle.pie_record.proofs.RecordFacts.{none-left}
-use Rattle.pie_record.specs.declared.record.Found.{Found}
 use Rattle.pie_record.specs.declared.record.Found.TheVariants as found
 use Rattle.csv.specs.declared.parser.State.TheVariants as st
 
@@ -57,10 +56,6 @@ kept : (rest : List ℕ) (after : Option (List ℕ)) → Keeps (Some rest) after
 kept rest None keeps = absurd keeps
 kept rest (Some xs) keeps = ap Some keeps
 
-pub more-found : (is_first : Bool) (before after : Option (List ℕ)) (row : Row) → Keeps before after → ReadsPlain found.More is_first before row after
-more-found is_first None after row keeps = tt
-more-found is_first (Some all) after row keeps = (all, kept all after keeps, refl)
-
 pub nothing-found : (is_first : Bool) (before after : Option (List ℕ)) (row : Row) → Keeps before after → IsAtEnd after
     → ReadsPlain found.Nothing is_first before row after
 nothing-found is_first None after row keeps over = tt
@@ -69,17 +64,7 @@ nothing-found is_first (Some all) after row keeps over =
     let none : all ≡ [] = subst (λ (o : Option (List ℕ)). IsAtEnd o) same over in
     (all, same, ap (records_at is_first) none ∙ none-at is_first)
 
-pub kept-found : (what : Found) (is_first : Bool) (before now after : Option (List ℕ)) (row : Row) → Keeps before now
-    → ReadsPlain what is_first now row after → ReadsPlain what is_first before row after
-kept-found what is_first None now after row keeps finds = tt
-kept-found what is_first (Some all) now after row keeps finds =
-    subst (λ (o : Option (List ℕ)). ReadsPlain what is_first o row after) (kept all now keeps) finds
-
 -- ---- bytes that are left to csv
-
-pub first-left : (before : Option (List ℕ)) (row : Row) → ReadsPlain found.Odd true before row before
-first-left None row = tt
-first-left (Some all) row = (all, refl, refl)
 
 pub later-left : (before after : Option (List ℕ)) (row : Row) → after ≡ prepend_known (10 ∷ []) before → ReadsPlain found.Odd false before row after
 later-left None after row back = tt

@@ -9,8 +9,9 @@ use Rattle.std.proofs.Math.Seq.{take-append_seam, take-add, drop-cons}
 use Rattle.std.proofs.lemmas.List.{drop-take}
 use Rattle.std.proofs.lemmas.List.Edits.{take-paste}
 use Rattle.std.proofs.lemmas.Option.{slice_get_within, get_or_from_slice_get}
+use Rattle.csv.proofs.ReadFacts.{prepend-nil}
 use Rattle.pie_record.specs.{HasTakenLine, IsFound, WasTaken}
-use Rattle.pie_record.specs.{◌≡◌, ◌<◌, ◌≤◌, ◌+◌, ◌-◌, ◌++◌, ◌∷◌, ◌==◌, ℕ, suc, List, [], length, refl, false, Option, Some, None, Keeps, Consumes, IsAtEnd, prepend_known}
+use Rattle.pie_record.specs.{◌≡◌, ◌<◌, ◌≤◌, ◌+◌, ◌-◌, ◌++◌, ◌∷◌, ◌==◌, ℕ, suc, List, [], length, refl, false, Option, Some, None, Keeps, Consumes, prepend_known}
 
 none-ahead : (bytes : List ℕ) (at end : ℕ) → end ≤ at → slice_range bytes at end ≡ []
 none-ahead bytes at end over = let none : end - at ≡ 0 = omega arith in rw none refl
@@ -48,11 +49,6 @@ module _ (bytes moved now : List ℕ) (at end count : ℕ) (order : at ≤ end) 
   fill-keeps (Some xs) (Some ys) taken =
       ap (λ (l : List ℕ). l ++ ys) whole ∙ append_assoc (slice_range bytes at end) (slice_range now (end - at) (end - at + count)) ys
       ∙ ap (λ (l : List ℕ). slice_range bytes at end ++ l) (sym taken)
-
--- .. and where no byte is there then, none is left
-pub fill-ends : (after : Option (List ℕ)) (now : List ℕ) (count : ℕ) → count ≡ 0 → IsAtEnd after → IsAtEnd (prepend_known (slice_range now 0 count) after)
-fill-ends None now count none over = tt
-fill-ends (Some xs) now count none over = rw none over
 
 -- ---- a line is taken of the bytes ahead
 
@@ -110,25 +106,13 @@ module _ (bytes line ends : List ℕ) (at place end : ℕ) (found : IsFound (sli
     taken = taken known;
   }
 
--- ---- a line feed is put back
-
-pub is-put-back : (known : Option (List ℕ)) (bytes made : List ℕ) (at end long : ℕ) → made ≡ 10 ∷ slice_range bytes at end → long ≡ length made
-    → prepend_known (slice_range made 0 long) known ≡ prepend_known (10 ∷ []) (prepend_known (slice_range bytes at end) known)
-is-put-back None bytes made at end long is is_long = refl
-is-put-back (Some xs) bytes made at end long is is_long =
-    ap (λ (l : List ℕ). Some (l ++ xs)) (from-start made long ∙ take_all long made (omega (arith, is_long)) ∙ is)
-
 -- ---- reads by csv
-
-none-before : (known : Option (List ℕ)) → prepend_known [] known ≡ known
-none-before None = refl
-none-before (Some xs) = refl
 
 -- a read of the underlying reader, if no byte is ahead
 pub read-through : {E : Type 0} (before after : Option (List ℕ)) (bytes buf : List ℕ) (at end : ℕ) (result : Result ℕ E) → end ≤ at
     → ReadConsumes before after result buf
     → ReadConsumes (prepend_known (slice_range bytes at end) before) (prepend_known (slice_range bytes at end) after) result buf
-read-through before after bytes buf at end result over read = rw (none-ahead bytes at end over, none-before before, none-before after) read
+read-through before after bytes buf at end result over read = rw (none-ahead bytes at end over, prepend-nil before, prepend-nil after) read
 
 first-part : (bytes : List ℕ) (at count end : ℕ) → count ≤ end - at → slice_range bytes at (at + count) ≡ take count (slice_range bytes at end)
 first-part bytes at count end within =

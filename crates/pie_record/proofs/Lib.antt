@@ -13,6 +13,5 @@ mod Appended
 mod FieldFacts
 pub mod OpeningBack
 mod LinesBack
-mod LinesAgain
 mod ExamplesLines
 pub mod Laws

@@ -1,8 +1,9 @@
 -- A record of a command or of the wall-clock time has exactly the fields with which it is written, and its numbers fit their types; so has a line of
--- a history. A record that was written is read as its line.
-use Rattle.std.proofs.Common.{rules, ap, subst, ◌∙◌, arith, sym}
+-- a history. A record that was written is read as its line, and that of a line, except a note, is the record that is written for it.
+use Rattle.std.proofs.Common.{rules, ap, subst, ◌∙◌, arith, sym, length-append}
 use Rattle.std.proofs.lemmas.Bool.{eqb-true}
 use Rattle.std.proofs.lemmas.Bool.Decides.{nat_tests}
+use Rattle.std.proofs.lemmas.Slice.Eq.{bytes_eq-Decides}
 use Rattle.pie_record.specs.Names.{Answer, Command, Clock, Field}
 use Rattle.pie_record.specs.{One, Two, ◌≡◌, ◌<◌, ◌==◌, ◌^◌, ℕ, List, [], ◌∷◌, ◌++◌, Bool, true, length, decimal, refl, Option, Some, None, Result, Ok}
 use Rattle.pie_record.specs.{codes, ⊤, field_at, Packet, AnswerFits, RegistersFit, StatsFit, Empty, Left, Updated, Done, Arrive, Depart, Update}
@@ -13,10 +14,10 @@ use Rattle.pie_record.specs.{verdict_of, number, EventFits, AreLinesOf, Row, req
 use Rattle.pie_record.specs.{fits, Registers, Stats, answer_fields, counted, flag, folded_row, refused_row, shown_row, tallied_row, All, and_then}
 use Rattle.pie_record.specs.{lines_from, ◌≤◌, drop, map, first_bad, RawParams, CommandFits, ParamsFit, arrival_at, command_fields_at, change_at, change_to}
 use Rattle.pie_record.specs.{command_length, most_u16, params_at, NineFit, command_request, fold_request, request_by, nine_of, BadChange}
-use Rattle.pie_record.specs.{command_word}
+use Rattle.pie_record.specs.{command_word, false, ◌+◌, ◌||◌, if◌then◌else◌, is_word, rows_unless_note}
 use Rattle.pie_record.proofs.FieldFacts.{and_after, back_ecn, back_u32, back_u64, field-read, number-then, one-way, no-flaw, packet-read, tested}
 use Rattle.pie_record.proofs.FieldFacts.{Says, numbers-back, read-as, Has, HasAll, has-all, ok-same, ParamsRead, params-back, params-read, word-has}
-use Rattle.pie_record.proofs.FieldFacts.{found}
+use Rattle.pie_record.proofs.FieldFacts.{found, same-bytes}
 use Rattle.pie_record.proofs.HistoryFacts.{read-all}
 use Rattle.pie_record.proofs.NumberFacts.{number-back}
 use Rattle.pie_record.specs.declared.command.CommandFields.TheVariants as asked
@@ -227,102 +228,188 @@ command-back (asked.Command caller _) more f = rw (back_u16 caller f.0, back_u64
 
 -- the numbers of a line fit their types, and an event that cannot be made has a parameter out of its range
 abbrev pub LineFits : Line → Type 0
-LineFits (line.Made event) = EventFits event
-LineFits (line.Unmakeable change) = ChangeFits change
+LineFits (line.Valid event) = EventFits event
+LineFits (line.Invalid change) = ChangeFits change
 LineFits line.Note = ⊤
 LineFits (line.Clock clock) = ClockFits clock
 
--- an answer that the command can have, whose numbers fit their types
-record Answered (command : Command) (answer : Answer) : Type 0 where
-  kind : fits command answer ≡ true
-  numbers : AnswerFits answer
+-- ---- the answer that was read
 
-verdict-numbers : (moment : ℕ) (packet : Packet) (w : ℕ) (answer : Answer) → fits (Arrive moment packet w) answer ≡ true → AnswerFits answer
-verdict-numbers moment packet w (Left left) can = cc
-verdict-numbers moment packet w (Updated delay prob burst) can = cc
-verdict-numbers moment packet w _ can = tt
+-- fields after others
+has-behind : (row : Row) (place : ℕ) (front back : Row) → HasAll row place front → HasAll row (place + length front) back
+    → HasAll row place (front ++ back)
+has-behind row place [] back has more = let here : place + 0 ≡ place = omega arith in rw here at more
+has-behind row place (field ∷ front) back has more =
+    let there : place + length (field ∷ front) ≡ place + 1 + length front = omega arith in
+    (has.0, has-behind row (place + 1) front back has.1 (rw there at more))
 
-verdict-read : (moment : ℕ) (packet : Packet) (w : ℕ) (word : List ℕ) (answer : Answer) → verdict_of word ≡ Some answer
-    → Answered (Arrive moment packet w) answer
-unfolding verdict_of
-verdict-read moment packet w word answer e =
-    let can : fits (Arrive moment packet w) answer ≡ true = grind (arith, nat_tests, e) in
-    record { kind = can; numbers = verdict-numbers moment packet w answer can }
-
-departure-read : (row : Row) (moment : ℕ) (answer : Answer) → departure_at row ≡ Ok answer → Answered (Depart moment) answer
-unfolding departure_at
-departure-read row moment (Left packet) e = record { kind = refl; numbers = (packet-read row 4 packet (grind (arith, nat_tests, e))).fits }
-departure-read row moment Empty e = record { kind = refl; numbers = tt }
-departure-read row moment _ e = absurd (grind (arith, nat_tests, e))
-
-update-read : (row : Row) (moment : ℕ) (answer : Answer) → update_at row ≡ Ok answer → Answered (Update moment) answer
-unfolding update_at
-update-read row moment answer e =
-    let a = number-then row 3 most_u64 _ answer (omega arith) e in
-    let b = number-then row 4 most_u64 _ answer (omega arith) a.rest in
-    let c = number-then row 5 most_u64 _ answer (omega arith) b.rest in
-    read-as (Answered (Update moment)) (Updated a.got b.got c.got) answer c.rest (record { kind = refl; numbers = (a.small, b.small, c.small) })
-
-answer-read : (row : Row) (command : Command) (answer : Answer) → answer_at row (kind_of command) ≡ Ok answer → Answered command answer
-unfolding answer_at
-answer-read row (Arrive moment packet w) answer e =
-    let field = field-read verdict_of (field_at row 7) flaw.Word answer e in verdict-read moment packet w field.text answer field.reads
-answer-read row (Depart moment) answer e = departure-read row moment answer e
-answer-read row (Update moment) answer e = update-read row moment answer e
-answer-read row (Reset moment) answer e =
-    let a = and_after (word_at row 3 (word_of_answer said.Done)) _ answer e in
-    read-as (Answered (Reset moment)) Done answer a.rest (record { kind = refl; numbers = tt })
-answer-read row (SetParams moment params) answer e =
-    let a = and_after (word_at row 12 (word_of_answer said.Done)) _ answer e in
-    read-as (Answered (SetParams moment params)) Done answer a.rest (record { kind = refl; numbers = tt })
-
-event-fits : (row : Row) (k : CommandKind) (told : Line) → Says (event_line row k) told → LineFits told
-unfolding event_line
-event-fits row k told e =
-    let a = and_after (command_at row k) _ told (tested (has_length k (length row)) _ _ told e).1 in
-    let b = and_after (answer_at row k) (λ (answer : Answer). let it : Result Line Flaw = Ok (line_for a.got answer) in it) told a.rest in
-    let read = command-read row k a.got a.is in
-    read-as LineFits (line_for a.got b.got) told b.rest (by a.got b.got read.fits
-    (subst (λ (kind : CommandKind). Says (answer_at row kind) b.got) read.kind b.is))
+-- a word that had to be at a place
+word-there : (row : Row) (place : ℕ) (word : List ℕ) (value : Unit {0}) → Says (word_at row place word) value → Has row place word
+word-there row place word value e = by (field_at row place) (tested (is_word word (field_at row place)) _ flaw.Word value e).0
   where
-    by : (asks : CommandFields) (answer : Answer) → CommandFieldsFit asks → Says (answer_at row (command_row_kind asks)) answer → LineFits (line_for asks answer)
-    by (asked.Command caller command) answer fits e =
-        let said = answer-read row command answer e in
-        record { kind = said.kind; caller = fits.0; command = fits.1; answer = said.numbers }
-    by (asked.BadParams change) answer fits e = fits
-
-clock-fits : (version : Version) (row : Row) (told : Line) → Says (and_then (clock_in version row) (λ clock. Ok (line.Clock clock))) told
-    → LineFits told
-clock-fits version row told e =
-    let a = and_after (clock_in version row) (λ (clock : Clock). let it : Result Line Flaw = Ok (line.Clock clock) in it) told e in
-    read-as LineFits (line.Clock a.got) told a.rest (clock-read version row a.got a.is).fits
-
--- the line of a note fits
-noted : (told : Line) → told ≡ line.Note → LineFits told
-noted told e = rw e tt
-
-line-holds : (version : Version) (row : Row) (told : Line) → line_of version row ≡ Ok told → LineFits told
-unfolding line_of note_line shown_line registers_at
-line-holds version row told e = by (command_kind row) e
-  where
-    by : (o : Option CommandKind) → Says (line_by o version row) told → LineFits told
-    by (Some k) e = event-fits row k told e
-    by None e =
-        one-way (is_kind row (codes "refused")) _ _ _ e (λ is e. noted told (grind (arith, nat_tests, e))) (λ e.
-        one-way (is_kind row (codes "folded")) _ _ _ e (λ is e. noted told (grind (arith, nat_tests, e))) (λ e.
-        one-way (is_kind row (codes "shown")) _ _ _ e (λ is e. noted told (grind (arith, nat_tests, e))) (λ e.
-        one-way (is_kind row (codes "tallied")) _ _ _ e (λ is e. noted told (grind (arith, nat_tests, e))) (λ e.
-        one-way (is_kind row (codes "clock")) _ _ _ e (λ is e. clock-fits version row told e) (λ e. absurd (no-flaw flaw.Kind told e))))))
-
-pub lines-fit : (version : Version) (most number : ℕ) (rows : List Row) → All LineFits (lines_from version most number rows)
-lines-fit version most number rows = read-all LineFits version most number rows (line-holds version)
-
--- ---- an event's record is read as it was written
+    by : (o : Option (List ℕ)) → is_word word o ≡ true → o ≡ Some word
+    by None is = cc
+    by (Some field) is = ap Some (same-bytes field word is)
 
 -- answers that the fields of a command can have: invalid new parameters are recorded with the answer of valid ones
 abbrev CanHave : CommandFields → Answer → Type 0
 CanHave (asked.Command caller command) answer = fits command answer ≡ true
 CanHave (asked.BadParams change) answer = answer ≡ Done
+
+-- a record ends with the fields of an answer, after those of its command, which can have it; its numbers fit their types
+record Ends (row : Row) (asks : CommandFields) (answer : Answer) : Type 0 where
+  has : HasAll row (command_length (command_row_kind asks)) (answer_fields answer)
+  long : length row ≡ command_length (command_row_kind asks) + length (answer_fields answer)
+  can : CanHave asks answer
+  numbers : AnswerFits answer
+
+verdict-word : (text : List ℕ) (answer : Answer) → verdict_of text ≡ Some answer → answer_fields answer ≡ text ∷ []
+unfolding verdict_of answer_fields
+verdict-word text answer e = grind (arith, nat_tests, e, bytes_eq-Decides)
+
+verdict-read : (moment : ℕ) (packet : Packet) (w : ℕ) (text : List ℕ) (answer : Answer) → verdict_of text ≡ Some answer
+    → (fits (Arrive moment packet w) answer ≡ true) × AnswerFits answer
+unfolding verdict_of
+verdict-read moment packet w text answer e = (grind (arith, nat_tests, e), grind (arith, nat_tests, e))
+
+-- the answer `done`
+done-ends : (row : Row) (asks : CommandFields) (answer : Answer) → CanHave asks Done → (length row == command_length (command_row_kind asks) + 1) ≡ true
+    → Says (and_then (word_at row (command_length (command_row_kind asks)) (word_of_answer said.Done)) (λ _. Ok Done)) answer → Ends row asks answer
+unfolding answer_fields
+done-ends row asks answer can long e =
+    let at : ℕ = command_length (command_row_kind asks) in
+    let a = and_after (word_at row at (word_of_answer said.Done)) _ answer e in
+    read-as (Ends row asks) Done answer a.rest (record {
+      has = (word-there row at (word_of_answer said.Done) a.got a.is, tt);
+      long = eqb-true (length row) (at + 1) long;
+      can = can;
+      numbers = tt;
+    })
+
+departure-ends : (row : Row) (caller moment : ℕ) (answer : Answer) → has_length kind.Depart (length row) ≡ true → Says (departure_at row) answer
+    → Ends row (asked.Command caller (Depart moment)) answer
+unfolding departure_at answer_fields
+departure-ends row caller moment answer long e = by (length row == 4) refl long e
+  where
+    by : (b : Bool) → (length row == 4) ≡ b → (b || (length row == 7)) ≡ true
+        → Says (if b then and_then (word_at row 3 (word_of_answer said.Empty)) (λ _. Ok Empty) else and_then (word_at row 3 (word_of_answer said.Left))
+        (λ _. and_then (packet_at row 4) (λ packet. Ok (Left packet)))) answer
+        → Ends row (asked.Command caller (Depart moment)) answer
+    by true four long e =
+        let a = and_after (word_at row 3 (word_of_answer said.Empty)) _ answer e in
+        read-as (Ends row (asked.Command caller (Depart moment))) Empty answer a.rest (record {
+          has = (word-there row 3 (word_of_answer said.Empty) a.got a.is, tt);
+          long = eqb-true (length row) 4 four;
+          can = refl;
+          numbers = tt;
+        })
+    by false four long e =
+        let a = and_after (word_at row 3 (word_of_answer said.Left)) _ answer e in
+        let p = and_after (packet_at row 4) _ answer a.rest in
+        let read = packet-read row 4 p.got p.is in
+        read-as (Ends row (asked.Command caller (Depart moment))) (Left p.got) answer p.rest (record {
+          has = (word-there row 3 (word_of_answer said.Left) a.got a.is, (read.tag, (read.size, (read.ecn, tt))));
+          long = eqb-true (length row) 7 long;
+          can = refl;
+          numbers = read.fits;
+        })
+
+update-ends : (row : Row) (caller moment : ℕ) (answer : Answer) → (length row == 6) ≡ true → Says (update_at row) answer
+    → Ends row (asked.Command caller (Update moment)) answer
+unfolding update_at answer_fields
+update-ends row caller moment answer long e =
+    let a = number-then row 3 most_u64 _ answer (omega arith) e in
+    let b = number-then row 4 most_u64 _ answer (omega arith) a.rest in
+    let c = number-then row 5 most_u64 _ answer (omega arith) b.rest in
+    read-as (Ends row (asked.Command caller (Update moment))) (Updated a.got b.got c.got) answer c.rest (record {
+      has = (a.there, (b.there, (c.there, tt)));
+      long = eqb-true (length row) 6 long;
+      can = refl;
+      numbers = (a.small, b.small, c.small);
+    })
+
+answer-ends : (row : Row) (asks : CommandFields) (answer : Answer) → has_length (command_row_kind asks) (length row) ≡ true
+    → Says (answer_at row (command_row_kind asks)) answer → Ends row asks answer
+unfolding answer_at answer_fields
+answer-ends row (asked.Command caller (Arrive moment packet w)) answer long e =
+    let field = field-read verdict_of (field_at row 7) flaw.Word answer e in
+    let word = verdict-word field.text answer field.reads in
+    let can = verdict-read moment packet w field.text answer field.reads in
+    record {
+      has = rw word (field.is, tt);
+      long = rw word (eqb-true (length row) 8 long);
+      can = can.0;
+      numbers = can.1;
+    }
+answer-ends row (asked.Command caller (Depart moment)) answer long e = departure-ends row caller moment answer long e
+answer-ends row (asked.Command caller (Update moment)) answer long e = update-ends row caller moment answer long e
+answer-ends row (asked.Command caller (Reset moment)) answer long e = done-ends row _ answer refl long e
+answer-ends row (asked.Command caller (SetParams moment params)) answer long e = done-ends row _ answer refl long e
+answer-ends row (asked.BadParams change) answer long e = done-ends row _ answer refl long e
+
+-- ---- a line that was read: its numbers fit their types, and its record, except a note's, is the record that is written for it
+
+abbrev IsReadFrom : Row → Line → Type 0
+IsReadFrom row told = LineFits told × (line_rows told ≡ rows_unless_note told row)
+
+event-read : (row : Row) (k : CommandKind) (told : Line) → command_kind row ≡ Some k → Says (event_line row k) told → IsReadFrom row told
+unfolding event_line
+event-read row k told known e =
+    let long = tested (has_length k (length row)) _ _ told e in
+    let a = and_after (command_at row k) _ told long.1 in
+    let b = and_after (answer_at row k) (λ (answer : Answer). let it : Result Line Flaw = Ok (line_for a.got answer) in it) told a.rest in
+    let read = command-read row k a.got a.is in
+    let ends = answer-ends row a.got b.got (subst (λ (k : CommandKind). has_length k (length row) ≡ true) read.kind long.0)
+    (subst (λ (k : CommandKind). Says (answer_at row k) b.got) read.kind b.is) in
+    read-as (IsReadFrom row) (line_for a.got b.got) told b.rest (by a.got b.got read ends)
+  where
+    whole : (asks : CommandFields) (answer : Answer) → Reads row k asks → Ends row asks answer → command_row_fields asks ++ answer_fields answer ≡ row
+    whole asks answer read ends =
+        let fields = command_row_fields asks in
+        let shape = command-shape asks (answer_fields answer) in
+        let kind = rw read.kind at (kind-has row k known) in
+        let front : HasAll row 0 fields = subst (λ (fields : Row). HasAll row 0 fields) (sym shape.0) (kind, read.has) in
+        let zero-is : length fields ≡ 0 + length fields = omega arith in
+        let back : HasAll row (length fields) (answer_fields answer) = rw shape.1 at ends.has in
+        let long : length row ≡ length (fields ++ answer_fields answer) = ends.long ∙ rw shape.1 (sym (length-append fields (answer_fields answer))) in
+        sym (has-all row 0 (fields ++ answer_fields answer) (omega (arith, long)) (has-behind row 0 fields (answer_fields answer) front
+        (subst (λ (n : ℕ). HasAll row n (answer_fields answer)) zero-is back)))
+
+    by : (asks : CommandFields) (answer : Answer) → Reads row k asks → Ends row asks answer → IsReadFrom row (line_for asks answer)
+    by (asked.Command caller command) answer read ends = (
+      record { kind = ends.can; caller = read.fits.0; command = read.fits.1; answer = ends.numbers },
+      ap (λ (r : Row). r ∷ []) (whole (asked.Command caller command) answer read ends),
+    )
+    by (asked.BadParams change) answer read ends =
+        (read.fits, ap (λ (r : Row). r ∷ []) (rw ends.can at (whole (asked.BadParams change) answer read ends)))
+
+clock-told : (version : Version) (row : Row) (told : Line) → is_kind row (codes "clock") ≡ true
+    → Says (and_then (clock_in version row) (λ clock. Ok (line.Clock clock))) told → IsReadFrom row told
+clock-told version row told is e =
+    let a = and_after (clock_in version row) (λ (clock : Clock). let it : Result Line Flaw = Ok (line.Clock clock) in it) told e in
+    let read = clock-read version row a.got a.is in
+    read-as (IsReadFrom row) (line.Clock a.got) told a.rest (read.fits, ap (λ (r : Row). r ∷ []) (sym (read.is is)))
+
+noted : (row : Row) (told : Line) → told ≡ line.Note → IsReadFrom row told
+noted row told e = rw e (tt, refl)
+
+pub reads-line : (version : Version) (row : Row) (told : Line) → line_of version row ≡ Ok told → IsReadFrom row told
+unfolding line_of note_line shown_line registers_at
+reads-line version row told e = by (command_kind row) refl e
+  where
+    by : (o : Option CommandKind) → command_kind row ≡ o → Says (line_by o version row) told → IsReadFrom row told
+    by (Some k) known e = event-read row k told known e
+    by None known e =
+        one-way (is_kind row (codes "refused")) _ _ _ e (λ is e. noted row told (grind (arith, nat_tests, e))) (λ e.
+        one-way (is_kind row (codes "folded")) _ _ _ e (λ is e. noted row told (grind (arith, nat_tests, e))) (λ e.
+        one-way (is_kind row (codes "shown")) _ _ _ e (λ is e. noted row told (grind (arith, nat_tests, e))) (λ e.
+        one-way (is_kind row (codes "tallied")) _ _ _ e (λ is e. noted row told (grind (arith, nat_tests, e))) (λ e.
+        one-way (is_kind row (codes "clock")) _ _ _ e (clock-told version row told) (λ e. absurd (no-flaw flaw.Kind told e))))))
+
+pub lines-fit : (version : Version) (most number : ℕ) (rows : List Row) → All LineFits (lines_from version most number rows)
+lines-fit version most number rows = read-all LineFits version most number rows (λ row told e. (reads-line version row told e).0)
+
+-- ---- an event's record is read as it was written
 
 record AnswerBack (row : Row) (kind : CommandKind) (answer : Answer) : Type 0 where
   long : has_length kind (length row) ≡ true
@@ -354,7 +441,7 @@ answered-back version row caller command answer e can said =
     ∙ line-back version (asked.Command caller command) answer written.fits can said
 
 -- the record of an event
-pub event-back : (version : Version) (event : Event) → EventFits event → line_of version (event_row event) ≡ Ok (line.Made event)
+pub event-back : (version : Version) (event : Event) → EventFits event → line_of version (event_row event) ≡ Ok (line.Valid event)
 event-back version event fits = line-back version (asked.Command event.caller event.command) event.answer (fits.caller, fits.command) fits.kind fits.answer
 
 -- the line of a wall-clock record, from version three on
@@ -378,8 +465,8 @@ clock-back clock fits =
 -- the records of a line that was read are read as that line, and those of a note as no line
 pub line-again : (told : Line) → LineFits told → AreLinesOf Three (line_rows told) (without_notes (told ∷ []))
 unfolding AreLinesOf
-line-again (line.Made event) fits = (event-back Three event fits, tt)
-line-again (line.Unmakeable change) fits = (line-back Three (asked.BadParams change) Done fits refl tt, tt)
+line-again (line.Valid event) fits = (event-back Three event fits, tt)
+line-again (line.Invalid change) fits = (line-back Three (asked.BadParams change) Done fits refl tt, tt)
 line-again line.Note fits = tt
 line-again (line.Clock clock) fits = (clock-back clock fits, tt)
 

@@ -9,13 +9,13 @@ use Rattle.pie_record.specs.{Opening, ◌≡◌, ◌<◌, ◌+◌, ◌^◌, ℕ,
 use Rattle.pie_record.specs.{Result, Ok, field_at, usual, default_profile, Elements, Half, Zero, RawParams, first_bad, Mode, Bounded, Rolling}
 use Rattle.pie_record.specs.{Profile, are_of_version_two, opening_refusal, ParamsFit, Flaw, TraceFault, Draft, FirstKind, chosen_at, decay_at}
 use Rattle.pie_record.specs.{draft_at, elements_at, first_fields, first_kind, holds_limits, limits_at, profile_of, version_one_fields}
-use Rattle.pie_record.specs.{version_three_fields, version_two_fields, which_of, opening_of, opening_read, params_at, LimitsFit, NineFit, Row}
+use Rattle.pie_record.specs.{version_three_fields, version_two_fields, one_of_two, opening_of, opening_read, params_at, LimitsFit, NineFit, Row}
 use Rattle.pie_record.specs.{delay_word, mode_word, picking_word, profile_number, size_word, step_word, are_default, are_usual, chosen_row}
 use Rattle.pie_record.specs.{earlier_row, is_earlier, nine_of, opening_row, version_three_row, Decay, Choices, Limits, OpenRefusal, Option, Err}
 use Rattle.pie_record.specs.{Checked, checked_opening, refused_opening, ◌≤◌, length, All, Event, Line, Version, HasField, rows_text, command_kind}
 use Rattle.pie_record.specs.{line_of, kind_word, version_of, RemainingLines, after_opening, remaining_after_opening, remaining_from, fault_from, history_opening}
 use Rattle.pie_record.specs.{history_version, lines_from, Begins, EventFits, AreLinesOf, IsHistoryText, event_row, written_rows, drop, numbers_at, ◌==◌}
-use Rattle.pie_record.specs.declared.history_record.Line.TheVariants.{Made}
+use Rattle.pie_record.specs.declared.history_record.Line.TheVariants.{Valid}
 use Rattle.pie_record.proofs.FieldFacts.{back_u32, back_u64, params-back}
 use Rattle.pie_record.proofs.HistoryFacts.{line_in-line}
 use Rattle.pie_record.proofs.LinesBack.{nine-of-fits, event-back}
@@ -90,7 +90,7 @@ held-earlier profile mode limits e = grind (arith, nat_tests, e)
 earlier-read : (profile : Profile) (mode : Mode) (moment : ℕ) (limits : Limits) (params : RawParams) (short : Bool)
     → opening_of (earlier_row profile mode ++ numbers_row moment limits (params_row params short))
     ≡ opening_read (earlier_kind profile mode) (draft_at (numbers_row moment limits (params_row params short)) 0 (chosen profile mode))
-unfolding opening_of first_kind version_one_fields version_two_fields profile_of which_of draft_at limits_at params_at numbers_at field_at
+unfolding opening_of first_kind version_one_fields version_two_fields profile_of one_of_two draft_at limits_at params_at numbers_at field_at
 earlier-read profile mode moment limits params short = grind (arith, nat_tests)
 
 usual-elements : (e : Elements) → are_usual e ≡ true → e ≡ usual
@@ -103,7 +103,7 @@ pub chosen-read : (row : Row) (c : Choices) (told : Bool) (place : ℕ) → fiel
     → field_at row 2 ≡ Some (delay_word c.elements.delay) → field_at row 3 ≡ Some (picking_word c.elements.picking)
     → field_at row 4 ≡ Some (step_word c.elements.step) → field_at row 5 ≡ Some (size_word c.elements.size)
     → decay_at row 6 told ≡ Ok c.elements.decay → field_at row place ≡ Some (mode_word c.mode) → chosen_at row told place ≡ draft_at row (place + 1) c
-unfolding chosen_at elements_at profile_of which_of
+unfolding chosen_at elements_at profile_of one_of_two
 chosen-read row c told place profile delay picking step size decay mode =
     grind (arith, nat_tests, profile, delay, picking, step, size, decay, mode)
 
@@ -114,7 +114,7 @@ decaying c decay = record c { elements = record c.elements { decay = decay } }
 three-read : (word : List ℕ) (c : Choices) (moment : ℕ) (limits : Limits) (params : RawParams) (short : Bool)
     → first_fields (word ∷ (chosen_row c ++ numbers_row moment limits (params_row params short))) kinds.Open3
     ≡ draft_at (numbers_row moment limits (params_row params short)) 0 c
-unfolding version_three_fields draft_at limits_at params_at numbers_at field_at which_of
+unfolding version_three_fields draft_at limits_at params_at numbers_at field_at one_of_two
 three-read word c moment limits params short = by c.elements.decay short
   where
     row : Decay → Bool → Row
@@ -217,7 +217,7 @@ history-read kind rest rows opening lines opens some tells few =
 
 -- ---- the text of a history
 
-pub events-read : (version : Version) (events : List Event) → All EventFits events → AreLinesOf version (map event_row events) (map Made events)
+pub events-read : (version : Version) (events : List Event) → All EventFits events → AreLinesOf version (map event_row events) (map Valid events)
 unfolding AreLinesOf
 events-read version [] fit = tt
 events-read version (event ∷ events) fit =
@@ -239,11 +239,11 @@ opening_row-begins o = either (is_earlier o) _
 
 pub written-back : (opening : Opening) (events : List Event) → opening_refusal opening.limits opening.moment ≡ None → ParamsFit opening.params
     → All EventFits events → length events < 2 ^ 32
-    → IsHistoryText (rows_text (written_rows opening events)) opening (map Made events)
+    → IsHistoryText (rows_text (written_rows opening events)) opening (map Valid events)
 written-back opening events accepted set fit few =
     let first = opening_row-begins opening in
     let opens : opening_of (kind_word first.kind ∷ first.rest) ≡ Ok opening = ap opening_of (sym first.is) ∙ opening-back opening accepted set in
     let many = length-map events event_row in
     let tells = events-read (version_of (kind_word first.kind ∷ first.rest)) events fit in
-    subst (λ (row : Row). IsHistoryText (rows_text (row ∷ map event_row events)) opening (map Made events)) (sym first.is)
-    (history-read first.kind first.rest (map event_row events) opening (map Made events) opens (fields-read _ _ _ tells) tells (omega arith))
+    subst (λ (row : Row). IsHistoryText (rows_text (row ∷ map event_row events)) opening (map Valid events)) (sym first.is)
+    (history-read first.kind first.rest (map event_row events) opening (map Valid events) opens (fields-read _ _ _ tells) tells (omega arith))

@@ -1,10 +1,10 @@
 -- csv's reading and writing of plain lines.
-use Rattle.std.proofs.Common.{sym, ap, ◌∙◌, arith, get_or, take, take_all}
-use Rattle.pie_record.specs.{◌≡◌, ◌<◌, ◌+◌, ◌++◌, ◌∷◌, ℕ, ◌==◌, List, [], length, refl, true, false, Bool, Some, Row, nat_lt}
+use Rattle.std.proofs.Common.{sym, ap, ◌∙◌, arith, get_or}
+use Rattle.pie_record.specs.{◌≡◌, ◌<◌, ◌+◌, ◌++◌, ◌∷◌, ℕ, ◌==◌, List, [], length, refl, true, false, Bool, Some, Row, nat_lt, start_of, zero, suc}
+use Rattle.pie_record.specs.{◌-◌, ◌≤◌, commas, field_at, IsLine, None, split_line, with_byte}
 use Rattle.std.proofs.lemmas.Bool.Decides.{nat_tests}
 use Rattle.std.specs.Prelude.{slice_range}
-use Rattle.pie_record.specs.{start_of, zero, suc, ◌-◌, ◌≤◌, commas, field_at, IsLine, None}
-use Rattle.pie_record.specs.{split_line, with_byte}
+use Rattle.csv.proofs.RecordFacts.{field-none}
 
 -- a line has a first field
 pub split-some : (line : List ℕ) → (first : List ℕ) × (others : Row) × (split_line line ≡ first ∷ others)
@@ -158,14 +158,8 @@ line-long line ends is =
     let same : 0 + length line ≡ length line = omega arith in
     fields-ends 0 line ∙ ap length (sym (is.cut ∙ ap (λ (n : ℕ). commas 0 line ++ n ∷ []) (sym same)))
 
-field_at-past : (fields : Row) (i : ℕ) → length fields ≤ i → field_at fields i ≡ None
-unfolding field_at
-field_at-past [] i past = refl
-field_at-past (field ∷ fields) zero past = absurd (omega arith)
-field_at-past (field ∷ fields) (suc i) past = field_at-past fields i (omega arith)
-
 pub line-past : (line ends : List ℕ) (i : ℕ) → IsLine line ends → length ends ≤ i → None ≡ field_at (split_line line) i
-line-past line ends i is past = sym (field_at-past (split_line line) i (omega (arith, line-long line ends is)))
+line-past line ends i is past = sym (field-none (split_line line) i (omega (arith, line-long line ends is)))
 
 pub line-field : (line ends : List ℕ) (i : ℕ) → IsLine line ends → i < length ends
     → field_at (split_line line) i ≡ Some (slice_range line (start_of 0 ends i) (get_or ends i 0))
@@ -173,19 +167,6 @@ line-field line ends i is before =
     let start : start_of 0 ends i - 0 ≡ start_of 0 ends i = omega arith in
     let end : get_or ends i 0 - 0 ≡ get_or ends i 0 = omega arith in
     rw (start, end) at (line-between line ends i is before).is
-
--- ---- the fields one by one
-
-pub fields-more : (fields : Row) (i : ℕ) (field : List ℕ) → Some field ≡ field_at fields i → take (i + 1) fields ≡ take i fields ++ field ∷ []
-unfolding field_at
-fields-more [] i field e = absurd (grind (arith, e))
-fields-more (first ∷ fields) zero field e = let same : field ≡ first = grind (arith, e) in rw same refl
-fields-more (first ∷ fields) (suc i) field e =
-    let next : suc i + 1 ≡ suc (i + 1) = omega arith in
-    rw next (ap (λ (r : Row). first ∷ r) (fields-more fields i field e))
-
-pub fields-whole : (line ends : List ℕ) → IsLine line ends → take (length ends) (split_line line) ≡ split_line line
-fields-whole line ends is = take_all (length ends) (split_line line) (omega (arith, line-long line ends is))
 
 -- a record with a plain line
 pub some-fields : (count : ℕ) → 0 < count → nat_lt 0 count ≡ true

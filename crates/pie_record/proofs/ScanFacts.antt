@@ -1,10 +1,12 @@
 -- The progress of a scan: over a byte, and over a block of bytes that a mask marks.
-use Rattle.std.proofs.Common.{suc, zero, sym, ap, ◌∙◌, arith, subst, get_or, take, drop, take-take, ⊎_elim}
+use Rattle.std.proofs.Common.{suc, zero, ◌/◌, sym, ap, ◌∙◌, arith, subst, get_or, take, drop, take-take, ⊎_elim}
 use Rattle.std.proofs.lemmas.Bool.{cases_lt}
 use Rattle.std.proofs.Math.Seq.{take-add}
+use Rattle.std.proofs.lemmas.Nat.Bits.{bit_at_and, bit_at_lowest, bit_at-suc}
 use Rattle.std.specs.Int.{bit_at}
+use lib.Bits.{bit_and}
 use Rattle.std.specs.Prelude.{slice_get, slice_range}
-use Rattle.pie_record.specs.{◌≡◌, ◌<◌, ◌+◌, ◌-◌, ◌++◌, ◌∷◌, ◌≤◌, ℕ, List, [], length, commas, IsFound, IsScanned, AreMarked, Some}
+use Rattle.pie_record.specs.{◌≡◌, ◌<◌, ◌+◌, ◌-◌, ◌++◌, ◌∷◌, ◌≤◌, ℕ, List, [], length, commas, IsFound, IsLowest, IsScanned, IsWithout, AreMarked, Some}
 use Rattle.pie_record.proofs.LineFacts.{commas-comma, commas-other, plain-above, plain-more}
 
 module _ (bytes : List ℕ) where
@@ -28,30 +30,33 @@ module _ (bytes : List ℕ) where
   }
 
   -- bytes above the comma
-  scanned-above : (now : List ℕ) (place n : ℕ) → ((k : ℕ) → k < n → 44 < get_or bytes (place + k) 0) → place + n ≤ length bytes
-      → IsScanned bytes now place → IsScanned bytes now (place + n)
-  scanned-above now place zero above within so_far = let same : place ≡ place + 0 = omega arith in subst (λ (p : ℕ). IsScanned bytes now p) same so_far
-  scanned-above now place (suc n) above within so_far =
-      let shorter = scanned-above now place n (λ k less. above k (omega arith)) (omega arith) so_far in
-      let same : place + n + 1 ≡ place + suc n = omega arith in
-      subst (λ (p : ℕ). IsScanned bytes now p) same (scanned-other now (place + n) shorter (omega arith) (above n (omega arith)))
+  scanned-above : (now : List ℕ) (at from n : ℕ) → ((k : ℕ) → from ≤ k → k < from + n → 44 < get_or bytes (at + k) 0) → at + (from + n) ≤ length bytes
+      → IsScanned bytes now (at + from) → IsScanned bytes now (at + (from + n))
+  scanned-above now at from zero above within so_far =
+      let same : at + from ≡ at + (from + 0) = omega arith in subst (λ (p : ℕ). IsScanned bytes now p) same so_far
+  scanned-above now at from (suc n) above within so_far =
+      let shorter = scanned-above now at from n (λ k high less. above k high (omega arith)) (omega arith) so_far in
+      let same : at + (from + n) + 1 ≡ at + (from + suc n) = omega arith in
+      subst (λ (p : ℕ). IsScanned bytes now p) same (scanned-other now (at + (from + n)) shorter (omega arith) (above (from + n) (omega arith) (omega arith)))
 
-  module _ (at end mask : ℕ) (marks : AreMarked bytes at end mask) (room : end ≤ length bytes) where
-    -- bytes without a bit are above the comma
-    unmarked : (bit : ℕ) → at + bit ≤ end → ((k : ℕ) → k < bit → bit_at mask k ≡ 0) → (k : ℕ) → k < bit → 44 < get_or bytes (at + k) 0
-    unmarked bit few none k less =
-        ⊎_elim (λ high. high) (λ small. let one = marks.each k (omega arith) small in let clear = none k less in absurd (omega (arith, one, clear)))
+  module _ (at end next mask : ℕ) (marks : AreMarked bytes at end next mask) (room : end ≤ length bytes) where
+    -- a byte without a bit is above the comma
+    unmarked : (k : ℕ) → next ≤ k → at + k < end → bit_at mask k ≡ 0 → 44 < get_or bytes (at + k) 0
+    unmarked k high within none =
+        ⊎_elim (λ above. above) (λ small. let one = marks.each k high within small in absurd (omega (arith, one, none)))
         (cases_lt 44 (get_or bytes (at + k) 0))
 
-    -- the scan passes these bytes
-    pub scanned-past : (now : List ℕ) (bit : ℕ) → at + bit ≤ end → ((k : ℕ) → k < bit → bit_at mask k ≡ 0)
-        → IsScanned bytes now at → IsScanned bytes now (at + bit)
-    scanned-past now bit few none so_far = scanned-above now at bit (unmarked bit few none) (omega arith) so_far
+    -- the scan passes the bytes without a bit
+    pub scanned-past : (now : List ℕ) (bit : ℕ) → next ≤ bit → at + bit ≤ end → ((k : ℕ) → k < bit → bit_at mask k ≡ 0)
+        → IsScanned bytes now (at + next) → IsScanned bytes now (at + bit)
+    scanned-past now bit high few none so_far =
+        let same : at + (next + (bit - next)) ≡ at + bit = omega arith in
+        subst (λ (p : ℕ). IsScanned bytes now p) same (scanned-above now at next (bit - next)
+        (λ k from less. unmarked k from (omega arith) (none k (omega arith))) (omega arith) so_far)
 
     -- a block was scanned up to its first marked byte
-    pub scanned-to : (now : List ℕ) (bit : ℕ) → bit_at mask bit ≡ 1 → ((k : ℕ) → k < bit → bit_at mask k ≡ 0)
-        → IsScanned bytes now at → IsScanned bytes now (at + bit)
-    scanned-to now bit set none so_far = scanned-past now bit (let there = marks.within bit set in omega arith) none so_far
+    pub scanned-to : (now : List ℕ) (bit : ℕ) → IsLowest mask bit → IsScanned bytes now (at + next) → IsScanned bytes now (at + bit)
+    scanned-to now bit is so_far = let there = marks.within bit is.set in scanned-past now bit there.0 (omega (arith, there.1)) is.below so_far
 
 -- a block more of a copy
 pub block-copied : (before now bytes : List ℕ) (at : ℕ) → take at before ≡ take at bytes → take (at + 32) now ≡ take at before ++ slice_range bytes at (at + 32)
@@ -75,12 +80,48 @@ found-line bytes line ends place last same scanned feed before room =
       cut = rw copied scanned.cut;
     }
 
--- the marks behind a place
-pub marks-next : (bytes : List ℕ) (at end mask rest bit : ℕ) → AreMarked bytes at end mask
-    → ((k : ℕ) → bit_at rest k ≡ bit_at mask (bit + 1 + k)) → AreMarked bytes (at + bit + 1) end rest
-marks-next bytes at end mask rest bit marks behind = record {
-  each = λ k less small.
-      let same : at + bit + 1 + k ≡ at + (bit + 1 + k) = omega arith in
-      behind k ∙ marks.each (bit + 1 + k) (omega arith) (rw same at small);
-  within = λ k one. let it = marks.within (bit + 1 + k) (sym (behind k) ∙ one) in omega arith;
+-- the marks above the lowest
+pub marks-next : (bytes : List ℕ) (at end next mask rest bit : ℕ) → AreMarked bytes at end next mask → bit_at mask bit ≡ 1 → IsWithout mask rest bit
+    → AreMarked bytes at end (bit + 1) rest
+marks-next bytes at end next mask rest bit marks set is = record {
+  each = λ k high less small. let there = (marks.within bit set).0 in is.above k (omega arith) ∙ marks.each k (omega (arith, there)) less small;
+  within = λ k one.
+      ⊎_elim (λ above. (omega arith, (marks.within k (sym (is.above k above) ∙ one)).1)) (λ low. let none = is.none k low in absurd (omega (arith, one, none)))
+      (cases_lt bit k);
 }
+
+-- ---- a mask without its lowest bit
+
+-- the bits of the number before one whose lowest bit is at a place
+before-lowest : (place mask : ℕ) → bit_at mask place ≡ 1 → ((k : ℕ) → k < place → bit_at mask k ≡ 0)
+    → (bit_at (mask - 1) place ≡ 0) × ((k : ℕ) → place < k → bit_at (mask - 1) k ≡ bit_at mask k)
+before-lowest zero mask set below =
+    let odd = sym (bit_at_lowest mask) ∙ set in
+    let half : (mask - 1) / 2 ≡ mask / 2 = omega (arith, odd) in
+    (omega (arith, bit_at_lowest (mask - 1), odd), above half)
+  where
+    above : (mask - 1) / 2 ≡ mask / 2 → (k : ℕ) → 0 < k → bit_at (mask - 1) k ≡ bit_at mask k
+    above half zero less = absurd (omega arith)
+    above half (suc k) less = bit_at-suc (mask - 1) k ∙ ap (λ (n : ℕ). bit_at n k) half ∙ sym (bit_at-suc mask k)
+before-lowest (suc place) mask set below =
+    let even = sym (bit_at_lowest mask) ∙ below 0 (omega arith) in
+    let half : (mask - 1) / 2 ≡ mask / 2 - 1 = omega (arith, even) in
+    let it = before-lowest place (mask / 2) (sym (bit_at-suc mask place) ∙ set) (λ k less. sym (bit_at-suc mask k) ∙ below (suc k) (omega arith)) in
+    (bit_at-suc (mask - 1) place ∙ ap (λ (n : ℕ). bit_at n place) half ∙ it.0, above half it.1)
+  where
+    above : (mask - 1) / 2 ≡ mask / 2 - 1 → ((k : ℕ) → place < k → bit_at (mask / 2 - 1) k ≡ bit_at (mask / 2) k) → (k : ℕ) → suc place < k
+        → bit_at (mask - 1) k ≡ bit_at mask k
+    above half more zero less = absurd (omega arith)
+    above half more (suc k) less =
+        bit_at-suc (mask - 1) k ∙ ap (λ (n : ℕ). bit_at n k) half ∙ more k (omega arith) ∙ sym (bit_at-suc mask k)
+
+pub is-without : (mask place : ℕ) → IsLowest mask place → IsWithout mask (bit_and mask (mask - 1)) place
+is-without mask place is =
+    let it = before-lowest place mask is.set is.below in
+    record {
+      above = λ k less. let one = it.1 k less in omega (arith, bit_at_and mask (mask - 1) k, one);
+      none = λ k low.
+          ⊎_elim (λ less. let none = is.below k less in omega (arith, bit_at_and mask (mask - 1) k, none))
+          (λ high. let same : place ≡ k = omega arith in
+          let none = rw same at it.0 in omega (arith, bit_at_and mask (mask - 1) k, none)) (cases_lt k place);
+    }

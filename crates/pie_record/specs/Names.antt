@@ -9,15 +9,14 @@ pub use Rattle.std.specs.Prelude.{drop, false, get_or, if◌then◌else◌, leng
 pub use Rattle.std.specs.Prelude.{◌&&◌, ◌++◌, ◌+◌, ◌-◌, ◌<◌, ◌==◌, ◌^◌, ◌||◌, ◌∷◌, ◌≡◌, ◌≤◌, ◌⊎◌}
 pub use Rattle.std.specs.Str.{all_ascii_digits, bytes_eq}
 pub use Rattle.std.specs.Str.Parse.{digits_value, digits_value_after}
-pub use Rattle.csv.specs.Machine.{Read, ends_at_end, field_after, fields_after, is_end, step}
+pub use Rattle.csv.specs.Machine.{Read, field_after, fields_after, is_end, step}
 unfoldable pub use Rattle.csv.specs.Machine.{next_record}
 pub use Rattle.csv.specs.Reading.{NextIs, ReadRecord, ReadsNext, Ready, default_config, has_failed, is_flexible, pending_of, reader_config}
 pub use Rattle.csv.specs.Reading.{reader_state, reader_trim, records_next, source_of}
 unfoldable pub use Rattle.csv.specs.Reading.{records_from, strip_bom}
-pub use Rattle.csv.specs.Records.{fields_of, partial_of}
+pub use Rattle.csv.specs.Records.{fields_of}
 unfoldable pub use Rattle.csv.specs.Records.{field_at}
-pub use Rattle.csv.specs.Writing.{default_writer, fields_written, has_written, needs_quotes, read_back, row_text, with_flexible, writer_pending}
-pub use Rattle.csv.specs.Writing.{writer_setup, writer_under}
+pub use Rattle.csv.specs.Writing.{default_writer, needs_quotes, read_back, row_text, with_flexible}
 unfoldable pub use Rattle.csv.specs.Writing.{escaped, fields_text, is_blank}
 pub use Rattle.csv.specs.declared.{parser.State.State, reader.Reader.Reader}
 pub use Rattle.pie_event.specs.Deed.{fits}

@@ -1,8 +1,8 @@
 //! Blocks of 32 bytes in which the bytes up to a comma are marked: among them are the bytes that end a field or a line.
-ghost use Rattle.std.specs.Prelude.{◌≡◌, ◌≢◌, ◌≤◌, ◌<◌, ◌+◌, ◌↔◌, ℕ, if◌then◌else◌, nat_le, slice_index};
+ghost use Rattle.std.specs.Prelude.{◌≡◌, ◌≢◌, ◌≤◌, ◌+◌, ◌↔◌, ℕ, if◌then◌else◌, nat_le, slice_index};
 ghost use Rattle.std.specs.Int.{bit_at};
 ghost use Rattle.memchr.specs.Lanes.{HasLanes};
-ghost use Rattle.pie_record.specs.{length, AreMarked};
+ghost use Rattle.pie_record.specs.{length, AreMarked, IsLowest, IsWithout};
 
 use std::simd::prelude::*;
 
@@ -38,7 +38,7 @@ fn top_bits(lanes: u8x32) -> u64
 #[inline(always)]
 pub(crate) fn marked(bytes: &[u8], at: usize) -> u64
     requires { at + 32 ≤ length bytes.now }
-    ensures { AreMarked bytes.now at (at + 32) result }
+    ensures { AreMarked bytes.now at (at + 32) 0 result }
 {
     let block = load(bytes, at);
     let low = up_to(block, b',');
@@ -49,18 +49,16 @@ pub(crate) fn marked(bytes: &[u8], at: usize) -> u64
 #[inline(always)]
 pub(crate) fn lowest(mask: u64) -> usize
     requires { mask ≢ 0 }
-    ensures bound { result < 64 }
-    ensures set { bit_at mask result ≡ 1 }
-    ensures below { (k : ℕ) → k < result → bit_at mask k ≡ 0 }
+    ensures { IsLowest mask result }
 {
     mask.trailing_zeros() as usize
 }
 
-/// Returns the mask of the bytes behind that at `place`.
+/// Returns the mask without its lowest bit.
 #[inline(always)]
-pub(crate) fn behind(mask: u64, place: usize) -> u64
-    requires { place < 64 }
-    ensures { (k : ℕ) → bit_at result k ≡ bit_at mask (place + 1 + k) }
+pub(crate) fn without_lowest(mask: u64) -> u64
+    requires { mask ≢ 0 }
+    ensures { (place : ℕ) → IsLowest mask place → IsWithout mask result place }
 {
-    mask >> place >> 1
+    mask & (mask - 1)
 }

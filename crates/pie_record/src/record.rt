@@ -1,16 +1,17 @@
 //! One record of a text.
-ghost use Rattle.std.specs.Prelude.{◌≡◌, ◌<◌, ◌+◌, ◌-◌, ◌^◌, ◌++◌, ◌∷◌, get_or};
-ghost use Rattle.pie_record.specs.{[], ℕ, IfSome, Some, length, option_map, field_at, text_of, IsLine, Row, split_line, start_of};
-ghost use Rattle.pie_record.specs.{OnOk, IfOk, IfErr, ReadsPlain, TraceFault, IsReading, rows_left, fields_of, partial_of};
+ghost use Rattle.std.specs.Prelude.{◌≡◌, ◌≤◌, ◌<◌, ◌+◌, ◌-◌, ◌^◌, ◌++◌, ◌∷◌, get_or};
+ghost use Rattle.pie_record.specs.{[], ℕ, IfSome, Some, drop, length, number, option_and_then, option_map, field_at, text_of, IsLine, Row};
+ghost use Rattle.pie_record.specs.{split_line, start_of, IfOk, IfErr, ReadsPlain, TraceFault, IsReading, rows_left, fields_of};
 ghost use Rattle.pie_record.specs.Source.{Turns};
 
 use crate::TraceFault;
 use crate::fault::ReadFailure;
 use crate::input::Input;
+use crate::number::{number, number_from};
 use crate::records::ReadStep;
 use crate::scan::{MAX_FIELDS, MAX_LINE, Stop};
 use csv::{ByteRecord, ErrorKind, WriterBuilder};
-use std::alloc::{AllocError, Global};
+use std::alloc::Global;
 use std::io::Read;
 use std::marker::Model;
 
@@ -66,14 +67,25 @@ fn start_of(ends: &[usize], place: usize) -> usize
     ends[place - 1] + 1
 }
 
+/// Returns a plain line up to the end of the field at `place`, and the place at which this field begins, by the `ends` of its fields.
+fn field_in<'a>(line: &'a [u8], ends: &[usize], place: usize) -> (&'a [u8], usize)
+    requires plain { IsLine line.now ends.now }
+    requires within { place < length ends.now }
+    ensures within { result.1 ≤ length result.0.now }
+    ensures field { Some (drop result.1 result.0.now) ≡ field_at (split_line line.now) place }
+{
+    let start = start_of(ends, place);
+    (&line[..ends[place]], start)
+}
+
 /// Returns the field at `place` of a plain line, by the `ends` of its fields.
 fn field_between<'a>(line: &'a [u8], ends: &[usize], place: usize) -> &'a [u8]
     requires plain { IsLine line.now ends.now }
     requires within { place < length ends.now }
     ensures { Some result.now ≡ field_at (split_line line.now) place }
 {
-    let start = start_of(ends, place);
-    &line[start..ends[place]]
+    let (text, start) = field_in(line, ends, place);
+    &text[start..]
 }
 
 /// Leaves the bytes to csv, as the beginning of a text with the same records.
@@ -111,30 +123,6 @@ fn read_on<R: Read>(
         Ok(_) => leave_to_csv(alloc, input, is_first),
         Err(why) => Err(why),
     }
-}
-
-/// Ends the fields, so that more can be added.
-fn end_fields(fields: &mut ByteRecord) -> Result<(), AllocError>
-    ensures fields { OnOk result (fields_of fields.new ≡ fields_of fields.old) }
-    ensures whole { OnOk result (partial_of fields.new ≡ []) }
-{
-    let count = fields.len();
-    fields.push_field(b"")?;
-    fields.truncate(count);
-    Ok(())
-}
-
-/// Copies the fields of a plain line.
-fn copy_fields(line: &[u8], ends: &[usize], fields: &mut ByteRecord) -> Result<(), AllocError>
-    requires { IsLine line.now ends.now }
-    ensures fields { OnOk result (fields_of fields.new ≡ split_line line.now) }
-    ensures whole { OnOk result (partial_of fields.new ≡ []) }
-{
-    fields.clear();
-    for place in 0..ends.len() {
-        fields.push_field(field_between(line, ends, place))?;
-    }
-    Ok(())
 }
 
 /// Returns csv's text of these fields, with free lengths.
@@ -194,6 +182,18 @@ impl Record {
         self.quoted.get(place)
     }
 
+    /// Returns the number in the field at `place`, if it is at most `most`.
+    #[inline(always)]
+    pub(crate) fn number(&self, place: usize, most: u64) -> Option<u64>
+        ensures { result ≡ option_and_then (number most) (field_at self.now place) }
+    {
+        if place < self.count {
+            let (text, start) = field_in(&self.line[..self.len], &self.ends[..self.count], place);
+            return number_from(text, start, most);
+        }
+        number(self.get(place)?, most)
+    }
+
     /// Returns the text of the record: its line and a line feed, or csv's text of its fields.
     ///
     /// # Errors
@@ -215,35 +215,6 @@ impl Record {
             Ok(()) => Ok(bytes),
             Err(_) => Err(TraceFault::Memory),
         }
-    }
-
-    /// Removes all fields.
-    pub fn clear(&mut self)
-        ensures { self.new ≡ [] }
-    {
-        self.count = 0;
-        self.quoted.clear();
-    }
-
-    /// Adds a field.
-    ///
-    /// # Errors
-    ///
-    /// `AllocError`; the fields are then unspecified.
-    pub fn push(&mut self, field: &[u8]) -> Result<(), AllocError>
-        ensures { OnOk result (self.new ≡ self.old ++ field.now ∷ []) }
-    {
-        if self.count > 0 {
-            copy_fields(
-                &self.line[..self.len],
-                &self.ends[..self.count],
-                &mut self.quoted,
-            )?;
-            self.count = 0;
-        } else {
-            end_fields(&mut self.quoted)?;
-        }
-        self.quoted.push_field(field)
     }
 
     /// Returns the line of a plain record, without its line feed: the text of the record as csv writes it. `None` if the record has quotes or line

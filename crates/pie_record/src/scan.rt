@@ -2,7 +2,7 @@
 ghost use Rattle.std.specs.Prelude.{◌≡◌, ◌≤◌, ◌<◌, ◌+◌, ◌++◌, slice_range, take};
 ghost use Rattle.pie_record.specs.{length, FindsLine, IsScanned, Scans};
 
-use crate::block::{behind, lowest, marked};
+use crate::block::{lowest, marked, without_lowest};
 use std::simd::prelude::*;
 
 /// The number of bytes that are looked at together.
@@ -35,30 +35,24 @@ fn scan_block(
     start: usize,
 ) -> (usize, usize, Stop)
     requires within { at + 32 ≤ length bytes.now }
-    requires few { start < 128 }
+    requires few { start + 32 < 128 }
     requires scanned { IsScanned bytes.now (take start ends.old) at }
     ensures few { result.1 < 128 }
     ensures scans { Scans result.2 bytes.now (take result.1 ends.new) (at + 32) result.0 }
 {
     let mut left = marked(bytes, at);
-    let mut next = at;
     let mut count = start;
     while left != 0 {
-        let passed = lowest(left);
-        let place = next + passed;
+        let place = at + lowest(left);
         if bytes[place] != b',' {
             if bytes[place] == b'\n' {
                 return (place, count, Stop::Feed);
             }
             return (place, count, Stop::Odd);
         }
-        if count + 1 >= MAX_FIELDS {
-            return (place, count, Stop::Odd);
-        }
         ends[count] = place;
         count += 1;
-        left = behind(left, passed);
-        next = place + 1;
+        left = without_lowest(left);
     }
     (at + BLOCK, count, Stop::End)
 }
@@ -89,6 +83,9 @@ pub(crate) fn scan(
     let mut at = 0;
     let mut count = 0;
     while BLOCK <= limit - at {
+        if count + BLOCK >= MAX_FIELDS {
+            return (at, count, Stop::Odd);
+        }
         copy_block(line, bytes, at);
         let (place, more, stop) = scan_block(bytes, at, ends, count);
         match stop {

@@ -8,7 +8,7 @@ use Rattle.pie_storm.proofs.Names.{own_none, entries_of, Call, IsSound, total, A
 use Rattle.pie_storm.proofs.Names.{◌⊎◌, AreFolded, IsCutShort, None, Some, Ok, Err, Result, Bounded, Opening, IsLegal, folded_events, senders, IsEndOf, IsFor}
 use Rattle.pie_storm.proofs.Names.{drop-append_seam, tail_in, take-append_seam}
 use Rattle.pie_lock.specs.Promises.{IsBothOf}
-use Rattle.pie_lock.proofs.Owns.{goes_on, gone_on}
+use Rattle.pie_lock.proofs.Seats.{goes_on, gone_on}
 use Rattle.pie_storm.specs.declared.worker.Folding.{Folding}
 use Rattle.pie_storm.specs.Storms.{Begins, IsWorkOf, IsEntryOf, WasPassedOver, refusal_of}
 unfoldable use Rattle.pie_storm.specs.Storms.{HasFault}
@@ -317,7 +317,7 @@ module _ (plan : Plan) (h : List Entry) (sound : IsSound plan) (below : All (IsB
 
 module _ (plan : Plan) (link : LinkView) (work : Work) (book : BookView) (link_for : IsFor plan link)
     (numbers : link.numbers ≡ senders plan + 5) (worked : IsWorkBelow link plan (senders plan + 5) work)
-    (opened : work.caller.lock.origin ≡ Some book.opening) (told : HoldsAll work.caller → RepresentsEntries book work.caller.front)
+    (opened : work.caller.lock.origin ≡ Some book.opening) (represents : HoldsAll work.caller → RepresentsEntries book work.caller.front)
     (numbered : HoldsAll work.caller → All (λ (e : Entry). number_of e < work.caller.lock.numbers) work.caller.front) where
   -- the starter has all numbers of the link again
   holds_all : HoldsAll work.caller
@@ -358,7 +358,7 @@ module _ (plan : Plan) (link : LinkView) (work : Work) (book : BookView) (link_f
       let bounded : book.opening.choices.mode ≡ Bounded = ap (λ (o : Opening). o.choices.mode) opened_so in
       let all : work.folding.events.items ≡ folded_events book.opening front =
       all_handed fine ∙ ap (λ (o : Opening). folded_events o front) (sym opened_so) in
-      ap (λ (es : List Event). es ++ book.tail) all ∙ (told holds_all).nothing_lost bounded
+      ap (λ (es : List Event). es ++ book.tail) all ∙ (represents holds_all).nothing_lost bounded
 
   -- the stored events followed by the log, with their number
   all_parted : IsWell work.folding → (events : List Event) (folded : ℕ) → events ≡ work.folding.events.items ++ book.tail
@@ -366,7 +366,7 @@ module _ (plan : Plan) (link : LinkView) (work : Work) (book : BookView) (link_f
   all_parted fine events folded are many =
       let own = work.folding.events.items in record {
         folds_split = rw (are, many) (sym (all_handed fine) ∙ sym (take-append_seam own book.tail));
-        left = rw (are, many) (ap (λ (o : Opening). tail_in o work.caller.front) (sym opened_so) ∙ (sym (told holds_all).tail
+        left = rw (are, many) (ap (λ (o : Opening). tail_in o work.caller.front) (sym opened_so) ∙ (sym (represents holds_all).tail
             ∙ sym (drop-append_seam own book.tail)));
       }
 
@@ -379,7 +379,7 @@ module _ (plan : Plan) (link : LinkView) (work : Work) (book : BookView) (link_f
       × (end.folded ≡ length work.folding.events.items)) → IfOk result (IsEndOf plan)
   ended (Ok end) items registers stats counts =
       let h = events_in work.caller.front in
-      let represents_list = (told holds_all).told in
+      let represents_list = (represents holds_all).represents in
       let storm = storm_of counts.0 in
       let is : end.events.items ≡ h = items ∙ whole_history counts.0 in record {
         legal = subst (λ (es : List Event). IsLegal (opening_of plan) es) (sym is)

@@ -1,7 +1,7 @@
 -- The entries of a caller's calls in a growing history, one by one or in bursts; and the events of its folds.
 use Rattle.pie_storm.proofs.Names.{◌≡◌, ℕ, ◌+◌, true, false, List, [], ◌∷◌, ◌++◌, take, refl, ap, sym, ◌∙◌, arith, All}
 use Rattle.pie_storm.proofs.Names.{nat_tests, append-nil, All-head, All-tail, is_within, NoneOwn, gone_on, Event, Opening, folded_for, number_of}
-use Rattle.pie_storm.proofs.Names.{tail_in, EntriesLookBack, Entry, Made, Folded, HasNoMore, is_number, zero, suc, ◌≤◌, Some, None}
+use Rattle.pie_storm.proofs.Names.{tail_in, EntriesLookBack, Entry, Applied, Folded, HasNoMore, is_number, zero, suc, ◌≤◌, Some, None}
 use Rattle.pie_storm.proofs.Names.{Ok, Err, Option, Result, Vec, drop, min, length, slice_get, subst, inl, inr, length-append, length-drop}
 use Rattle.pie_storm.proofs.Names.{Global, take-add, take-length, length-take, append_assoc, Extends, goes_on_itself, Answer, Command}
 use Rattle.pie_storm.proofs.Names.{Refusal, refusal_by_rule, refusal_with, event_of}
@@ -48,7 +48,7 @@ folded_same law opening caller g h same =
 
 -- an entry of a history in which this caller folds and makes no other entry, and no other caller folds
 abbrev pub IsRight : ℕ → Entry → Type 0
-IsRight folder (Made event) = event.caller ≡ folder → ⊥
+IsRight folder (Applied event) = event.caller ≡ folder → ⊥
 IsRight folder (Folded who n) = who ≡ folder
 
 -- the events of its folds are those of all folds
@@ -127,8 +127,8 @@ has_front link number before history at on = rw (at.first, at.limit) at on
 -- ---- refusals of a command
 
 -- the refusal of a command whose result is a refusal
-refused_why : (why : Option Refusal) (told : Told Answer) (w : Refusal) → refused_or_answered why told ≡ Err w → why ≡ Some w
-refused_why why told w e = grind (arith, nat_tests)
+refused_why : (why : Option Refusal) (reply : Told Answer) (w : Refusal) → refused_or_answered why reply ≡ Err w → why ≡ Some w
+refused_why why reply w e = grind (arith, nat_tests)
 
 -- a refusal as too soon is one of the rules
 pub too_soon_by_rule : (opening : Opening) (history : List Entry) (command : Command) (due : ℕ) → refusal_in opening history command ≡ Some (TooSoon due)
@@ -201,11 +201,11 @@ module _ (plan : Plan) (number k : ℕ) (link : LinkView) (link_for : IsFor plan
   pub asked_next : (command : Command) → slice_get (calls_of plan number) k ≡ Some (Ask command) → (answer : Result (Told Answer) Refusal)
       → Answers link before command answer after → Came (added_by answer)
   unfolding Answers IsOutcomeBy added_by
-  asked_next command there (Ok told) answers =
+  asked_next command there (Ok reply) answers =
       let a = answers (opening_of plan) link_for.opened in
       let taken : IsTurn (opening_of plan) before _ _ after a.0 = a.1 in
       one_came (Ask command) a.0 (Some 0) there taken.from.continues
-      (one_made plan number (Ask command) a.0 (Made (event_of before.first command told.answer)) after.front (at.first, refl)
+      (one_made plan number (Ask command) a.0 (Applied (event_of before.first command reply.answer)) after.front (at.first, refl)
       (ap (λ (c : CallerView). c.front) taken.has_front))
   asked_next command there (Err why) answers =
       let a = answers (opening_of plan) link_for.opened in
@@ -224,14 +224,14 @@ module _ (plan : Plan) (number k : ℕ) (link : LinkView) (link_for : IsFor plan
     pub folded_next : (passed : Option ℕ) (answer : Result (Told (Vec Event Global)) FoldRefusal) → Folds link before n answer after
         → TakenIn answer old new passed → Came passed × (WereFolded plan number old before.front → WereFolded plan number new after.front)
     unfolding Folds TakenIn IsOutcomeBy
-    folded_next passed (Ok told) answers kept =
+    folded_next passed (Ok reply) answers kept =
         let a = answers (opening_of plan) link_for.opened in
         let made : IsTurn (opening_of plan) before _ _ after a.0 = a.1 in
         let on = has_front link number before a.0 at made.from.continues in
         let shown : after.front ≡ a.0 ++ Folded before.first n ∷ [] = ap (λ (c : CallerView). c.front) made.has_front in (
           subst Came (sym kept.1) (one_came (Fold n) a.0 (Some 0) there made.from.continues
               (one_made plan number (Fold n) a.0 (Folded before.first n) after.front (at.first, refl, made.has_result.held) shown)),
-          λ had. kept.0 ∙ (ap (λ (es : List Event). es ++ told.answer.items) (handed_before a.0 on had)
+          λ had. kept.0 ∙ (ap (λ (es : List Event). es ++ reply.answer.items) (handed_before a.0 on had)
               ∙ (ap (λ (es : List Event). folded_for (is_number number) (opening_of plan) [] a.0 ++ es) made.has_result.oldest
               ∙ (sym (folded_more law (opening_of plan) number a.0 n before.first at.first)
               ∙ ap (λ (h : List Entry). folded_for (is_number number) (opening_of plan) [] h) (sym shown)))),
@@ -355,11 +355,11 @@ module _ (law : EntriesLookBack) (plan : Plan) (caller : ℕ) where
       → (AddedByAll replies passed → IsOutcomeBy plan caller (grown g a reply) later end passed) → AddedByAll (reply ∷ replies) passed
       → IsOutcomeBy plan caller g (arriving a ∷ later) end passed
   unfolding IsOutcomeBy
-  first_came g end a later replies (Some p) (Ok told) is its more so (inl all) =
-      inl (g, Made (event_of caller (arrive a) told.answer), stays caller g, (refl, refl), so (inl (All-tail IsOk (Ok told) replies all.0, all.1)))
-  first_came g end a later replies None (Ok told) is its more so (inr not_all) =
-      let cut = so (inr ((λ all. not_all.0 (All-cons IsOk (Ok told) replies refl all)), refl)) in
-      record { asks = cut.asks; full = cut.full; fewer = omega (arith, cut.fewer, (grows_by g a (Ok told)).0) }
+  first_came g end a later replies (Some p) (Ok reply) is its more so (inl all) =
+      inl (g, Applied (event_of caller (arrive a) reply.answer), stays caller g, (refl, refl), so (inl (All-tail IsOk (Ok reply) replies all.0, all.1)))
+  first_came g end a later replies None (Ok reply) is its more so (inr not_all) =
+      let cut = so (inr ((λ all. not_all.0 (All-cons IsOk (Ok reply) replies refl all)), refl)) in
+      record { asks = cut.asks; full = cut.full; fewer = omega (arith, cut.fewer, (grows_by g a (Ok reply)).0) }
   first_came g end a later replies None (Err why) is its more so (inr not_all) =
       let refused : refusal_in (opening_of plan) g (arrive a) ≡ Some why = refused_why (refusal_in (opening_of plan) g (arrive a)) (record {
         answer = decision (opening_of plan) (events_in g) (arrive a);
@@ -375,8 +375,8 @@ module _ (law : EntriesLookBack) (plan : Plan) (caller : ℕ) where
         );
         fewer = omega (arith, more.0, ap (λ (l : List Entry). length (entries_of caller l)) same);
       }
-  first_came g end a later replies None (Ok told) is its more so (inl all) = absurd (cc all.1)
-  first_came g end a later replies (Some p) (Ok told) is its more so (inr not_all) = absurd (cc not_all.1)
+  first_came g end a later replies None (Ok reply) is its more so (inl all) = absurd (cc all.1)
+  first_came g end a later replies (Some p) (Ok reply) is its more so (inr not_all) = absurd (cc not_all.1)
   first_came g end a later replies passed (Err why) is its more so (inl all) = absurd (cc (All-head IsOk (Err why) replies all.0))
   first_came g end a later replies (Some p) (Err why) is its more so (inr not_all) = absurd (cc not_all.1)
 
@@ -405,7 +405,7 @@ burst_next law plan number k n link link_for before after at [] replies some lon
 burst_next law plan number k n link link_for before after at (a ∷ later) replies some long is answers passed added =
     let b = answers (opening_of plan) link_for.opened in
     let burst = a ∷ later in
-    let told : IsTurn (opening_of plan) before _ _ after b.0 = b.1 in
+    let turn : IsTurn (opening_of plan) before _ _ after b.0 = b.1 in
     let same = is_answered law plan number b.0 [] burst in
     let h = b.0 ++ [] in
     let none : h ≡ b.0 = append-nil b.0 in
@@ -413,12 +413,12 @@ burst_next law plan number k n link link_for before after at (a ∷ later) repli
     let its = subst (All Its) (sym is)
     (All-take Its n (drop k (calls_of plan number)) (All-drop Its k (calls_of plan number) (calls_are plan link_for.sound number))) in
     let front_is : after.front ≡ after_all law plan number h burst =
-    ap (λ (c : CallerView). c.front) told.has_front ∙ ap (λ (first : ℕ). b.0 ++ recorded law plan first b.0 [] burst) at.first ∙ same.1 in
+    ap (λ (c : CallerView). c.front) turn.has_front ∙ ap (λ (first : ℕ). b.0 ++ recorded law plan first b.0 [] burst) at.first ∙ same.1 in
     let replies_are : replies ≡ replies_to law plan number h burst =
-    told.has_result ∙ ap (λ (first : ℕ). answered law plan first b.0 [] burst) at.first ∙ same.0 in
+    turn.has_result ∙ ap (λ (first : ℕ). answered law plan first b.0 [] burst) at.first ∙ same.0 in
     subst (λ (calls : List Call). IsOutcomeBy plan number before.front calls after.front passed) is
     (came_from plan number before.front h (map arriving burst) after.front passed
-    (subst (λ (g : List Entry). HasNoMore number before.front g) (sym none) (has_front link number before b.0 at told.from.continues))
+    (subst (λ (g : List Entry). HasNoMore number before.front g) (sym none) (has_front link number before b.0 at turn.from.continues))
     (subst (λ (g : List Entry). IsOutcomeBy plan number h (map arriving burst) g passed) (sym front_is)
     (burst_came law plan number h burst passed its (subst (λ (l : List Reply). AddedByAll l passed) replies_are added))))
 

@@ -1,5 +1,5 @@
 -- Names of lower crates that the files of this folder import.
-pub use Rattle.std.proofs.Common.{Bool, Err, List, None, Ok, Option, Result, Some, Vec, [], ap, append_assoc, arith, cond, drop, eq-eqb, false, get_or, inl}
+pub use Rattle.std.proofs.Common.{Bool, Err, List, None, Ok, Option, Result, Some, Vec, [], ap, append_assoc, arith, cond, drop, false, get_or, inl}
 pub use Rattle.std.proofs.Common.{inr, length, length-append, length-drop, map, min, nat_le, refl, rules, slice_get, subst, suc, sym, take, true}
 pub use Rattle.std.proofs.Common.{zero, ℕ, ⊎_elim, ◌*◌, ◌++◌, ◌+◌, ◌-◌, ◌/◌, ◌<◌, ◌==◌, ◌^◌, ◌∙◌, ◌∷◌, ◌≡◌, ◌≤◌, ◌⊎◌}
 pub use Rattle.std.proofs.Math.Seq.{drop-append_seam, take-add, take-append_seam, take-length, take-suc}
@@ -9,14 +9,12 @@ pub use Rattle.std.proofs.lemmas.List.Elements.{All-cons, All-head, All-nil, All
 pub use Rattle.std.specs.List.{All, drop-map, range_with_len, take-map}
 pub use Rattle.std.specs.Prelude.{IfSome, IsOk, if◌then◌else◌, ◌||◌}
 pub use Rattle.std.specs.declared.alloc.Global.{Global}
-pub use Rattle.pie_book.specs.Decision.{IsLegal, IsLegalAt, decision, is_refused_full, or_full, refusal_by_rule, refusal_with}
-pub use Rattle.pie_book.specs.Estimates.{due_after}
-pub use Rattle.pie_book.specs.History.{effective_moment}
+pub use Rattle.pie_book.specs.Decision.{IsLegal, IsLegalAt, decision, refusal_by_rule, refusal_with}
 pub use Rattle.pie_book.specs.Run.{event_of}
 pub use Rattle.pie_event.specs.declared.command.Answer.{Answer}
 pub use Rattle.pie_event.specs.declared.command.Command.{Command}
 pub use Rattle.pie_event.specs.declared.command.Event.{Event}
-pub use Rattle.pie_event.specs.declared.opening.Mode.TheVariants.{Bounded, Rolling}
+pub use Rattle.pie_event.specs.declared.opening.Mode.TheVariants.{Bounded}
 pub use Rattle.pie_event.specs.declared.opening.Opening.{Opening}
 pub use Rattle.pie_event.specs.declared.refusal.Refusal.{Refusal}
 pub use Rattle.pie_link.specs.Bursts.{Reply, always, arrive}
@@ -24,18 +22,18 @@ pub use Rattle.pie_link.specs.Entries.{entries_of, events_in, folded_events, fol
 pub use Rattle.pie_link.specs.EntryLaws.{EntriesLookBack}
 pub use Rattle.pie_link.specs.declared.arrival.Arrival.{Arrival}
 pub use Rattle.pie_link.specs.declared.entry.Entry.{Entry}
-pub use Rattle.pie_link.specs.declared.entry.Entry.TheVariants.{Folded, Made}
+pub use Rattle.pie_link.specs.declared.entry.Entry.TheVariants.{Folded, Applied}
 pub use Rattle.pie_link.specs.declared.call_result.Told.{Told}
 pub use Rattle.pie_link.specs.Views.{CallerView, LinkView}
-pub use Rattle.pie_lock.proofs.Owns.{NoneOwn, goes_on_itself, gone_on, own_none}
+pub use Rattle.pie_lock.proofs.Seats.{NoneOwn, goes_on_itself, gone_on, own_none}
 pub use Rattle.pie_lock.specs.Own.{is_within, own}
 pub use Rattle.pie_lock.specs.Steps.{Extends}
 pub use Rattle.pie_storm.specs.Plans.{IsFair, IsSound, arriving, changing, departing, folder, opening_of, senders, total, updater, updating}
 unfoldable pub use Rattle.pie_storm.specs.Plans.{calls_of}
 pub use Rattle.pie_storm.specs.StormPlan.{arrivals_of, held_by, planned_arrival, sender_words, words_of}
 unfoldable pub use Rattle.pie_storm.specs.StormPlan.{words_after}
-pub use Rattle.pie_storm.specs.Storms.{AddedByAll, AreFolded, AreMade, HasNoMore, IsAt, IsCutShort, IsEndOf, IsFor, IsWell}
-pub use Rattle.pie_storm.specs.Storms.{IsWorkBelow, WereFolded, is_number}
+pub use Rattle.pie_storm.specs.Storms.{AddedByAll, AreFolded, AreMade, HasNoMore, IsAt, IsCutShort, IsEndOf, IsFor, IsWell, IsWorkBelow, WereFolded}
+pub use Rattle.pie_storm.specs.Storms.{is_number}
 unfoldable pub use Rattle.pie_storm.specs.Storms.{IsOutcomeBy, IsOutcomeOf}
 pub use Rattle.pie_storm.specs.declared.plan.Call.{Call}
 pub use Rattle.pie_storm.specs.declared.plan.Call.TheVariants.{Ask, Fold}

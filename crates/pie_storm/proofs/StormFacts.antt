@@ -12,7 +12,7 @@ use Rattle.pie_record.specs.Text.{Row, records_of, rows_text}
 use Rattle.pie_excerpt.specs.Preamble.{resumed_of}
 use Rattle.pie_record.specs.Write.{written_rows}
 use Rattle.pie_record.specs.declared.history_record.Line.{Line}
-use Rattle.pie_record.specs.declared.history_record.Line.TheVariants.{Made}
+use Rattle.pie_record.specs.declared.history_record.Line.TheVariants.{Valid}
 use Rattle.pie_audit.specs.Auditor.{Audits, AuditorView}
 use Rattle.pie_audit.specs.Finding.{events_of, finding, first_difference}
 use Rattle.pie_audit.specs.Legal.{EventsAreLines}
@@ -50,8 +50,8 @@ fit-legal kinds opening events legal =
 
 -- legal events after a preamble are found clean
 abbrev WholeIsClean : Type 0
-WholeIsClean = (rows : List Row) (opening : Opening) (past : List Event) → AreLegal opening (map Made past ++ excerpt_lines rows)
-    → whole_finding opening past rows ≡ Clean (length (events_of (map Made past ++ excerpt_lines rows)))
+WholeIsClean = (rows : List Row) (opening : Opening) (past : List Event) → AreLegal opening (map Valid past ++ excerpt_lines rows)
+    → whole_finding opening past rows ≡ Clean (length (events_of (map Valid past ++ excerpt_lines rows)))
 
 no-lines : excerpt_lines [] ≡ []
 unfolding excerpt_lines resumed_of
@@ -59,10 +59,10 @@ no-lines = refl
 
 -- all events of a legal history are found clean, as those before a text without lines
 clean-legal : EventsAreLines → WholeIsClean → (opening : Opening) (events : List Event) → IsLegal opening events
-    → finding opening (map Made events) ≡ Clean (length events)
+    → finding opening (map Valid events) ≡ Clean (length events)
 clean-legal are_lines whole opening events legal =
-    let none : map Made events ++ excerpt_lines [] ≡ map Made events =
-    ap (λ (ls : List Line). map Made events ++ ls) no-lines ∙ append-nil (map Made events) in
+    let none : map Valid events ++ excerpt_lines [] ≡ map Valid events =
+    ap (λ (ls : List Line). map Valid events ++ ls) no-lines ∙ append-nil (map Valid events) in
     let all = subst (λ (ls : List Line). AreLegal opening ls) (sym none) (record {
       made = are_lines.made events;
       legal = subst (λ (es : List Event). IsLegal opening es) (sym (are_lines.events events)) legal;
@@ -71,9 +71,9 @@ clean-legal are_lines whole opening events legal =
     ∙ (ap (λ (ls : List Line). Clean (length (events_of ls))) none ∙ ap (λ (es : List Event). Clean (length es)) (are_lines.events events)))
 
 pub differs-never : EventsAreLines → WholeIsClean → (opening own : Opening) (events : List Event) (event : ℕ) → opening ≡ own → IsLegal own events
-    → Differs event ≡ finding opening (map Made events) → ⊥
+    → Differs event ≡ finding opening (map Valid events) → ⊥
 differs-never are_lines whole opening own events event is legal differs =
-    let wrong : Differs event ≡ Clean (length events) = differs ∙ ap (λ (o : Opening). finding o (map Made events)) is
+    let wrong : Differs event ≡ Clean (length events) = differs ∙ ap (λ (o : Opening). finding o (map Valid events)) is
     ∙ clean-legal are_lines whole own events legal in
     cc
 
@@ -84,9 +84,9 @@ few-limits : (limits : Limits) (moment n : ℕ) → opening_refusal limits momen
 few-limits limits moment n accepted same few = grind (arith, nat_tests)
 
 few-events : EventsAreLines → WholeIsClean → (opening : Opening) (auditor : AuditorView) (events : List Event) → IsLegal opening events
-    → Audits opening auditor (map Made events) → opening.limits.events ≡ opening.limits.tail → length events < 2 ^ 32
+    → Audits opening auditor (map Valid events) → opening.limits.events ≡ opening.limits.tail → length events < 2 ^ 32
 few-events are_lines whole opening auditor events legal audits same =
-    let agreed = audits.agrees (audits.differs ∙ no-difference opening (map Made events) (length events) (clean-legal are_lines whole opening events legal))
+    let agreed = audits.agrees (audits.differs ∙ no-difference opening (map Valid events) (length events) (clean-legal are_lines whole opening events legal))
     in
     few-limits opening.limits opening.moment (length events) audits.accepted same (omega (arith, agreed.within, are_lines.count events))
 
@@ -98,21 +98,21 @@ LegalIsClean = (text : List ℕ) (opening : Opening) (lines : List Line) → IsH
     → text_finding (records_of text) ≡ Ok (Clean (length (events_of lines)))
 
 clean-written : EventsAreLines → LegalIsClean → (opening : Opening) (events : List Event) (known : Option (List ℕ)) → IsLegal opening events
-    → IfSome known (λ text. IsHistoryText text opening (map Made events))
+    → IfSome known (λ text. IsHistoryText text opening (map Valid events))
     → IfSome known (λ text. text_finding (records_of text) ≡ Ok (Clean (length events)))
-clean-written are_lines is_clean opening events None legal told = tt
-clean-written are_lines is_clean opening events (Some text) legal told =
+clean-written are_lines is_clean opening events None legal is_legal = tt
+clean-written are_lines is_clean opening events (Some text) legal is_legal =
     let same = are_lines.events events in
-    is_clean text opening (map Made events) told
+    is_clean text opening (map Valid events) is_legal
     (record { made = are_lines.made events; legal = subst (λ (es : List Event). IsLegal opening es) (sym same) legal })
     ∙ ap (λ (es : List Event). Ok (Clean (length es))) same
 
 pub writes-answered : {A E : Type 0} → EventsAreLines → LegalIsClean → WholeIsClean → (given : Result A E) (plan : Plan) (events : List Event)
     (auditor : AuditorView) (opening : Opening) (before now : Option (List ℕ)) → opening ≡ opening_of plan
-    → IsLegal (opening_of plan) events → plan.limits.events ≡ plan.limits.tail → Audits opening auditor (map Made events)
+    → IsLegal (opening_of plan) events → plan.limits.events ≡ plan.limits.tail → Audits opening auditor (map Valid events)
     → OnOk given (Appends before now (rows_text (written_rows opening events)))
     → OnOk given (opening_refusal opening.limits opening.moment ≡ None → length events < 2 ^ 32 → before ≡ Some []
-    → IfSome now (λ text. IsHistoryText text opening (map Made events)))
+    → IfSome now (λ text. IsHistoryText text opening (map Valid events)))
     → OnOk given (WritesHistory plan events before now)
 writes-answered are_lines is_clean whole (Ok value) plan events auditor opening before now is legal same audits appends back =
     let legal' = subst (λ (o : Opening). IsLegal o events) (sym is) legal in

@@ -17,7 +17,7 @@ use Rattle.pie_book.specs.Decision.{IsLegal, refusal_by_rule}
 use Rattle.pie_book.specs.Registers.{registers_after}
 use Rattle.pie_book.specs.Statistics.{stats_after}
 use Rattle.pie_link.specs.declared.entry.Entry.{Entry}
-use Rattle.pie_link.specs.declared.entry.Entry.TheVariants.{Made, Folded}
+use Rattle.pie_link.specs.declared.entry.Entry.TheVariants.{Applied, Folded}
 use Rattle.pie_link.specs.Entries.{entries_of, events_in, folded_events, folded_for, number_of, tail_in}
 use Rattle.pie_link.specs.Opening.{IsRefusedFor, IsWantOfMemory, link_refusal}
 use Rattle.pie_link.specs.Views.{LinkView, CallerView}
@@ -34,9 +34,9 @@ use Rattle.pie_storm.specs.Plans.{IsSound, calls_of, folder, opening_of, senders
 
 -- this entry is the one that the caller's call adds to this history; a fold found its events in the log
 abbrev pub IsEntryOf : Opening → List Entry → ℕ → Call → Entry → Type 0
-IsEntryOf opening before caller (Ask command) (Made event) = (event.caller ≡ caller) × (event.command ≡ command)
+IsEntryOf opening before caller (Ask command) (Applied event) = (event.caller ≡ caller) × (event.command ≡ command)
 IsEntryOf opening before caller (Ask command) (Folded who n) = ⊥
-IsEntryOf opening before caller (Fold count) (Made event) = ⊥
+IsEntryOf opening before caller (Fold count) (Applied event) = ⊥
 IsEntryOf opening before caller (Fold count) (Folded who n) = (who ≡ caller) × (n ≡ count) × (count ≤ length (tail_in opening before))
 
 -- a command was too soon after these events
@@ -95,14 +95,14 @@ WereFolded plan caller events history = events ≡ folded_for (is_number caller)
 
 -- the number that a result adds to the skipped calls; None for another refusal
 unfoldable pub added_by : Result (Told Answer) Refusal → Option ℕ
-added_by (Ok told) = Some 0
+added_by (Ok reply) = Some 0
 added_by (Err (TooSoon due)) = Some 1
 added_by (Err _) = None
 
 -- the result of a fold was stored, unless there was no memory: the stored events before and after, and the number that
 -- it adds
 unfoldable pub TakenIn : Result (Told (Vec Event Global)) FoldRefusal → List Event → List Event → Option ℕ → Type 0
-TakenIn (Ok told) old new passed = (new ≡ old ++ told.answer.items) × (passed ≡ Some 0)
+TakenIn (Ok reply) old new passed = (new ≡ old ++ reply.answer.items) × (passed ≡ Some 0)
 TakenIn (Err (TooMany held)) old new passed = (new ≡ old) × (passed ≡ Some 1)
 TakenIn (Err Memory) old new passed = ⊥
 

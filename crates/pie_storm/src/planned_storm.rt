@@ -1,7 +1,7 @@
 //! Making a storm from its numbers, and auditing and writing its history.
 ghost use Rattle.std.specs.Prelude.{◌≡◌, IfErr, IfOk, OnOk, map};
 ghost use Rattle.pie_book.specs.Decision.{IsLegal};
-ghost use Rattle.pie_record.specs.declared.history_record.Line.TheVariants.{Made};
+ghost use Rattle.pie_record.specs.declared.history_record.Line.TheVariants.{Valid};
 ghost use Rattle.pie_audit.specs.Auditor.{Audits};
 ghost use Rattle.pie_storm.specs.Plans.{opening_of};
 ghost use Rattle.pie_book.specs.Registers.{registers_after};
@@ -123,11 +123,11 @@ pub fn write_storm<W: Write>(
 /// Returns an auditor that has decided each of these events again. The limits of a storm's plan are in their ranges, so
 /// only memory can be short.
 fn auditor_of(alloc: Global, opening: &Opening, events: &[Event]) -> Result<Auditor, OpenRefusal>
-    ensures { IfOk result (λ auditor. Audits opening.now auditor (map Made events.now)) }
+    ensures { IfOk result (λ auditor. Audits opening.now auditor (map Valid events.now)) }
 {
     let mut auditor = Auditor::open(alloc, opening)?;
     for event in events {
-        auditor.feed(&Line::Made(*event));
+        auditor.feed(&Line::Valid(*event));
     }
     Ok(auditor)
 }

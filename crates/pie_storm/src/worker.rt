@@ -60,8 +60,8 @@ impl Folding {
         ensures taken { IsWell self.new → TakenIn answer self.old.events.items self.new.events.items result }
     {
         match answer {
-            Ok(told) => {
-                let mut events = told.answer;
+            Ok(reply) => {
+                let mut events = reply.answer;
                 match self.events.append(&mut events) {
                     Ok(()) => Some(0),
                     Err(_) => {

@@ -13,7 +13,7 @@ use Rattle.pie_summary.specs.Sums.{meter_in}
 use Rattle.pie_summary.specs.Words.{wait_99}
 use Rattle.std.proofs.Common.{true≢false}
 use Rattle.pie_summary.proofs.CountFacts.{kept-more}
-use Rattle.pie_summary.proofs.PeriodFacts.{last_events-push, last_period-push, since_begun, some-events, under-way}
+use Rattle.pie_summary.proofs.PeriodFacts.{last_events-push, last_period-push, since_begun, some-events, under_way}
 use Rattle.pie_summary.proofs.SumsFacts.{input-moment, times_kept, place_of, places-push, reached_later, reached_none}
 
 -- ---- intervals
@@ -79,7 +79,7 @@ pub awaits-same : (period : LivePeriod) (shown : List Explained) (one : Explaine
 awaits-same period shown one holds same =
     let every : Option ℕ = length_of period in
     let p : ℕ = period_at every one in
-    let last : last_period every shown ≡ Some p = sym holds.number ∙ under-way (number_in period) p same in
+    let last : last_period every shown ≡ Some p = sym holds.number ∙ under_way (number_in period) p same in
     let goes_on : last_events every shown ≡ since every (Some p) shown = ap (λ (number : Option ℕ). since every number shown) last in
     let none_more : starts (last_period every shown) p ≡ false = ap (λ (b : Option ℕ). starts b p) (sym holds.number) ∙ same in
     record {
@@ -99,7 +99,7 @@ awaits-same period shown one holds same =
 -- before the event
 pub awaits-new : (old : LivePeriod) (shown : List Explained) (one : Explained) (number start end begun : ℕ) (meter : Meter) (waits : List ℕ)
     → Holds old shown → number ≡ period_at (length_of old) one → starts (number_in old) number ≡ true
-    → begun ≡ kept (old.begun + 1) → meter ≡ record (meter_of [] []) { first = one.told.moment; since = one.told.moment } → waits ≡ ranges_of []
+    → begun ≡ kept (old.begun + 1) → meter ≡ record (meter_of [] []) { first = one.explanation.moment; since = one.explanation.moment } → waits ≡ ranges_of []
     → Spans begun number old.every start end
     → Awaits (record old { number = number; start = start; end = end; begun = begun; meter = meter; waits = waits }) shown one
 unfolding waits_of
@@ -114,7 +114,7 @@ awaits-new old shown one number start end begun meter waits holds number-is star
           ∙ ap (λ (b : Bool). min (periods_begun every shown + cond b 1 0) 18446744073709551615)
           (sym (ap (λ (b : Option ℕ). starts b (period_at every one)) (sym holds.number) ∙ starts-here))
           ∙ sym (begun-push every shown one);
-      meter = empty ∙ reached_none [] one one.told.moment (input-moment one) refl ∙ ap (λ (before : List Explained). reached before one) none;
+      meter = empty ∙ reached_none [] one one.explanation.moment (input-moment one) refl ∙ ap (λ (before : List Explained). reached before one) none;
       waits = cleared ∙ ap waits_of none;
       spans = spans;
     }
@@ -128,7 +128,7 @@ pub clock_kept : (period : LivePeriod) (times : List ℕ) (moment : ℕ) → per
     → period ≡ record period { meter = timed_by period.meter (times ++ cons_option (time_of (clock_of period) moment) []) }
 clock_kept period times moment same is = λ i. record period {
   meter = times_kept period.meter times (time_of (clock_of period) moment) is
-      (λ none. unknown_words period moment (λ told. omega (arith, told, none, same))) i;
+      (λ none. unknown_words period moment (λ known. omega (arith, known, none, same))) i;
 }
 
 pub clock-same : {before after : LivePeriod} → IsSet before after → clock_of before ≡ clock_of after

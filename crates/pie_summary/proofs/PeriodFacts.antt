@@ -1,5 +1,5 @@
 -- The last events of a list with one more.
-use Rattle.pie_summary.proofs.Names.{◌≡◌, ◌==◌, ℕ, Bool, true, false, not, List, [], ◌∷◌, ◌++◌, map, refl, sym, ap, ◌∙◌, Option, Some, None, eq-eqb}
+use Rattle.pie_summary.proofs.Names.{◌≡◌, ◌==◌, ℕ, Bool, true, false, not, List, [], ◌∷◌, ◌++◌, map, refl, subst, sym, ap, ◌∙◌, Option, Some, None, eq-eqb}
 use Rattle.pie_summary.proofs.Names.{Err, Ok, OnOk, Result, Place, places}
 use Rattle.pie_summary.proofs.Names.{eqb-true, map_push, last_or, last_or-push, Explained, last_events, last_period, period_at, since, starts}
 use Rattle.std.proofs.Common.{◌⊎◌, inl, inr, arith, length}
@@ -9,7 +9,7 @@ use Rattle.std.specs.List.{flat_map}
 use Rattle.std.proofs.lemmas.List.{flat_map_more}
 use Rattle.pie_aqm.proofs.Places.{place_of, places-push}
 use Rattle.pie_explain.specs.Report.{Grows}
-use Rattle.pie_summary.specs.Period.{is_elsewhere}
+use Rattle.pie_summary.specs.Period.{Keeps, begins, is_elsewhere}
 
 -- a list is empty, or has a last element
 abbrev Ends : {X : Type 0} → List X → Type 0
@@ -42,18 +42,22 @@ last_events-push every shown one =
     ∙ after_last-push_no (is_elsewhere every (period_at every one)) shown one (in_its_own every one)
 
 -- an event that does not begin an interval is in the one under way
-pub under-way : (number : Option ℕ) (period : ℕ) → starts number period ≡ false → number ≡ Some period
-under-way None period same = cc
-under-way (Some before) period same = ap Some (eqb-true before period (twice (before == period) same))
+pub under_way : (number : Option ℕ) (period : ℕ) → starts number period ≡ false → number ≡ Some period
+under_way None period same = cc
+under_way (Some before) period same = ap Some (eqb-true before period (twice (before == period) same))
   where
     twice : (b : Bool) → not b ≡ false → b ≡ true
     twice true e = refl
     twice false e = sym e
 
+pub not_begun : (number : Option ℕ) (period : ℕ) → starts number period ≡ false → begins number period ≡ false
+not_begun None period same = cc
+not_begun (Some before) period same = same
+
 -- within the interval under way, the last events are those of the interval
 pub since_same : (every : Option ℕ) (period : ℕ) (shown : List Explained) (before : Option ℕ) → before ≡ last_period every shown
     → starts before period ≡ false → since every (Some period) shown ≡ last_events every shown
-since_same every period shown before is same = ap (λ p. since every p shown) (sym (under-way before period same) ∙ is)
+since_same every period shown before is same = ap (λ p. since every p shown) (sym (under_way before period same) ∙ is)
 
 -- a new interval has no events before its first
 pub since_begun : (every : Option ℕ) (period : ℕ) (shown : List Explained) (before : Option ℕ) → before ≡ last_period every shown
@@ -66,6 +70,15 @@ since_begun every period shown before is begun = by_end (ends-of shown)
         let known : before ≡ Some (period_at every last) = is ∙ ap (last_period every) whole ∙ last_period-push every front last in
         ap (λ all. since every (Some period) all) whole
         ∙ after_last-push_yes (is_elsewhere every period) front last (ap (λ b. starts b period) (sym known) ∙ begun)
+
+-- the state of an interval with one more event
+pub keeps-push : (of : List Explained → Type 0) (every number : Option ℕ) (shown : List Explained) (one : Explained)
+    → number ≡ Some (period_at every one) → of (since every (Some (period_at every one)) shown ++ one ∷ [])
+    → Keeps of every number (shown ++ one ∷ [])
+keeps-push of every number shown one is taken = record {
+  last = is ∙ sym (last_period-push every shown one);
+  kept = subst of (sym (last_events-push every shown one)) taken;
+}
 
 -- if the last event has an interval, there are last events
 pub some-events : (every : Option ℕ) (period : ℕ) (shown : List Explained) → last_period every shown ≡ Some period → last_events every shown ≡ [] → ⊥

@@ -1,12 +1,13 @@
 -- The numbers of a list of events with one more.
 use Rattle.pie_summary.proofs.Names.{◌≡◌, ◌+◌, arith, ℕ, suc, List, [], ◌∷◌, ◌++◌, length, map, refl, sym, ap, ◌∙◌, min, Option, None, cons_option}
-use Rattle.pie_summary.proofs.Names.{filter_map, sum, map_push, filter_map-append, sum_by_push, Explained, last_or, Meter, kept, ranges_of, moment_at}
+use Rattle.pie_summary.proofs.Names.{filter_map, sum, map_push, filter_map-append, sum_by_push, Explained, last_or, Meter, kept, ranges_of}
 use Rattle.pie_summary.proofs.Names.{time_at, meter_of, reached, timed_by, wait_in, waits_of}
 use Rattle.pie_summary.proofs.Names.{Answer, Done, Left, MeterInput, Some, Updated, answer_of, cause_of, meter_input_by, size_in}
 use Rattle.pie_event.specs.declared.verdict.Verdict.{Verdict}
 use Rattle.pie_event.specs.declared.verdict.Verdict.TheVariants.{Enqueued}
 use Rattle.pie_summary.specs.declared.meter_input.Conditions.{Conditions}
 use Rattle.pie_summary.specs.Sums.{HasConditions, answer_place, awaiting, meter_in, conditions_of_event, meter_input_of}
+use Rattle.std.proofs.lemmas.List.{length_push}
 pub use Rattle.pie_aqm.proofs.Places.{last_or-push, place_of, places-push}
 use Rattle.pie_summary.proofs.CountFacts.{kept-more}
 use Rattle.pie_summary.proofs.SpanFacts.{some-of-push}
@@ -23,6 +24,11 @@ sum-push number shown one {read} is read-is old-is =
 pub last-push : {X : Type 0} (number : X → ℕ) (shown : List X) (one : X) → number one ≡ last_or 0 (map number (shown ++ one ∷ []))
 last-push number shown one = sym (ap (last_or 0) (map_push number shown one) ∙ last_or-push 0 (map number shown) (number one))
 
+-- the count with one more
+pub count-more : {X : Type 0} (shown : List X) (one : X) {old now : ℕ} → now ≡ min (old + 1) 18446744073709551615 → old ≡ kept (length shown)
+    → now ≡ kept (length (shown ++ one ∷ []))
+count-more shown one is old-is = let longer = length_push shown one in omega (arith, is, old-is, longer)
+
 -- the waits with one more
 pub waits-push : (shown : List Explained) (one : Explained) {read : Option ℕ} {old now : List ℕ}
     → ((numbers : List ℕ) → old ≡ ranges_of numbers → now ≡ ranges_of (numbers ++ cons_option read [])) → read ≡ wait_in one
@@ -33,11 +39,11 @@ waits-push shown one step is old-is = some-of-push ranges_of wait_in shown one s
 -- ---- a meter that awaits an event
 
 -- the meter's input for an event has the event's moment
-pub input-moment : (one : Explained) → (meter_input_of one).moment ≡ one.told.moment
+pub input-moment : (one : Explained) → (meter_input_of one).moment ≡ one.explanation.moment
 unfolding meter_input_by
-input-moment one = by one.told.event.answer
+input-moment one = by one.explanation.event.answer
   where
-    by : (answer : Answer) → (meter_input_by (conditions_of_event one) answer (cause_of one) (size_in one) one.told.waited).moment ≡ one.told.moment
+    by : (answer : Answer) → (meter_input_by (conditions_of_event one) answer (cause_of one) (size_in one) one.explanation.waited).moment ≡ one.explanation.moment
     by (Left packet) = refl
     by (Updated delay prob burst) = refl
     by _ = refl
@@ -48,10 +54,10 @@ unfolding meter_of
 reached_later [] one some = absurd (some refl)
 reached_later (first ∷ rest) one some = refl
 
-pub reached_more : (shown : List Explained) (one : Explained) → (kept (length (map moment_at shown)) ≡ 0 → ⊥) → meter_in shown ≡ reached shown one
-reached_more shown one some = reached_later shown one (λ none. some (ap (λ (all : List Explained). kept (length (map moment_at all))) none))
+pub reached_more : (shown : List Explained) (one : Explained) → (kept (length shown) ≡ 0 → ⊥) → meter_in shown ≡ reached shown one
+reached_more shown one some = reached_later shown one (λ none. some (ap (λ (all : List Explained). kept (length all)) none))
 
-pub reached_none : (shown : List Explained) (one : Explained) (moment : ℕ) → (meter_input_of one).moment ≡ moment → kept (length (map moment_at shown)) ≡ 0
+pub reached_none : (shown : List Explained) (one : Explained) (moment : ℕ) → (meter_input_of one).moment ≡ moment → kept (length shown) ≡ 0
     → record (meter_of [] []) { first = moment; since = moment } ≡ reached shown one
 unfolding last_or
 reached_none [] one moment at none = λ i. record (meter_of [] []) { first = sym at i; since = sym at i }
@@ -87,19 +93,19 @@ pub taken : (shown : List Explained) (one : Explained) {event_words : MeterInput
     → ((before : List MeterInput) (times : List ℕ) → timed ≡ awaiting before event_words times → now ≡ meter_of (before ++ event_words ∷ []) times)
     → old ≡ reached shown one → now ≡ meter_in (shown ++ one ∷ [])
 unfolding meter_of
-taken shown one is told notes takes reached-is =
+taken shown one is time-is notes takes reached-is =
     let before = map meter_input_of shown in
     let times = filter_map time_at (shown ++ one ∷ []) in
     takes before times (notes (filter_map time_at shown) (input-times shown one reached-is)
-    ∙ (λ i. timed_by (reached-is i) (filter_map time_at shown ++ cons_option (told i) []))
+    ∙ (λ i. timed_by (reached-is i) (filter_map time_at shown ++ cons_option (time-is i) []))
     ∙ (λ i. awaiting before (sym is i) (sym (filter_map-append time_at shown (one ∷ [])) i)))
     ∙ (λ i. meter_of (before ++ is i ∷ []) times) ∙ ap (λ all. meter_of all times) (sym (map_push meter_input_of shown one))
 
 -- ---- The meter's input for an event, by its numbers and its answer
 
-pub input-by : (met : Conditions) (one : Explained) (answer : Answer) (cause : ℕ) (arrived : Option ℕ) → HasConditions met one → one.told.event.answer ≡ answer
-    → cause_of one ≡ cause → size_in one ≡ arrived → meter_input_of one ≡ meter_input_by met answer cause arrived one.told.waited
-input-by met one answer cause arrived m is cause-is size-is = λ i. meter_input_by (m i) (is i) (cause-is i) (size-is i) one.told.waited
+pub input-by : (met : Conditions) (one : Explained) (answer : Answer) (cause : ℕ) (arrived : Option ℕ) → HasConditions met one → one.explanation.event.answer ≡ answer
+    → cause_of one ≡ cause → size_in one ≡ arrived → meter_input_of one ≡ meter_input_by met answer cause arrived one.explanation.waited
+input-by met one answer cause arrived m is cause-is size-is = λ i. meter_input_by (m i) (is i) (cause-is i) (size-is i) one.explanation.waited
 
 -- the input for an arrival with any verdict
 pub arrival-input : (met : Conditions) (verdict : Verdict) (cause size waited : ℕ)

@@ -51,11 +51,11 @@ carried_over total =
 
 -- the effective moment of an event
 abbrev pub moment_at : Explained → ℕ
-moment_at all = all.told.moment
+moment_at all = all.explanation.moment
 
 -- the wall-clock time of an event, if a clock record comes before it
 abbrev pub time_at : Explained → Option ℕ
-time_at all = time_of all.told.clock all.told.moment
+time_at all = time_of all.explanation.clock all.explanation.moment
 
 -- the span of these events
 abbrev pub span_of : List Explained → Span

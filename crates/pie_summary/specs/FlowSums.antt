@@ -5,12 +5,12 @@ use Rattle.pie_aqm.specs.Places.{greatest}
 use Rattle.pie_event.specs.declared.command.Command.{Command}
 use Rattle.pie_event.specs.declared.command.Command.TheVariants.{Arrive}
 use Rattle.pie_event.specs.declared.command.Answer.{Answer}
-use Rattle.pie_event.specs.declared.command.Answer.TheVariants.{Left}
+use Rattle.pie_event.specs.declared.command.Answer.TheVariants.{DroppedBytes, DroppedEarly, DroppedPackets, Enqueued, Left, Marked}
 use Rattle.pie_explain.specs.declared.explanation.Explained.{Explained}
 use Rattle.pie_summary.specs.declared.flow_sums.FlowSums.{FlowSums}
 use Rattle.pie_summary.specs.declared.meter_input.MeterInput.{MeterInput}
 use Rattle.pie_summary.specs.Counts.{kept}
-use Rattle.pie_summary.specs.Sums.{meter_input_of}
+use Rattle.pie_summary.specs.Sums.{answer_place, left_place, meter_input_of}
 
 -- ---- the numbers of one event
 
@@ -21,7 +21,7 @@ flow_by _ (Left packet) = Some (packet.tag / 2 ^ 32)
 flow_by _ _ = None
 
 abbrev pub flow_in : Explained → Option ℕ
-flow_in one = flow_by one.told.event.command one.told.event.answer
+flow_in one = flow_by one.explanation.event.command one.explanation.event.answer
 
 -- true if an event is of this flow
 abbrev pub is_this : ℕ → Option ℕ → Bool
@@ -31,7 +31,7 @@ is_this flow (Some other) = flow == other
 abbrev pub is_of : ℕ → Explained → Bool
 is_of flow one = is_this flow (flow_in one)
 
--- 1 for an event whose answer has this place, 0 for any other
+-- 1 for an event with this answer, by the place of its count, 0 for any other
 abbrev pub answered : ℕ → MeterInput → ℕ
 answered place one = if one.answer == place then 1 else 0
 
@@ -41,12 +41,12 @@ unfoldable pub numbers_of : MeterInput → FlowSums
 numbers_of one = record {
   arrivals = if is_some one.arrived then 1 else 0;
   bytes = unwrap_or one.arrived 0;
-  queued = answered 0 one;
-  marked = answered 1 one;
-  early = answered 2 one;
-  no_bytes = answered 3 one;
-  no_packets = answered 4 one;
-  left = answered 5 one;
+  queued = answered (answer_place Enqueued) one;
+  marked = answered (answer_place Marked) one;
+  early = answered (answer_place DroppedEarly) one;
+  no_bytes = answered (answer_place DroppedBytes) one;
+  no_packets = answered (answer_place DroppedPackets) one;
+  left = answered left_place one;
   carried = one.carried;
   waited = unwrap_or one.wait 0;
   greatest_wait = unwrap_or one.wait 0;

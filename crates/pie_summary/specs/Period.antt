@@ -12,7 +12,7 @@ period_of (Some every) moment = moment / max every 1
 
 -- the interval of an event, by its effective moment
 abbrev pub period_at : Option ℕ → Explained → ℕ
-period_at every one = period_of every one.told.moment
+period_at every one = period_of every one.explanation.moment
 
 -- the interval of the last of these events
 abbrev pub last_period : Option ℕ → List Explained → Option ℕ

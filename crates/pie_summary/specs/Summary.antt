@@ -34,11 +34,11 @@ summary_text_of form all = summary_text form (sums_of all) (waits_of all)
 
 -- true if `--lost` or `--marked` chooses the event
 abbrev pub is_lost_or_marked : Explained → Bool
-is_lost_or_marked one = chooses Lost one.told.number one.told.event || chooses Marked one.told.number one.told.event
+is_lost_or_marked one = chooses Lost one.explanation.number one.explanation.event || chooses Marked one.explanation.number one.explanation.event
 
 -- the words for an event by itself, if packets are explained and the event lost or marked one
 unfoldable pub event_words : Summary → Explained → List ℕ
-event_words summary one = if summary.packets && is_lost_or_marked one then words_by (clock_for summary.form one.told.clock) one else []
+event_words summary one = if summary.packets && is_lost_or_marked one then words_by (clock_for summary.form one.explanation.clock) one else []
 
 -- ---- the whole
 

@@ -18,9 +18,16 @@ use Rattle.pie_summary.specs.declared.meter_input.MeterInput.{MeterInput}
 use Rattle.pie_summary.specs.declared.sums.Sums.{Sums}
 use Rattle.pie_summary.specs.Counts.{counts_of, kept}
 use Rattle.pie_summary.specs.Ranges.{ranges_of}
-use Rattle.pie_summary.specs.Aggregates.{bounds_of, peak_of, span_of, time_at, total_of}
+use Rattle.pie_summary.specs.Aggregates.{bounds_of, peak_of, time_at, total_of}
 
 -- ---- the meter's input for one event
+
+-- the places of the counts of departed packets and of updates
+abbrev pub left_place : ℕ
+left_place = 5
+
+abbrev pub updated_place : ℕ
+updated_place = 7
 
 -- the place of an answer's count: queued, marked, dropped early, in bytes, in packets, a packet that left, none that did, an update, and
 -- a reset or new parameters
@@ -30,9 +37,9 @@ answer_place Marked = 1
 answer_place DroppedEarly = 2
 answer_place DroppedBytes = 3
 answer_place DroppedPackets = 4
-answer_place (Left packet) = 5
+answer_place (Left packet) = left_place
 answer_place Empty = 6
-answer_place (Updated delay prob burst) = 7
+answer_place (Updated delay prob burst) = updated_place
 answer_place Done = 8
 
 -- the place of the count of an arrival's cause, in the order of the decision; 15 for any other event
@@ -46,11 +53,11 @@ size_by (Arrive moment packet word) = Some packet.size
 size_by _ = None
 
 abbrev pub size_in : Explained → Option ℕ
-size_in all = size_by all.told.event.command
+size_in all = size_by all.explanation.event.command
 
 -- the place of an event's cause
 abbrev pub cause_of : Explained → ℕ
-cause_of all = cause_place all.told.cause
+cause_of all = cause_place all.explanation.cause
 
 -- the moment of an event if it changed the controller's activity in this direction: `true` for on, `false` for off; then its activity before and
 -- after the event
@@ -83,13 +90,13 @@ meter_input_plain met answer cause arrived = record {
 -- the meter's input for an event. For a packet that left, also its waiting time, the excess of that over the target, its moment and its bytes; for an
 -- update of an active controller, its delay, and if that is above the target, the time since the update before
 unfoldable pub meter_input_by : Conditions → Answer → ℕ → Option ℕ → ℕ → MeterInput
-meter_input_by met (Left packet) cause arrived waited = record (meter_input_plain met 5 cause arrived) {
+meter_input_by met (Left packet) cause arrived waited = record (meter_input_plain met left_place cause arrived) {
   wait = Some waited;
   left = Some met.moment;
   excess = if nat_lt met.held waited then Some (waited - met.held) else None;
   carried = packet.size;
 }
-meter_input_by met (Updated delay prob burst) cause arrived waited = record (meter_input_plain met 7 cause arrived) {
+meter_input_by met (Updated delay prob burst) cause arrived waited = record (meter_input_plain met updated_place cause arrived) {
   delay = if met.was then Some delay else None;
   above = if met.was && nat_lt met.held delay then met.moment - met.last else 0;
 }
@@ -98,11 +105,11 @@ meter_input_by met answer cause arrived waited = meter_input_plain met (answer_p
 -- the numbers before and after an event, from its explanation
 abbrev pub conditions_of_event : Explained → Conditions
 conditions_of_event one = record {
-  moment = one.told.moment;
-  was = one.told.before.active;
+  moment = one.explanation.moment;
+  was = one.explanation.before.active;
   is = one.after.active;
-  held = one.told.before.params.target;
-  last = one.told.before.last;
+  held = one.explanation.before.params.target;
+  last = one.explanation.before.last;
   prob = one.after.prob;
   burst = one.after.burst;
   target = one.after.params.target;
@@ -112,7 +119,7 @@ abbrev pub HasConditions : Conditions → Explained → Type 0
 HasConditions met one = conditions_of_event one ≡ met
 
 abbrev pub meter_input_of : Explained → MeterInput
-meter_input_of one = meter_input_by (conditions_of_event one) one.told.event.answer (cause_of one) (size_in one) one.told.waited
+meter_input_of one = meter_input_by (conditions_of_event one) one.explanation.event.answer (cause_of one) (size_in one) one.explanation.waited
 
 -- the waiting time of the packet that left
 abbrev pub wait_in : Explained → Option ℕ
@@ -195,7 +202,8 @@ reached shown one = awaiting (map meter_input_of shown) (meter_input_of one) (fi
 -- the numbers of a summary of these events
 unfoldable pub sums_of : List Explained → Sums
 sums_of all = record {
-  span = span_of all;
+  count = kept (length all);
+  times = bounds_of (filter_map time_at all);
   meter = meter_in all;
   on_times = bounds_of (filter_map on_time all);
   off_times = bounds_of (filter_map off_time all);

@@ -5,12 +5,14 @@ use Rattle.std.specs.Fmt.{decimal}
 use Rattle.pie_event.specs.CauseName.{cause_names, place_of_cause, word_of_cause}
 use Rattle.pie_explain.specs.Words.{joined, millis, per_cent, share}
 use Rattle.pie_event.specs.declared.cause_name.CauseName.{CauseName}
+use Rattle.pie_event.specs.declared.command.Answer.TheVariants.{DroppedBytes, DroppedEarly, DroppedPackets, Enqueued, Marked}
 use Rattle.pie_units.specs.Utc.{utc_text}
 use Rattle.pie_summary.specs.declared.meter.Meter.{Meter}
 use Rattle.pie_summary.specs.declared.aggregates.Bounds.{Bounds}
 use Rattle.pie_summary.specs.declared.sums.Sums.{Sums}
 use Rattle.pie_summary.specs.Ranges.{end_within, first_up_to}
 use Rattle.pie_summary.specs.Aggregates.{mean_in, sum_in}
+use Rattle.pie_summary.specs.Sums.{answer_place, left_place, updated_place}
 
 -- ---- counts of arrivals
 
@@ -21,9 +23,11 @@ row_words name count all = joined (codes "    " ∷ name ∷ codes ": " ∷ deci
 -- the arrivals by verdict
 unfoldable pub verdict_words : List ℕ → ℕ → List ℕ
 verdict_words answers all =
-    joined (row_words (codes "queued") (slice_index answers 0) all ∷ row_words (codes "queued and marked") (slice_index answers 1) all
-    ∷ row_words (codes "dropped early") (slice_index answers 2) all ∷ row_words (codes "dropped, no room in bytes") (slice_index answers 3) all
-    ∷ row_words (codes "dropped, no room in packets") (slice_index answers 4) all ∷ [])
+    joined (row_words (codes "queued") (slice_index answers (answer_place Enqueued)) all
+    ∷ row_words (codes "queued and marked") (slice_index answers (answer_place Marked)) all
+    ∷ row_words (codes "dropped early") (slice_index answers (answer_place DroppedEarly)) all
+    ∷ row_words (codes "dropped, no room in bytes") (slice_index answers (answer_place DroppedBytes)) all
+    ∷ row_words (codes "dropped, no room in packets") (slice_index answers (answer_place DroppedPackets)) all ∷ [])
 
 -- the number of arrivals with this cause; nothing if there is none
 unfoldable pub cause_row : CauseName → List ℕ → ℕ → List ℕ
@@ -55,7 +59,7 @@ time_words true spaces times =
 
 -- the number of packets that left
 abbrev pub left_in : Meter → ℕ
-left_in meter = slice_index meter.answers 5
+left_in meter = slice_index meter.answers left_place
 
 -- the waiting time that at most a hundredth of the packets that left exceeded, by the ranges of the waiting times: that of the packet at this place
 -- in the order of waiting times, or up to a tenth more
@@ -65,7 +69,7 @@ wait_99 ranges meter = end_within (first_up_to ranges (left_in meter - left_in m
 -- the delays that the updates took, and the probabilities after the events
 unfoldable pub update_words : Meter → List ℕ
 update_words meter =
-    joined (codes "  " ∷ decimal (slice_index meter.answers 7) ∷ codes " updates; the greatest delay was " ∷ millis meter.delays.greatest
+    joined (codes "  " ∷ decimal (slice_index meter.answers updated_place) ∷ codes " updates; the greatest delay was " ∷ millis meter.delays.greatest
     ∷ codes ",\n    and the last " ∷ millis meter.delays.last ∷ codes "\n  the greatest probability was " ∷ per_cent meter.probs.greatest
     ∷ codes ", and the last " ∷ per_cent meter.probs.last ∷ codes "\n" ∷ [])
 
@@ -116,8 +120,12 @@ arrival_words meter =
     joined (codes "  " ∷ decimal meter.arrivals ∷ codes " arrivals, " ∷ decimal (sum_in meter.arrived) ∷ codes " bytes\n"
     ∷ verdict_words meter.answers meter.arrivals ∷ cause_words meter.causes meter.arrivals ∷ [])
 
+-- the number of the events, and the first and the last of their effective moments
+abbrev pub moments_in : Sums → Bounds
+moments_in sums = record { count = sums.count; first = sums.meter.first; last = sums.meter.last }
+
 -- a summary of these numbers, with the waiting time of 99 of 100, and with wall-clock times or not
 unfoldable pub words : Bool → Sums → ℕ → List ℕ
 words by_wall sums most =
-    joined (head_words sums.span.moments ∷ time_words by_wall (codes "  ") sums.span.times ∷ arrival_words sums.meter
+    joined (head_words (moments_in sums) ∷ time_words by_wall (codes "  ") sums.times ∷ arrival_words sums.meter
     ∷ later_words sums.meter most ∷ turning_words by_wall sums ∷ [])

@@ -2,9 +2,8 @@
 ghost use Rattle.std.specs.Prelude.{◌≡◌, ◌+◌, ◌-◌, ◌*◌, ◌^◌, ◌++◌, ◌∷◌, [], ℕ, List, max};
 ghost use Rattle.std.specs.List.{cons_option};
 ghost use Rattle.pie_explain.specs.declared.explanation.Explained.{Explained};
-ghost use Rattle.pie_summary.specs.Aggregates.{carried_over, held_or, mean_in, span_of, sum_in};
-
-use pie_explain::{Explained, time_of};
+ghost use Rattle.pie_summary.specs.Counts.{kept};
+ghost use Rattle.pie_summary.specs.Aggregates.{carried_over, held_or, mean_in, moment_at, span_of, sum_in, time_at};
 
 /// One more than the greatest number of 64 bits.
 const WORD: u128 = 1 << 64;
@@ -172,6 +171,27 @@ impl Total {
     }
 }
 
+/// Adds `more` to a sum, which is at most 2^64 - 1. A sum that would be greater is rare.
+#[inline(always)]
+pub(crate) fn increase(sum: &mut u64, more: u64)
+    ensures { sum.new ≡ kept (sum.old + more) }
+{
+    let (increased, is_over) = sum.overflowing_add(more);
+    *sum = increased;
+    if is_over {
+        fill(sum);
+    }
+}
+
+/// Sets a sum to the greatest that it can be.
+#[cold]
+#[inline(never)]
+fn fill(sum: &mut u64)
+    ensures { sum.new ≡ 2 ^ 64 - 1 }
+{
+    *sum = u64::MAX;
+}
+
 /// Raises `most` to `number`, if that is greater.
 #[inline(always)]
 pub(crate) fn raise(most: &mut u64, number: u64)
@@ -183,13 +203,13 @@ pub(crate) fn raise(most: &mut u64, number: u64)
 }
 
 impl Span {
-    /// Takes one more event.
+    /// Takes one more event, at this effective moment and this wall-clock time.
     #[inline(always)]
-    pub(crate) fn take(&mut self, all: &Explained)
-        ensures { (shown : List Explained) → self.old ≡ span_of shown → self.new ≡ span_of (shown ++ all.now ∷ []) }
+    pub(crate) fn take(&mut self, moment: u64, time: Option<u64>)
+        ensures { (shown : List Explained) (one : Explained) → moment ≡ moment_at one → time ≡ time_at one → self.old ≡ span_of shown
+            → self.new ≡ span_of (shown ++ one ∷ []) }
     {
-        let moment = all.told.moment;
         self.moments.take(moment);
-        self.times.take_some(time_of(all.told.clock, moment));
+        self.times.take_some(time);
     }
 }

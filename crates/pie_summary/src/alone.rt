@@ -1,8 +1,8 @@
 //! Summaries of the explained events alone.
 ghost use Rattle.std.specs.Prelude.{◌≡◌, false};
 
-use crate::period::{Period, begins, period_of};
-use crate::summary::{Summary, push_ended};
+use crate::period::{Period, period_of};
+use crate::summary::{Summary, reach};
 use crate::words::Written;
 use pie_explain::{Explained, Form, Report};
 use pie_text::Page;
@@ -41,15 +41,21 @@ impl Report for SumsAlone {
 
     ghost whole = { λ it. summary_of (alone it) };
 
+    #[inline(always)]
+    fn is_by_kind(&self) -> bool {
+        true
+    }
+
     fn begin(&self, page: &mut Page) -> Result<Period, AllocError> {
         self.summary().begin(page)
     }
 
+    #[inline(always)]
     #[tactic(auto, unfolding(crate::specs::Summary::event_words))]
-    fn report_event(&self, state: &mut Period, told: &Explained, page: &mut Page) -> Written {
-        let ends = begins(state.number, period_of(self.every, told.told.moment));
-        push_ended(page, self.form, state, ends)?;
-        state.take(self.every, told);
+    fn report_event(&self, state: &mut Period, explained: &Explained, page: &mut Page) -> Written {
+        let number = period_of(self.every, explained.explanation.moment);
+        reach(page, self.form, state, number)?;
+        state.add(explained);
         Ok(())
     }
 

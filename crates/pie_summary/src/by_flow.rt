@@ -55,16 +55,29 @@ impl Report for ByFlow {
 
     ghost whole = { flows_whole };
 
+    #[inline(always)]
+    fn is_by_kind(&self) -> bool {
+        false
+    }
+
     #[tactic(auto, unfolding(pie_aqm::specs::Places::last_or))]
     fn begin(&self, page: &mut Page) -> Result<FlowPeriod, AllocError> {
         push_header(page, NAMES, self.form)?;
         Ok(FlowPeriod::empty(page.allocator()))
     }
 
-    fn report_event(&self, state: &mut FlowPeriod, told: &Explained, page: &mut Page) -> Written {
-        let ends = begins(state.number, period_of(self.every, told.told.moment));
+    fn report_event(
+        &self,
+        state: &mut FlowPeriod,
+        explained: &Explained,
+        page: &mut Page,
+    ) -> Written {
+        let ends = begins(
+            state.number,
+            period_of(self.every, explained.explanation.moment),
+        );
         push_ended(page, self, ends, &state.span, flows_of(&state.rows))?;
-        state.take(self.every, told)?;
+        state.take(self.every, explained)?;
         Ok(())
     }
 

@@ -30,11 +30,11 @@ fn sums_of(rows: &IndexMap<u32, Flow>, flow: u32) -> FlowSums
 }
 
 /// Takes one more event, which is of this flow.
-fn count(rows: &mut IndexMap<u32, Flow>, flow: u32, told: &Explained) -> Result<(), AllocError>
-    ensures { (shown : List Explained) → HasFlows rows.old.entries shown → Some flow ≡ flow_in told.now
-        → OnOk result (HasFlows rows.new.entries (shown ++ told.now ∷ [])) }
+fn count(rows: &mut IndexMap<u32, Flow>, flow: u32, explained: &Explained) -> Result<(), AllocError>
+    ensures { (shown : List Explained) → HasFlows rows.old.entries shown → Some flow ≡ flow_in explained.now
+        → OnOk result (HasFlows rows.new.entries (shown ++ explained.now ∷ [])) }
 {
-    let sums = sums_of(rows, flow).with(told);
+    let sums = sums_of(rows, flow).with(explained);
     let row = Flow { number: flow, sums };
     match rows.insert(flow, row) {
         Ok(_) => Ok(()),
@@ -47,12 +47,15 @@ fn count(rows: &mut IndexMap<u32, Flow>, flow: u32, told: &Explained) -> Result<
 /// # Errors
 ///
 /// `AllocError` if it is the first of its flow, and there is no memory for it.
-pub(crate) fn take(rows: &mut IndexMap<u32, Flow>, told: &Explained) -> Result<(), AllocError>
+pub(crate) fn take(rows: &mut IndexMap<u32, Flow>, explained: &Explained) -> Result<(), AllocError>
     ensures { (shown : List Explained) → HasFlows rows.old.entries shown
-        → OnOk result (HasFlows rows.new.entries (shown ++ told.now ∷ [])) }
+        → OnOk result (HasFlows rows.new.entries (shown ++ explained.now ∷ [])) }
 {
-    match flow_by(told.told.event.command, told.told.event.answer) {
-        Some(flow) => count(rows, flow, told),
+    match flow_by(
+        explained.explanation.event.command,
+        explained.explanation.event.answer,
+    ) {
+        Some(flow) => count(rows, flow, explained),
         None => Ok(()),
     }
 }

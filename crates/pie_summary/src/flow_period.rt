@@ -10,7 +10,7 @@ use crate::aggregates::Span;
 use crate::flow::{Flow, take};
 use crate::period::{period_of, starts};
 use indexmap::IndexMap;
-use pie_explain::Explained;
+use pie_explain::{Explained, time_of};
 use std::alloc::{AllocError, Global};
 
 /// The flows of the last events, as far back as they are in the same interval.
@@ -56,14 +56,19 @@ impl FlowPeriod {
     /// # Errors
     ///
     /// `AllocError` if there is no memory for its flow.
-    pub(crate) fn take(&mut self, every: Option<u64>, told: &Explained) -> Result<(), AllocError>
+    pub(crate) fn take(
+        &mut self,
+        every: Option<u64>,
+        explained: &Explained,
+    ) -> Result<(), AllocError>
         ensures { (shown : List Explained) → Keeps (HoldsFlows self.old) every self.old.number shown
-            → OnOk result (Keeps (HoldsFlows self.new) every self.new.number (shown ++ told.now ∷ [])) }
+            → OnOk result (Keeps (HoldsFlows self.new) every self.new.number (shown ++ explained.now ∷ [])) }
     {
-        let number = period_of(every, told.told.moment);
+        let number = period_of(every, explained.explanation.moment);
         self.begin(number);
         self.number = Some(number);
-        self.span.take(told);
-        take(&mut self.rows, told)
+        let (clock, moment) = (explained.explanation.clock, explained.explanation.moment);
+        self.span.take(moment, time_of(clock, moment));
+        take(&mut self.rows, explained)
     }
 }

@@ -50,7 +50,7 @@ impl LivePeriod {
     pub fn open(every: u64, by_wall: bool) -> LivePeriod
         ensures every { result.every ≡ every }
         ensures wall { result.wall ≡ (if by_wall then 1 else 0) }
-        ensures unknown { result.told ≡ 0 }
+        ensures no_clock { result.told ≡ 0 }
         ensures holds { Holds result [] }
     {
         LivePeriod {
@@ -79,7 +79,7 @@ impl LivePeriod {
     #[inline(never)]
     fn turn(&mut self, moment: u64)
         ensures settings { IsSet self.old self.new }
-        ensures awaits { (shown : List Explained) (one : Explained) → one.told.moment ≡ moment → Holds self.old shown → Awaits self.new shown one }
+        ensures awaits { (shown : List Explained) (one : Explained) → one.explanation.moment ≡ moment → Holds self.old shown → Awaits self.new shown one }
     {
         let every = self.every.max(1);
         let number = moment / every;
@@ -98,7 +98,7 @@ impl LivePeriod {
     #[inline(always)]
     fn reach(&mut self, moment: u64)
         ensures settings { IsSet self.old self.new }
-        ensures awaits { (shown : List Explained) (one : Explained) → one.told.moment ≡ moment → Holds self.old shown → Awaits self.new shown one }
+        ensures awaits { (shown : List Explained) (one : Explained) → one.explanation.moment ≡ moment → Holds self.old shown → Awaits self.new shown one }
     {
         if self.start <= moment && moment < self.end {
             return;
@@ -156,7 +156,7 @@ impl LivePeriod {
     pub fn take(&mut self, noted: &MeterInput)
         requires { noted.now.answer < 9 }
         ensures settings { IsSet self.old self.new }
-        ensures holds { (shown : List Explained) (one : Explained) → noted.now ≡ meter_input_of one → one.told.clock ≡ clock_of self.old
+        ensures holds { (shown : List Explained) (one : Explained) → noted.now ≡ meter_input_of one → one.explanation.clock ≡ clock_of self.old
             → Holds self.old shown → Holds self.new (shown ++ one ∷ []) }
     {
         self.reach(noted.moment);

@@ -8,7 +8,7 @@ ghost use Rattle.pie_summary.specs.Aggregates.{counted_some};
 ghost use Rattle.pie_summary.specs.Sums.{awaiting, excess_within, meter_of, timed_by};
 ghost use Rattle.pie_summary.specs.Words.{wait_99};
 
-use crate::aggregates::{Bounds, Peak, Total, raise};
+use crate::aggregates::{Bounds, Peak, Total, increase, raise};
 use crate::meter_input::{LEFT, MeterInput};
 use crate::ranges::{RANGES, end_within, first_up_to};
 
@@ -70,8 +70,7 @@ fn count<const N: usize>(counts: &mut [u64; N], place: usize)
     requires { place < length counts.old }
     ensures { counts.new ≡ slice_set counts.old place (min (slice_index counts.old place + 1) (2 ^ 64 - 1)) }
 {
-    let held = counts[place];
-    counts[place] = held.saturating_add(1);
+    increase(&mut counts[place], 1);
 }
 
 /// Counts one more at the place of an arrival's cause; the place of any other event is after the counts.
@@ -91,7 +90,7 @@ fn count_some(count: &mut u64, number: Option<u64>)
     ensures { count.new ≡ counted_some count.old number }
 {
     if number.is_some() {
-        *count = count.saturating_add(1);
+        increase(count, 1);
     }
 }
 
@@ -100,9 +99,9 @@ fn count_some(count: &mut u64, number: Option<u64>)
 fn add_excess(late: &mut u64, excess: Option<u64>, since: u64)
     ensures { late.new ≡ kept (late.old + excess_within excess since) }
 {
-    let held = *late;
+    let _held = *late;
     if let Some(excess) = excess {
-        *late = held.saturating_add(excess.min(since));
+        increase(late, excess.min(since));
     }
 }
 
@@ -125,13 +124,14 @@ impl Meter {
     pub(crate) fn record_time(&mut self, time: Option<u64>)
         ensures { (times : List ℕ) → self.old ≡ timed_by self.old times → self.new ≡ timed_by self.old (times ++ cons_option time []) }
     {
+        let Some(time) = time else {
+            return;
+        };
         if self.timed != 0 {
             return;
         }
-        if let Some(time) = time {
-            self.timed = 1;
-            self.time = time;
-        }
+        self.timed = 1;
+        self.time = time;
     }
 
     /// Returns the wait that at most a hundredth of the departed packets exceeded, rounded up by at most a tenth;
@@ -168,8 +168,8 @@ impl Meter {
         self.probs.take(noted.prob);
         self.turned_on.take_some(noted.turned_on);
         self.turned_off.take_some(noted.turned_off);
-        self.carried = self.carried.saturating_add(noted.carried);
-        self.above = self.above.saturating_add(noted.above);
+        increase(&mut self.carried, noted.carried);
+        increase(&mut self.above, noted.above);
         self.target = noted.target;
         self.burst = noted.burst;
     }

@@ -206,7 +206,7 @@ impl Conditions {
     #[tactic(auto, unfolding(crate::specs::Sums::meter_input_by))]
     pub fn arrived(&self, answer: usize, cause: usize, size: u32) -> MeterInput
         ensures places { (result.answer ≡ answer) × (result.cause ≡ cause) }
-        ensures adds { (one : Explained) (verdict : Verdict) → HasConditions self.now one → one.told.event.answer ≡ answer_of verdict
+        ensures adds { (one : Explained) (verdict : Verdict) → HasConditions self.now one → one.explanation.event.answer ≡ answer_of verdict
             → answer ≡ answer_place (answer_of verdict) → cause ≡ cause_of one → size_in one ≡ Some size → result ≡ meter_input_of one }
     {
         MeterInput {
@@ -220,8 +220,8 @@ impl Conditions {
     #[tactic(auto, unfolding(crate::specs::Sums::meter_input_by))]
     pub fn left(&self, size: u32, waited: u64) -> MeterInput
         ensures places { (result.answer ≡ 5) × (result.cause ≡ 15) }
-        ensures adds { (one : Explained) (packet : Packet) → HasConditions self.now one → one.told.event.answer ≡ Left packet → packet.size ≡ size
-            → one.told.waited ≡ waited → one.told.cause ≡ None → size_in one ≡ None → result ≡ meter_input_of one }
+        ensures adds { (one : Explained) (packet : Packet) → HasConditions self.now one → one.explanation.event.answer ≡ Left packet → packet.size ≡ size
+            → one.explanation.waited ≡ waited → one.explanation.cause ≡ None → size_in one ≡ None → result ≡ meter_input_of one }
     {
         let (tag, ecn) = (0, Ecn::NotEct);
         let packet = Packet { tag, size, ecn };
@@ -233,7 +233,7 @@ impl Conditions {
     #[tactic(auto, unfolding(crate::specs::Sums::meter_input_by))]
     pub fn empty(&self) -> MeterInput
         ensures places { (result.answer ≡ 6) × (result.cause ≡ 15) }
-        ensures adds { (one : Explained) → HasConditions self.now one → one.told.event.answer ≡ Empty → one.told.cause ≡ None → size_in one ≡ None
+        ensures adds { (one : Explained) → HasConditions self.now one → one.explanation.event.answer ≡ Empty → one.explanation.cause ≡ None → size_in one ≡ None
             → result ≡ meter_input_of one }
     {
         self.noted(Answer::Empty, NO_CAUSE, None, 0)
@@ -244,8 +244,8 @@ impl Conditions {
     #[tactic(auto, unfolding(crate::specs::Sums::meter_input_by))]
     pub fn updated(&self, delay: u64) -> MeterInput
         ensures places { (result.answer ≡ 7) × (result.cause ≡ 15) }
-        ensures adds { (one : Explained) (prob burst : ℕ) → HasConditions self.now one → one.told.event.answer ≡ Updated delay prob burst
-            → one.told.cause ≡ None → size_in one ≡ None → result ≡ meter_input_of one }
+        ensures adds { (one : Explained) (prob burst : ℕ) → HasConditions self.now one → one.explanation.event.answer ≡ Updated delay prob burst
+            → one.explanation.cause ≡ None → size_in one ≡ None → result ≡ meter_input_of one }
     {
         let (prob, burst) = (0, 0);
         self.noted(Answer::Updated { delay, prob, burst }, NO_CAUSE, None, 0)
@@ -256,7 +256,7 @@ impl Conditions {
     #[tactic(auto, unfolding(crate::specs::Sums::meter_input_by))]
     pub fn done(&self) -> MeterInput
         ensures places { (result.answer ≡ 8) × (result.cause ≡ 15) }
-        ensures adds { (one : Explained) → HasConditions self.now one → one.told.event.answer ≡ Done → one.told.cause ≡ None → size_in one ≡ None
+        ensures adds { (one : Explained) → HasConditions self.now one → one.explanation.event.answer ≡ Done → one.explanation.cause ≡ None → size_in one ≡ None
             → result ≡ meter_input_of one }
     {
         self.noted(Answer::Done, NO_CAUSE, None, 0)
@@ -269,17 +269,20 @@ pub(crate) fn meter_input_of(all: &Explained) -> MeterInput
     ensures adds { result ≡ meter_input_of all.now }
     ensures within { result.answer < 9 }
 {
-    let (told, after) = (&all.told, &all.after);
+    let (explanation, after) = (&all.explanation, &all.after);
     let met = Conditions {
-        moment: told.moment,
-        was: told.before.active,
+        moment: explanation.moment,
+        was: explanation.before.active,
         is: after.active,
-        held: told.before.params.target().units(),
-        last: told.before.last,
+        held: explanation.before.params.target().units(),
+        last: explanation.before.last,
         prob: after.prob,
         burst: after.burst,
         target: after.params.target().units(),
     };
-    let (size, cause) = (size_by(told.event.command), cause_place(told.cause));
-    met.noted(told.event.answer, cause, size, told.waited)
+    let (size, cause) = (
+        size_by(explanation.event.command),
+        cause_place(explanation.cause),
+    );
+    met.noted(explanation.event.answer, cause, size, explanation.waited)
 }

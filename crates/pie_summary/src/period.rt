@@ -1,13 +1,16 @@
 //! The current interval of a summary.
-ghost use Rattle.std.specs.Prelude.{◌≡◌, ◌++◌, ◌∷◌, [], ℕ, List, IfOk, Option, None, Some};
+ghost use Rattle.std.specs.Prelude.{◌≡◌, ◌<◌, ◌++◌, ◌∷◌, [], ℕ, List, IfOk, Option, None, Some};
 ghost use Rattle.pie_explain.specs.declared.explanation.Explained.{Explained};
 ghost use Rattle.pie_summary.specs.Period.{Keeps, begins, has_summary, period_of, since, starts};
+ghost use Rattle.pie_summary.specs.Aggregates.{time_at};
 ghost use Rattle.pie_summary.specs.Summary.{HoldsSums};
+ghost use Rattle.pie_summary.specs.Sums.{meter_input_of};
 
-use crate::meter_input::meter_input_of;
+use crate::meter_input::{MeterInput, meter_input_of};
 use crate::ranges::{RANGES, clear_counts, count_some};
 use crate::sums::Sums;
-use pie_explain::Explained;
+use pie_book::{Answer, Command};
+use pie_explain::{Explained, time_of};
 use std::alloc::{AllocError, Global};
 
 /// Returns the number of the interval of a moment, counted from moment 0. Each interval lasts `every` nanoseconds,
@@ -52,6 +55,33 @@ pub(crate) fn has_summary(every: Option<u64>, last: Option<u64>) -> bool
     }
 }
 
+/// Returns true for an arrival, and for the departure of a packet, that leaves the controller's activity unchanged.
+/// Most events are one of the two, and have few of the meter's numbers.
+#[inline(always)]
+fn is_usual(explained: &Explained) -> bool {
+    let explanation = &explained.explanation;
+    if explanation.before.active != explained.after.active {
+        return false;
+    }
+    match (
+        &explanation.event.command,
+        &explanation.cause,
+        &explanation.event.answer,
+    ) {
+        (Command::Depart { .. }, None, Answer::Left(_)) => true,
+        (
+            Command::Arrive { .. },
+            Some(_),
+            Answer::Enqueued
+            | Answer::Marked
+            | Answer::DroppedEarly
+            | Answer::DroppedBytes
+            | Answer::DroppedPackets,
+        ) => true,
+        _ => false,
+    }
+}
+
 /// The numbers of the last events that are in one interval.
 #[derive(Drop)]
 pub struct Period {
@@ -81,38 +111,56 @@ impl Period {
         })
     }
 
-    /// Drops the earlier events if they are in another interval than this one.
+    /// Begins the interval with this number. Drops the earlier events if they are in another one.
     #[tactic(auto, using(crate::proofs::PeriodFacts::since_begun, crate::proofs::PeriodFacts::since_same), unfolding(crate::specs::Sums::waits_of))]
-    fn begin(&mut self, period: u64)
-        ensures { (shown : List Explained) (every : Option ℕ) → Keeps (HoldsSums self.old) every self.old.number shown
+    pub(crate) fn begin(&mut self, period: u64)
+        ensures number { self.new.number ≡ Some period }
+        ensures holds { (shown : List Explained) (every : Option ℕ) → Keeps (HoldsSums self.old) every self.old.number shown
             → HoldsSums self.new (since every (Some period) shown) }
     {
         if starts(self.number, period) {
             self.sums = Sums::empty();
             clear_counts(&mut self.waits);
         }
+        self.number = Some(period);
     }
 
-    /// Takes one more event.
+    /// Adds one more event of the interval. Usual events have code of their own. If the caller knows the kind of the
+    /// event, the compiler omits the numbers that it does not have.
     #[inline(always)]
-    pub(crate) fn take(&mut self, every: Option<u64>, told: &Explained)
-        ensures { (shown : List Explained) → Keeps (HoldsSums self.old) every self.old.number shown
-            → Keeps (HoldsSums self.new) every self.new.number (shown ++ told.now ∷ []) }
-    {
-        let number = period_of(every, told.told.moment);
-        self.begin(number);
-        self.number = Some(number);
-        self.add(told);
-    }
-
-    /// Adds one more event of the interval.
-    #[inline(always)]
-    fn add(&mut self, told: &Explained)
+    pub(crate) fn add(&mut self, explained: &Explained)
         ensures number { self.new.number ≡ self.old.number }
-        ensures adds { (shown : List Explained) → HoldsSums self.old shown → HoldsSums self.new (shown ++ told.now ∷ []) }
+        ensures adds { (shown : List Explained) → HoldsSums self.old shown → HoldsSums self.new (shown ++ explained.now ∷ []) }
     {
-        let noted = meter_input_of(told);
-        self.sums.take(told, &noted);
+        let time = time_of(explained.explanation.clock, explained.explanation.moment);
+        if is_usual(explained) {
+            self.put(&meter_input_of(explained), time);
+        } else {
+            self.put_apart(&meter_input_of(explained), time);
+        }
+    }
+
+    /// Adds one more event of the interval, with this wall-clock time. `noted` is the meter's input for it.
+    #[inline(always)]
+    fn put(&mut self, noted: &MeterInput, time: Option<u64>)
+        requires { noted.now.answer < 9 }
+        ensures number { self.new.number ≡ self.old.number }
+        ensures adds { (shown : List Explained) (one : Explained) → noted.now ≡ meter_input_of one → time ≡ time_at one → HoldsSums self.old shown
+            → HoldsSums self.new (shown ++ one ∷ []) }
+    {
+        self.sums.take(noted, time);
         count_some(&mut self.waits, noted.wait);
+    }
+
+    /// Adds one more event, as `put` does, in a function of its own for the less frequent kinds.
+    #[cold]
+    #[inline(never)]
+    fn put_apart(&mut self, noted: &MeterInput, time: Option<u64>)
+        requires { noted.now.answer < 9 }
+        ensures number { self.new.number ≡ self.old.number }
+        ensures adds { (shown : List Explained) (one : Explained) → noted.now ≡ meter_input_of one → time ≡ time_at one → HoldsSums self.old shown
+            → HoldsSums self.new (shown ++ one ∷ []) }
+    {
+        self.put(noted, time);
     }
 }

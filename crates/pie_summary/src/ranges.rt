@@ -3,6 +3,8 @@ ghost use Rattle.std.specs.Prelude.{◌≡◌, ◌+◌, ◌-◌, ◌/◌, ◌*�
 ghost use Rattle.std.specs.List.{cons_option};
 ghost use Rattle.pie_summary.specs.Ranges.{end_within, first_up_to, range_end, range_of, range_within, ranges_of};
 
+use crate::aggregates::increase;
+
 /// The number of ranges: one for each number below 100, and 90 for each further digit of a number of 64 bits.
 pub const RANGES: usize = 1720;
 
@@ -103,7 +105,7 @@ pub(crate) fn count_number(counts: &mut [u64; RANGES], number: u64)
     ensures { (numbers : List ℕ) → counts.old ≡ ranges_of numbers → counts.new ≡ ranges_of (numbers ++ number ∷ []) }
 {
     let place = range_place(number) as usize;
-    counts[place] = counts[place].saturating_add(1);
+    increase(&mut counts[place], 1);
 }
 
 /// Takes one more number, or none.

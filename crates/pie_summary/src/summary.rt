@@ -1,11 +1,13 @@
 //! Summaries of the explained events, and between them the words for each packet that was lost or marked.
-ghost use Rattle.std.specs.Prelude.{◌≡◌, ◌++◌, [], OnOk, if◌then◌else◌};
+ghost use Rattle.std.specs.Prelude.{◌≡◌, ◌++◌, [], ℕ, List, OnOk, Option, Some, if◌then◌else◌};
+ghost use Rattle.pie_explain.specs.declared.explanation.Explained.{Explained};
+ghost use Rattle.pie_summary.specs.Period.{Keeps, begins, since};
 ghost use Rattle.pie_summary.specs.Record.{record_of};
 ghost use Rattle.pie_summary.specs.Words.{words};
-ghost use Rattle.pie_summary.specs.Summary.{is_lost_or_marked, event_words, summary_text};
+ghost use Rattle.pie_summary.specs.Summary.{HoldsSums, is_lost_or_marked, event_words, summary_text};
 
 use crate::meter::Meter;
-use crate::period::{Period, begins, has_summary, period_of};
+use crate::period::{Period, begins, has_summary, period_of, starts};
 use crate::record::{NAMES, push_record};
 use crate::sums::Sums;
 use crate::words::{Written, push_words};
@@ -51,8 +53,7 @@ fn push_as_record(page: &mut Page, by_wall: bool, meter: &Meter, most: u64) -> W
 }
 
 /// Writes the summary of an interval onto `page` if the interval `ends`.
-#[inline(always)]
-pub(crate) fn push_ended(page: &mut Page, form: Form, period: &Period, ends: bool) -> Written
+fn push_ended(page: &mut Page, form: Form, period: &Period, ends: bool) -> Written
     ensures { OnOk result (page.new ≡ page.old ++ (if ends then summary_text form period.now.sums period.now.waits.value else [])) }
 {
     if !ends {
@@ -66,21 +67,58 @@ pub(crate) fn push_ended(page: &mut Page, form: Form, period: &Period, ends: boo
     push_in_words(page, form.by_wall, sums, most)
 }
 
-/// Returns true if the event lost or marked a packet.
-fn is_lost_or_marked(told: &Explained) -> bool
-    ensures { result ≡ is_lost_or_marked told.now }
+/// Begins the interval with this number, unless it is under way. Writes the summary of the interval before onto
+/// `page`, if there is one.
+#[inline(always)]
+#[tactic(auto, using(crate::proofs::PeriodFacts::not_begun, crate::proofs::PeriodFacts::since_same, crate::proofs::PeriodFacts::under_way))]
+pub(crate) fn reach(page: &mut Page, form: Form, period: &mut Period, number: u64) -> Written
+    ensures written { OnOk result (page.new ≡ page.old
+        ++ (if begins period.old.number number then summary_text form period.old.sums period.old.waits.value else [])) }
+    ensures number { OnOk result (period.new.number ≡ Some number) }
+    ensures holds { OnOk result ((shown : List Explained) (every : Option ℕ) → Keeps (HoldsSums period.old) every period.old.number shown
+        → HoldsSums period.new (since every (Some number) shown)) }
 {
-    let (number, event) = (told.told.number, &told.told.event);
+    if !starts(period.number, number) {
+        return Ok(());
+    }
+    turn(page, form, period, number)
+}
+
+/// Begins the interval with this number, as `reach` does, if it is under way or not.
+#[cold]
+#[inline(never)]
+fn turn(page: &mut Page, form: Form, period: &mut Period, number: u64) -> Written
+    ensures written { OnOk result (page.new ≡ page.old
+        ++ (if begins period.old.number number then summary_text form period.old.sums period.old.waits.value else [])) }
+    ensures number { OnOk result (period.new.number ≡ Some number) }
+    ensures holds { OnOk result ((shown : List Explained) (every : Option ℕ) → Keeps (HoldsSums period.old) every period.old.number shown
+        → HoldsSums period.new (since every (Some number) shown)) }
+{
+    let ends = begins(period.number, number);
+    push_ended(page, form, period, ends)?;
+    period.begin(number);
+    Ok(())
+}
+
+/// Returns true if the event lost or marked a packet.
+fn is_lost_or_marked(explained: &Explained) -> bool
+    ensures { result ≡ is_lost_or_marked explained.now }
+{
+    let (number, event) = (explained.explanation.number, &explained.explanation.event);
     Which::Lost.chooses(number, event) || Which::Marked.chooses(number, event)
 }
 
 /// Writes the words for an event that lost or marked a packet, if packets are explained.
 #[tactic(auto, unfolding(crate::specs::Summary::event_words))]
-fn push_event_words(page: &mut Page, summary: &Summary, told: &Explained) -> Written
-    ensures { OnOk result (page.new ≡ page.old ++ event_words summary.now told.now) }
+fn push_event_words(page: &mut Page, summary: &Summary, explained: &Explained) -> Written
+    ensures { OnOk result (page.new ≡ page.old ++ event_words summary.now explained.now) }
 {
-    if summary.packets && is_lost_or_marked(told) {
-        pie_explain::push_words(page, summary.form.clock(told.told.clock), told)
+    if summary.packets && is_lost_or_marked(explained) {
+        pie_explain::push_words(
+            page,
+            summary.form.clock(explained.explanation.clock),
+            explained,
+        )
     } else {
         Ok(())
     }
@@ -97,6 +135,11 @@ impl Report for Summary {
 
     ghost whole = { summary_of };
 
+    #[inline(always)]
+    fn is_by_kind(&self) -> bool {
+        true
+    }
+
     #[tactic(auto, unfolding(pie_aqm::specs::Places::last_or))]
     fn begin(&self, page: &mut Page) -> Result<Period, AllocError> {
         push_header(page, NAMES, self.form)?;
@@ -104,11 +147,11 @@ impl Report for Summary {
         Ok(period)
     }
 
-    fn report_event(&self, state: &mut Period, told: &Explained, page: &mut Page) -> Written {
-        let ends = begins(state.number, period_of(self.every, told.told.moment));
-        push_ended(page, self.form, state, ends)?;
-        push_event_words(page, self, told)?;
-        state.take(self.every, told);
+    fn report_event(&self, state: &mut Period, explained: &Explained, page: &mut Page) -> Written {
+        let number = period_of(self.every, explained.explanation.moment);
+        reach(page, self.form, state, number)?;
+        push_event_words(page, self, explained)?;
+        state.add(explained);
         Ok(())
     }
 

@@ -1,21 +1,24 @@
 //! The numbers of a summary.
 ghost use Rattle.std.specs.Prelude.{◌≡◌, ◌<◌, ◌++◌, ◌∷◌, [], List};
 ghost use Rattle.pie_explain.specs.declared.explanation.Explained.{Explained};
+ghost use Rattle.pie_summary.specs.Aggregates.{time_at};
 ghost use Rattle.pie_summary.specs.Sums.{meter_input_of, reached};
+ghost use Rattle.pie_summary.specs.Words.{moments_in};
 
-use crate::aggregates::{Bounds, Span};
+use crate::aggregates::{Bounds, increase};
 use crate::meter::Meter;
 use crate::meter_input::MeterInput;
-use pie_explain::{Explained, time_of};
 
 /// The numbers of a summary, each over all events that it was shown.
 #[derive(Clone, Copy, Default)]
 pub struct Sums {
-    /// The span of the events.
-    pub span: Span,
+    /// The number of the events, at most 2^64 - 1.
+    pub count: u64,
+    /// The wall-clock times of the events with a clock record before them, in nanoseconds after 1970-01-01T00:00:00Z.
+    pub times: Bounds,
     /// The numbers of a record.
     pub meter: Meter,
-    /// The wall-clock times of the events that turned the controller on, in nanoseconds after 1970-01-01T00:00:00Z.
+    /// Those of the events that turned the controller on.
     pub on_times: Bounds,
     /// Those of the events that turned it off.
     pub off_times: Bounds,
@@ -32,28 +35,40 @@ impl Sums {
         Sums::default()
     }
 
+    /// Returns the effective moments of the events.
+    pub(crate) fn moments(&self) -> Bounds
+        ensures { result ≡ moments_in self.now }
+    {
+        Bounds {
+            count: self.count,
+            first: self.meter.first,
+            last: self.meter.last,
+        }
+    }
+
     /// Begins the meter at this moment, if there was no event before.
     #[tactic(auto, using(crate::proofs::SumsFacts::reached_more, crate::proofs::SumsFacts::reached_none), unfolding(crate::specs::Sums::sums_of))]
     fn reach(&mut self, moment: u64)
         ensures { (shown : List Explained) (one : Explained) → (meter_input_of one).moment ≡ moment → self.old ≡ sums_of shown
             → self.new ≡ record (sums_of shown) { meter = reached shown one } }
     {
-        if self.span.moments.count == 0 {
+        if self.count == 0 {
             self.meter = Meter::begun(moment);
         }
     }
 
-    /// Adds one more event. `noted` is the meter's input for it.
+    /// Adds one more event, with this wall-clock time. `noted` is the meter's input for it.
     #[inline(always)]
-    pub(crate) fn take(&mut self, all: &Explained, noted: &MeterInput)
+    pub(crate) fn take(&mut self, noted: &MeterInput, time: Option<u64>)
         requires { noted.now.answer < 9 }
-        ensures { (shown : List Explained) → noted.now ≡ meter_input_of all.now → self.old ≡ sums_of shown → self.new ≡ sums_of (shown ++ all.now ∷ []) }
+        ensures { (shown : List Explained) (one : Explained) → noted.now ≡ meter_input_of one → time ≡ time_at one → self.old ≡ sums_of shown
+            → self.new ≡ sums_of (shown ++ one ∷ []) }
     {
-        let time = time_of(all.told.clock, noted.moment);
         self.reach(noted.moment);
+        increase(&mut self.count, 1);
+        self.times.take_some(time);
         self.meter.record_time(time);
         self.meter.take(noted);
-        self.span.take(all);
         self.on_times.take_some(noted.turned_on.and(time));
         self.off_times.take_some(noted.turned_off.and(time));
     }

@@ -226,8 +226,8 @@ fn push_turning(page: &mut String, by_wall: bool, sums: &Sums) -> Written
 pub(crate) fn push_words(page: &mut String, by_wall: bool, sums: &Sums, most: u64) -> Written
     ensures { OnOk result (string_bytes page.new ≡ string_bytes page.old ++ words by_wall sums.now most) }
 {
-    push_head(page, &sums.span.moments)?;
-    push_times(page, by_wall, "  ", &sums.span.times)?;
+    push_head(page, &sums.moments())?;
+    push_times(page, by_wall, "  ", &sums.times)?;
     push_arrivals(page, &sums.meter)?;
     push_later(page, &sums.meter, most)?;
     push_turning(page, by_wall, sums)

@@ -23,4 +23,4 @@ pub use Rattle.pie_record.specs.Write.{are_default, are_usual, choices_row, comm
 pub use Rattle.pie_record.specs.Write.{version_three_row, written_rows}
 unfoldable pub use Rattle.pie_record.specs.Write.{opening_row}
 pub use Rattle.pie_record.specs.declared.{fault.TraceFault.TraceFault, history_record.Line.Line, version.Version.Version}
-pub use Rattle.pie_record.specs.declared.history_record.Line.TheVariants.{Made}
+pub use Rattle.pie_record.specs.declared.history_record.Line.TheVariants.{Valid}

@@ -31,7 +31,6 @@ pub use Rattle.pie_book.specs.Run.{event_of, held_with_one, recorded, refused_or
 pub use Rattle.pie_event.specs.declared.command.Command.{Command}
 pub use Rattle.pie_event.specs.declared.opening.Limits.{Limits}
 pub use Rattle.pie_event.specs.declared.opening.Mode.{Mode}
-pub use Rattle.pie_event.specs.declared.refusal.FoldRefusal.TheVariants.{Memory, TooMany}
 pub use Rattle.pie_params.specs.Range.{first_bad}
 unfoldable pub use Rattle.pie_record.specs.Command.{command_kind}
 pub use Rattle.pie_record.specs.Field.{and_then, number_at}
@@ -42,6 +41,6 @@ unfoldable pub use Rattle.pie_record.specs.ReadBack.{AreLinesOf}
 pub use Rattle.pie_record.specs.Text.{TakesRow, Took}
 pub use Rattle.pie_record.specs.declared.first_record.Draft.{Draft}
 pub use Rattle.pie_trace.specs.declared.run.RunEnd.{RunEnd}
-pub use Rattle.pie_record.proofs.Laws.{drop-has, event_count-cons, kind-first, records_left-written, rows_text-cons, same-before-three, tested}
+pub use Rattle.pie_record.proofs.Laws.{event_count-cons, kind-first, records_left-written, rows_text-cons, same-before-three, tested}
 pub use Rattle.pie_record.proofs.Laws.{reads-one, line_in-flaw, line_in-line, line_in-long}
 pub use Rattle.pie_text.proofs.{LostFacts.lost-later, WriteFacts.contents-read}

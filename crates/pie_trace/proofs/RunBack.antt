@@ -5,21 +5,21 @@ use Rattle.pie_trace.proofs.Names.{All-cons, All-nil, first_bad, Command, Event,
 use Rattle.pie_trace.proofs.Names.{is_refused_full, or_full, refusal_by_rule, opening_refusal, registers_after, Progress, event_of, fold_outcome}
 use Rattle.pie_trace.proofs.Names.{held_with_one, recorded, refused_or, start, Flaw, TraceFault, Request, Ask, BadParams, Clock, Fold, Show, Tally}
 use Rattle.pie_trace.proofs.Names.{Draft, FirstKind, Version, before_fault, history_rows, history_text, record_fault, replies, requests_of, text_left}
-use Rattle.pie_trace.proofs.Names.{opening_of, opening_read, Row, rows_text, text_of, request_of, line_of, Begins, AreLinesOf, IsHistoryText, line_of_reply}
-use Rattle.pie_trace.proofs.Names.{lines_left, lines_of_replies, rows_left, run_lines, first_fields, first_kind, kind_word, version_of, Reply, after}
-use Rattle.pie_trace.proofs.Names.{history_row, reply, reply_to_command, reply_to_fold, code_of, drop, records_of, rows_without_fault, line_in-line, Line}
-use Rattle.pie_trace.proofs.Names.{append_assoc, append-nil, filter_map-append, progress_after, RunEnd, end_of, fault_of, first_fault}
-use Rattle.pie_trace.proofs.Names.{progress_at_end, steps_of, fold_reply, refused, Finding, Clean, AreLegal, CanBeMade, map, Represents, Three, end_left, ◌≢◌}
-use Rattle.pie_trace.proofs.Names.{field_at, fault_from, kind-first, lines_from, lost-later}
+use Rattle.pie_trace.proofs.Names.{opening_of, opening_read, Row, rows_text, text_of, request_of, line_of, Begins, AreLinesOf, IsHistoryText}
+use Rattle.pie_trace.proofs.Names.{line_of_reply, lines_left, lines_of_replies, rows_left, run_lines, first_fields, first_kind, kind_word, version_of}
+use Rattle.pie_trace.proofs.Names.{Reply, after, history_row, reply, reply_to_command, reply_to_fold, code_of, drop, records_of, rows_without_fault}
+use Rattle.pie_trace.proofs.Names.{line_in-line, Line, append_assoc, append-nil, filter_map-append, progress_after, RunEnd, end_of, fault_of}
+use Rattle.pie_trace.proofs.Names.{first_fault, progress_at_end, steps_of, fold_reply, refused, Finding, Clean, AreLegal, CanBeMade, map, Represents}
+use Rattle.pie_trace.proofs.Names.{Three, end_left, ◌≢◌, field_at, fault_from, kind-first, lines_from, lost-later, and_then}
 use Rattle.std.proofs.lemmas.List.Concat.{flat_map-append}
 use Rattle.pie_event.specs.Ranges.{CommandFits, ParamsFit}
 use Rattle.pie_record.specs.FirstRecord.{opening_by}
 use Rattle.pie_record.specs.ReadBack.{TextsAreReadBack}
-use Rattle.pie_trace.specs.History.{Begun, resumed_progress, text_in}
+use Rattle.pie_trace.specs.History.{TextStart, resumed_progress, text_in}
 use Rattle.pie_trace.proofs.RunFacts.{first-one, whole-opened, progress_after-request, part-opened}
 use Rattle.pie_trace.specs.Laws.{Promises}
 use Rattle.pie_trace.specs.Reply.{answered}
-use Rattle.pie_record.specs.declared.history_record.Line.TheVariants.{Note, Made}
+use Rattle.pie_record.specs.declared.history_record.Line.TheVariants.{Note, Valid}
 use Rattle.pie_audit.specs.Finding.{event_in, events_of}
 use Rattle.pie_audit.specs.Text.{text_finding, IsFound, IsExcerptText, excerpt_lines, whole_finding, excerpt_fault, fault_after}
 use Rattle.pie_excerpt.specs.Preamble.{Preamble, HasPreamble, Resumes, resumed_of, is_resumed}
@@ -27,7 +27,6 @@ use Rattle.pie_audit.specs.Legal.{EventsAreLines}
 use Rattle.pie_trace.specs.Resumed.{beginning_of_preamble, progress_resumed, resumed_end, resumed_fault, resumed_text, resumed_within, long_by, within_by, within_most}
 use Rattle.pie_excerpt.specs.Reading.{resume_of}
 use Rattle.pie_excerpt.specs.declared.resume.Resume.{Resume}
-use Rattle.pie_trace.proofs.Names.{and_then, ◌==◌}
 use Rattle.pie_record.specs.declared.fault.TraceFault.TheVariants as fault
 use Rattle.std.proofs.lemmas.List.{take-append-drop}
 use Rattle.pie_queue.specs.declared.packet.Waiting.{Waiting}
@@ -254,7 +253,7 @@ pub sound-start : (held : Promises) (opening : Opening) → Sound opening start
 sound-start held opening = record { legal = held.legal_at_first opening; fit = All-nil (λ (e : Event). CommandFits e.command); held = omega arith }
 
 -- the records of the beginning, and those of the replies
-pub text-begun : (most : ℕ) (past : List Event) (rows : List Row) (b : Begun)
+pub text-begun : (most : ℕ) (past : List Event) (rows : List Row) (b : TextStart)
     → text_in most past rows (Ok b) ≡ rows_text (take b.read rows ++ rows_left b.version most b.opening (b.read + 1) (resumed_progress past) b.left)
 unfolding text_left rows_text
 text-begun most past rows b =
@@ -446,8 +445,8 @@ pub record Below : Type 0 where
   pub behind : (rows more : List Row) (begun : Preamble) (opening : Opening) (past : List Event) (lines : List Line) → resumed_of rows ≡ Ok begun
       → Resumes rows opening past → AreLinesOf Three more lines → begun.read + length more ≤ 2 ^ 32
       → IsExcerptText (rows_text (take begun.read rows ++ more)) opening past lines
-  pub clean : (rows : List Row) (opening : Opening) (past : List Event) → AreLegal opening (map Made past ++ excerpt_lines rows)
-      → whole_finding opening past rows ≡ Clean (length (events_of (map Made past ++ excerpt_lines rows)))
+  pub clean : (rows : List Row) (opening : Opening) (past : List Event) → AreLegal opening (map Valid past ++ excerpt_lines rows)
+      → whole_finding opening past rows ≡ Clean (length (events_of (map Valid past ++ excerpt_lines rows)))
   pub events : EventsAreLines
 
 -- ---- the preamble
@@ -483,10 +482,10 @@ text-resumed most past rows b e = rw (part-opened most rows b e) (text-begun mos
 
 -- legal lines are found clean
 lines-clean : Below → (text : List ℕ) (opening : Opening) (past : List Event) (lines : List Line) (history : List Event)
-    → IsExcerptText text opening past lines → AreRuns opening (map Made past ++ lines) history → IsFound text opening past (Clean (length history))
+    → IsExcerptText text opening past lines → AreRuns opening (map Valid past ++ lines) history → IsFound text opening past (Clean (length history))
 lines-clean law text opening past lines history told runs =
-    let same : AreRuns opening (map Made past ++ excerpt_lines (records_of text)) history =
-    subst (λ (ls : List Line). AreRuns opening (map Made past ++ ls) history) (sym told.tells) runs in
+    let same : AreRuns opening (map Valid past ++ excerpt_lines (records_of text)) history =
+    subst (λ (ls : List Line). AreRuns opening (map Valid past ++ ls) history) (sym told.tells) runs in
     record {
       resumes = told.resumes;
       goes = told.goes;
@@ -513,12 +512,12 @@ resumed-clean law most rows opening past b few goes fit e =
     let count = few-left Three most b.opening (b.read + 1) (resumed_progress past) b.left (omega (arith, within)) in
     let is_text : IsExcerptText (rows_text (take b.read rows ++ more)) opening past lines =
     law.behind rows more b opening past lines at.begun goes told (omega (arith, count, few)) in
-    let runs = lines-legal law.held b.opening (resumed_progress past) (map Made past) (requests_of Three (before_fault Three most (b.read + 1) b.left))
+    let runs = lines-legal law.held b.opening (resumed_progress past) (map Valid past) (requests_of Three (before_fault Three most (b.read + 1) b.left))
     (law.events.made past) (law.events.events past) legal in
     subst (λ (text : List ℕ). IsFound text opening past (Clean (length (progress_resumed most past b).history)))
     (sym (text-resumed most past rows b e))
     (lines-clean law (rows_text (take b.read rows ++ more)) opening past lines (progress_resumed most past b).history is_text
-    (subst (λ (o : Opening). AreRuns o (map Made past ++ lines) (progress_resumed most past b).history) opened runs))
+    (subst (λ (o : Opening). AreRuns o (map Valid past ++ lines) (progress_resumed most past b).history) opened runs))
 
 -- ---- an excerpt without a fault
 

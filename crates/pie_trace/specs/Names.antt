@@ -3,7 +3,7 @@ pub use Rattle.std.specs.Io.KnownBytes.{Appends, append_known}
 pub use Rattle.std.specs.Prelude.{Bool, Err, IfErr, IfOk, IfSome, List, None, Ok, OnOk, Option, Result, Some, [], drop, false, length, map, true, ℕ}
 pub use Rattle.pie_audit.specs.Text.{text_finding}
 pub use Rattle.pie_audit.specs.declared.auditor.Finding.TheVariants.{Clean}
-pub use Rattle.pie_book.specs.Book.{BookView, BookRepresents, last_events}
+pub use Rattle.pie_book.specs.Book.{BookView, BookRepresents}
 pub use Rattle.pie_book.specs.Core.{CoreView, Represents, core_after, registers_of}
 pub use Rattle.pie_book.specs.Snapshot.{apply_in}
 unfoldable pub use Rattle.pie_book.specs.Registers.{registers_after}
@@ -23,7 +23,7 @@ pub use Rattle.pie_excerpt.specs.Preamble.{Preamble, Resumes, is_resumed, resume
 pub use Rattle.pie_excerpt.specs.Rows.{queued_row}
 pub use Rattle.pie_record.specs.Answer.{code_of}
 unfoldable pub use Rattle.pie_record.specs.Answer.{answer_fields, folded_row, refused_row, shown_row, tallied_row}
-pub use Rattle.pie_record.specs.Fault.{IsRead, NoDeviceFailed, IsWrite, closed, fault_at, is_device}
+pub use Rattle.pie_record.specs.Fault.{NoDeviceFailed, IsWrite, closed, fault_at, is_device}
 pub use Rattle.pie_record.specs.Field.{and_then, is_kind}
 unfoldable pub use Rattle.pie_record.specs.FirstRecord.{first_kind, version_of, opening_of}
 pub use Rattle.pie_record.specs.HistoryLines.{RemainingLines, remaining_after_opening, event_count, events_in, fault_from, history_lines, lines_from, line_in}

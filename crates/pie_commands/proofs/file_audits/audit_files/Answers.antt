@@ -18,8 +18,8 @@ loop-place-preserved g c =
     (sym (length-map c.args.names.now (λ name. name.now))) within in
     let works = g.H.NamedFiles.works in
     let more = audits-more works joined input files (take c.loop-place.place names) c.loop-place.unfound c.loop-place.broken c.loop-place.end end before
-    (g.W.Write.contents c.loop-place.output) now name c.in-Ok.told c.loop-place.invariant.audits
-    (tells-given works joined g.R.Read.remaining c.args.input c.loop-place.given files (take c.loop-place.place names) name c.loop-place.end c.in-Ok.told
+    (g.W.Write.contents c.loop-place.output) now name c.in-Ok.outcome c.loop-place.invariant.audits
+    (tells-given works joined g.R.Read.remaining c.args.input c.loop-place.given files (take c.loop-place.place names) name c.loop-place.end c.in-Ok.outcome
     end c.loop-place.invariant.left c.in-Ok.ensures.writes_line)
     c.in-Ok.ensures.written in
     record {

@@ -1,4 +1,4 @@
-use Rattle.pie_guarantees.proofs.Names.{◌≡◌, ◌∙◌, refl, subst, sym, ap, Command, Held, after_call, call_of, held_after, waiting_after}
+use Rattle.pie_guarantees.proofs.Names.{AtEachEvent, ◌≡◌, ◌∙◌, refl, subst, sym, ap, Command, Held, after_call, call_of, held_after, waiting_after}
 use Rattle.pie_guarantees.proofs.BurstFacts.{calm-whole, reset-whole, wakes-whole}
 use Rattle.pie_guarantees.proofs.LawfulFacts.{first-held, step_at}
 use Rattle.pie_guarantees.proofs.bursts.allowances_begin_whole.Goals as goal
@@ -8,6 +8,7 @@ abbrev Whole : Held → Type 0
 Whole h = h.control.burst ≡ h.params.max_burst
 
 pub returns : goal.returns
+unfolding AtEachEvent
 returns c = record {
   opening = λ opening lawful. subst Whole (first-held opening) refl;
   reset = λ opening before event later lawful moment is.

@@ -1,4 +1,4 @@
-use Rattle.pie_guarantees.proofs.Names.{◌≤◌, arith, subst, sym, [], append-nil, in-range, Held, held_after, params_after, probability_after}
+use Rattle.pie_guarantees.proofs.Names.{AtEachEvent, ◌≤◌, arith, subst, sym, [], append-nil, in-range, Held, held_after, params_after, probability_after}
 use Rattle.pie_guarantees.proofs.Names.{waiting_after}
 use Rattle.pie_guarantees.proofs.LawfulFacts.{sound_at, step_at}
 use Rattle.pie_guarantees.proofs.NextFacts.{next_capped, next_decays, next_down, next_up}
@@ -6,6 +6,7 @@ use Rattle.pie_guarantees.proofs.ProbabilityFacts.{prob-next, stays-or-zero}
 use Rattle.pie_guarantees.proofs.probability.the_probability_follows_the_delay.Goals as goal
 
 pub returns : goal.returns
+unfolding AtEachEvent
 returns c = record {
   bounded = λ opening history lawful. (sound_at opening history [] (rw (append-nil history) lawful)).0.prob;
   rises = λ opening before event later lawful active above risen.

@@ -1,8 +1,9 @@
+use Rattle.pie_guarantees.proofs.Names.{BetweenAny, arith}
 use Rattle.pie_guarantees.proofs.SpacingFacts.{shared}
 use Rattle.pie_guarantees.proofs.spacing.picks_share_the_probability.Goals as goal
-use Rattle.pie_guarantees.proofs.Names.{arith}
 
 pub returns : goal.returns
+unfolding BetweenAny
 returns c = record {
   at_least = λ opening before between later lawful spaced none.
       let it = (shared opening before between later lawful spaced).0 in omega (arith, it, none);

@@ -5,4 +5,4 @@ use Rattle.pie_record.proofs.block.lowest.Goals as goal
 pub returns : goal.returns
 returns c =
     let h = bit_at-trailing_zeros w64 c.args.mask (omega (arith, c.requires)) c.ranges.mask.fits in
-    record { bound = h.0; set = h.1; below = h.2 }
+    record { short = h.0; set = h.1; below = h.2 }

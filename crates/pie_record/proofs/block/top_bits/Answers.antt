@@ -7,6 +7,3 @@ pub returns-clause-bits : goal.returns-clause-bits
 returns-clause-bits c k =
     let v = c.args.lanes in
     subst (λ m. (bit_at m k ≡ 1) ↔ (128 ≤ get_or v k 0)) (sym (top_bitmask v 32 c.fits-lanes.0 (omega arith))) (bit_at-mask_l v k)
-
-pub returns-clause-long : goal.returns-clause-long
-returns-clause-long c = c.fits-lanes.0

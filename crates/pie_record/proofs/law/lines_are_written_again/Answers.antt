@@ -1,5 +1,5 @@
-use Rattle.pie_record.proofs.LinesAgain.{written-again}
+use Rattle.pie_record.proofs.LinesBack.{reads-line}
 use Rattle.pie_record.proofs.law.lines_are_written_again.Goals as goal
 
 pub returns : goal.returns
-returns c = written-again
+returns c = λ row told is. (reads-line is.version row told is.reads).1

@@ -1,26 +1,12 @@
-use Rattle.std.proofs.Common.{arith, rules, ◌∙◌, ◌+◌, ◌≤◌, ◌<◌, ℕ, get_or, length}
-use Rattle.pie_record.proofs.LaneFacts.{each-digit, lanes, lanes-write, long, small, sum_of_eight}
-use Rattle.pie_record.proofs.NumberFacts.{some-read, some-small}
+use Rattle.std.proofs.Common.{◌+◌, ◌*◌, ◌≡◌, ℕ, subst, sym}
+use Rattle.pie_record.specs.{HasRead}
+use Rattle.pie_record.proofs.LaneFacts.{eight-read, lanes_of, word}
 use Rattle.pie_record.proofs.number.eight_digits.Goals as goal
 
-pub returns-clause-read : goal.returns-clause-read
-returns-clause-read c =
+pub returns : goal.returns
+returns c = λ first read.
     let a = c.args in
-    let within : a.at + 8 ≤ length a.field.now = search rules in
-    let fits : (k : ℕ) → get_or a.field.now k 0 < 256 = λ k. (c.type_inv.field k).fits in
-    let none = c.if-digits-ne0.false in
-    let sum = sum_of_eight (lanes 8 (omega arith) a.field.now a.at within fits) (long 8 (omega arith) a.field.now a.at within fits)
-    (small 8 (omega arith) a.field.now a.at within fits none) in
-    some-read 8 100000000 a.field.now a.start a.at c.from.result (λ digit is. omega (arith, is)) within (each-digit 8 (omega arith) a.field.now a.at within fits none)
-    (c.from.ensures ∙ sum ∙ lanes-write 8 (omega arith) a.field.now a.at within fits none) c.requires.read
-
-pub returns-clause-small : goal.returns-clause-small
-returns-clause-small c =
-    let a = c.args in
-    let within : a.at + 8 ≤ length a.field.now = search rules in
-    let fits : (k : ℕ) → get_or a.field.now k 0 < 256 = λ k. (c.type_inv.field k).fits in
-    let none = c.if-digits-ne0.false in
-    let sum = sum_of_eight (lanes 8 (omega arith) a.field.now a.at within fits) (long 8 (omega arith) a.field.now a.at within fits)
-    (small 8 (omega arith) a.field.now a.at within fits none) in
-    some-small 8 100000000 a.field.now a.start a.at c.from.result (λ digit is. omega (arith, is)) within (each-digit 8 (omega arith) a.field.now a.at within fits none)
-    (c.from.ensures ∙ sum ∙ lanes-write 8 (omega arith) a.field.now a.at within fits none) c.requires.small
+    let is : a.start * 100000000 + (c.from.result * 10000 + c.from-2.result) ≡ a.start * 100000000 + word (lanes_of a.text.now a.from a.end) =
+    λ i. a.start * 100000000 + (c.from.ensures i * 10000 + c.from-2.ensures i) in
+    subst (λ (v : ℕ). HasRead a.text.now first a.end v) (sym is)
+    (eight-read a.text.now a.from a.end a.start first c.requires.few c.requires.within c.requires.fresh c.type_inv.text c.if-digits-ne0.false read)

@@ -1,5 +1,5 @@
 use Rattle.std.proofs.Common.{arith, ap, ◌∙◌, ◌≡◌, ◌+◌, ◌-◌, ◌++◌, ℕ, length, take, drop}
-use Rattle.std.proofs.lemmas.Simd.{take_more_put_chunk, length-put_chunk, length-chunk}
+use Rattle.std.proofs.lemmas.Simd.{take_more_put_chunk, length-chunk}
 use Rattle.pie_record.proofs.scan.copy_block.Goals as goal
 
 pub returns-clause-copied : goal.returns-clause-copied
@@ -10,6 +10,3 @@ returns-clause-copied c =
     let same : 32 ≡ at + 32 - at = omega arith in
     take_more_put_chunk at c.args.line.now block (at + 32) (omega (arith, long)) c.requires.room
     ∙ ap (λ (n : ℕ). take at c.args.line.now ++ take n (drop at c.args.bytes.now)) same
-
-pub returns-clause-long : goal.returns-clause-long
-returns-clause-long c = length-put_chunk c.args.at c.args.line.now (take 32 (drop c.args.at c.args.bytes.now))

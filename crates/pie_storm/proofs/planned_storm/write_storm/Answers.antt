@@ -1,6 +1,6 @@
 use Rattle.pie_audit.specs.Origin.{at_opening}
 use Rattle.pie_storm.proofs.Names.{map, opening_of}
-use Rattle.pie_record.specs.declared.history_record.Line.TheVariants.{Made}
+use Rattle.pie_record.specs.declared.history_record.Line.TheVariants.{Valid}
 use Rattle.pie_storm.proofs.StormFacts.{differs-never, fit-legal, writes-answered}
 use Rattle.pie_storm.proofs.planned_storm.write_storm.Goals as goal
 
@@ -8,7 +8,7 @@ pub unreachable-requires : goal.unreachable-requires
 unreachable-requires g c =
     differs-never c.events_are_lines.ensures c.clean_excerpts_are_legal.ensures.legal_is_clean c.opening-opening.result (opening_of c.args.plan.now)
     c.args.events.now c.in-Differs.event c.opening-opening.ensures c.requires.legal
-    (c.in-Differs.ensures.finding (at_opening c.opening-opening.result) (map Made c.args.events.now) c.in-Ok.ensures)
+    (c.in-Differs.ensures.finding (at_opening c.opening-opening.result) (map Valid c.args.events.now) c.in-Ok.ensures)
 
 pub write_history-requires : goal.write_history-requires
 write_history-requires g c = record {

@@ -4,7 +4,7 @@ use Rattle.pie_summary.proofs.flow.count.Goals as goal
 
 pub returns-in-Ok : goal.returns-in-Ok
 returns-in-Ok c = λ shown has is.
-    flow-taken c.args.flow shown c.args.told.now c.args.rows.now.entries _
+    flow-taken c.args.flow shown c.args.explained.now c.args.rows.now.entries _
     (record { number = c.args.flow; sums = c.with-sums.result }) has is
     (λ i. record {
       number = c.args.flow;

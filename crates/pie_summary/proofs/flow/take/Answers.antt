@@ -2,4 +2,4 @@ use Rattle.pie_summary.proofs.FlowFacts.{nothing_taken}
 use Rattle.pie_summary.proofs.flow.take.Goals as goal
 
 pub returns-in-None : goal.returns-in-None
-returns-in-None c = λ shown has. nothing_taken shown c.args.told.now c.args.rows.now.entries has c.in-None.ensures
+returns-in-None c = λ shown has. nothing_taken shown c.args.explained.now c.args.rows.now.entries has c.in-None.ensures

@@ -8,6 +8,6 @@ unfolding explanation_text
 returns c = λ all shown. on_ok_weaker c.push_words.result
     (λ is. (
       tt,
-      pages_reported (in_words c.args.self.now.by_wall) all c.args.told.now c.args.page.now c.push_words.new.page
+      pages_reported (in_words c.args.self.now.by_wall) all c.args.explained.now c.args.page.now c.push_words.new.page
           (rw c.clock.ensures at is),
     )) c.push_words.ensures

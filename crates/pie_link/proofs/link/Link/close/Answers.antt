@@ -2,5 +2,5 @@ use Rattle.pie_link.proofs.link.Link.close.Goals as goal
 
 pub returns-in-Ok-clause-kept : goal.returns-in-Ok-clause-kept
 returns-in-Ok-clause-kept c =
-    let told = c.in-Ok.ensures.represents in
-    rw c.into_book.ensures (told.0, record { legal = told.2.represents_list.told.running.legal; continues = rw (← c.caller.view_is) told.1 }, told.2.represents_list)
+    let represents = c.in-Ok.ensures.represents in
+    rw c.into_book.ensures (represents.0, record { legal = represents.2.represents_list.represents.running.legal; continues = rw (← c.caller.view_is) represents.1 }, represents.2.represents_list)

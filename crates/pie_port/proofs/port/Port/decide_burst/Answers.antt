@@ -23,8 +23,8 @@ returns-clause-tried g c =
             answered = subst (λ (b : CallerView). AnswersWithin c.args.budget continues b.lock b (map (asks asked) events) [] has_result.0 after) same
                 (subst (λ (l : LinkView). AnswersWithin c.args.budget continues l inside (map (asks asked) events) [] has_result.0 after) lock has_result.2);
             stays = subst (λ (b : CallerView). StaysOne b after) same w.in-Ok.ensures.stays;
-            told = has_result.1.1.told ∙ ap (λ (n : ℕ). events_answered asked n events has_result.0) c.requires.caller;
-            counted = has_result.1.1.so_many;
+            written_is = has_result.1.1.events_are ∙ ap (λ (n : ℕ). events_answered asked n events has_result.0) c.requires.caller;
+            counted = has_result.1.1.counted;
             done = w.code-is;
           })))
       | in-Err w ↦
@@ -34,6 +34,6 @@ returns-clause-tried g c =
             stays = refl;
             counted = c.requires.fresh;
             some = λ empty. cc (w.in-Err.ensures.none (ap (λ (l : List PieEvent). length (map (asks asked) l)) empty));
-            told = w.code-is;
+            code_is = w.code-is;
           })))
     ]

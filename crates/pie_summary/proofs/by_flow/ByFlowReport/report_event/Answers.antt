@@ -15,7 +15,7 @@ returns c = λ all kept.
       record {
         more = if c.begins-ends.result then summary_text else [];
         grown = c.in_ok-push_ended.ensures;
-        turned = written-push (flow_header by_flow.form) (at_end by_flow.every (text_by_flow by_flow)) all c.args.told.now
+        turned = written-push (flow_header by_flow.form) (at_end by_flow.every (text_by_flow by_flow)) all c.args.explained.now
             (if c.begins-ends.result then summary_text else [])
             (λ i. if ends i then flows_text by_flow.form (kept.kept.span i) by_flow.most (flows i) else []);
       },

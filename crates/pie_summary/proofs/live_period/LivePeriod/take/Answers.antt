@@ -10,9 +10,9 @@ returns-clause-holds c = λ shown one noted clock holds.
     let at = sym (input-moment one) ∙ sym (ap (λ (n : MeterInput). n.moment) noted) in
     let awaits = c.reach.ensures.awaits shown one at holds in
     let before : List Explained = since (length_of period) (Some (period_at (length_of period) one)) shown in
-    let told = clock ∙ clock-same c.reach.ensures.settings in
+    let same = clock ∙ clock-same c.reach.ensures.settings in
     let is = c.record_time.ensures.adds _ (input-times before one awaits.meter) in
-    let meter = taken before one noted (λ i. time_of (sym told i) (sym at i))
+    let meter = taken before one noted (λ i. time_of (sym same i) (sym at i))
     (λ times held. ap (λ (p : LivePeriod). p.meter) (c.record_time.ensures.adds times held)) c.take.ensures awaits.meter in
     let waits = waits-push before one (λ numbers held. c.count_some.ensures numbers (ap (λ (p : LivePeriod). p.waits) is ∙ held))
     (ap (λ (n : MeterInput). n.wait) noted) awaits.waits in

@@ -11,7 +11,7 @@ returns-then-begins-clause-awaits c = λ shown one at holds.
     let period = c.args.self.now in
     let every = c.max-every.result in
     awaits-new period shown one (c.args.moment / every) _ _ _ _ _ holds
-    (same-number c.args.moment one.told.moment period.every every at c.max-every.ensures)
+    (same-number c.args.moment one.explanation.moment period.every every at c.max-every.ensures)
     (sym c.begins.ensures ∙ c.if-begins.true) c.saturating_add-self-then-begins.ensures
     (c.begun-self.ensures ∙ (λ i. record (meter_of [] []) { first = sym at i; since = sym at i })) c.clear_counts.ensures
     (spans-begun _ (c.args.moment / every) period.every (c.args.moment / every * every) c.saturating_add-self.result (λ none. omega (arith, none, c.saturating_add-self-then-begins.ensures))
@@ -21,5 +21,5 @@ returns-then-begins-clause-awaits c = λ shown one at holds.
 pub returns-else-begins-clause-awaits : goal.returns-else-begins-clause-awaits
 returns-else-begins-clause-awaits c = λ shown one at holds.
     let period = c.args.self.now in
-    let number = same-number c.args.moment one.told.moment period.every c.max-every.result at c.max-every.ensures in
+    let number = same-number c.args.moment one.explanation.moment period.every c.max-every.result at c.max-every.ensures in
     awaits-same period shown one holds (ap (starts (number_in period)) (sym number) ∙ sym c.begins.ensures ∙ c.if-begins.false)

@@ -37,8 +37,8 @@ returns c = λ shown times same.
       turned_off = some-of-push bounds_of (λ one. one.turned_off) shown n c.take_some-5.ensures refl (ap (λ (m : Meter). m.turned_off) same) i;
       timed = ap (λ (m : Meter). m.timed) same i;
       time = ap (λ (m : Meter). m.time) same i;
-      carried = sum-push (λ one. one.carried) shown n c.saturating_add-self.ensures refl (ap (λ (m : Meter). m.carried) same) i;
-      above = sum-push (λ one. one.above) shown n c.saturating_add-self-2.ensures refl (ap (λ (m : Meter). m.above) same) i;
+      carried = sum-push (λ one. one.carried) shown n c.increase.ensures refl (ap (λ (m : Meter). m.carried) same) i;
+      above = sum-push (λ one. one.above) shown n c.increase-2.ensures refl (ap (λ (m : Meter). m.above) same) i;
       longer = some-of-push count (λ one. one.excess) shown n (λ numbers. count-some numbers _ _ _ c.count_some.ensures) refl
           (ap (λ (m : Meter). m.longer) same) i;
       late = (sum-push late_at (places shown) (place_of shown n) c.add_excess.ensures read-late (ap (λ (m : Meter). m.late) same)

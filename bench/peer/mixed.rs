@@ -2,7 +2,7 @@
 //! a trace of every kind of record, of version one and without refused records: it decides with the C library,
 //! keeps the queue and the statistics, and writes each record again with its answer. It records no events, so it
 //! has no folds, replays or audits.
-use juniperbowls::{Ecn, Params, State, Verdict};
+use juniperbowls::{Choices, Ecn, Opening, Params, State, Verdict};
 use std::collections::VecDeque;
 use std::error::Error;
 use std::io;
@@ -195,8 +195,10 @@ fn main() -> Result<(), Box<dyn Error>> {
         return Err("no first record".into());
     }
     let chosen = if row.len() == 5 { Params::default() } else { params(&row, 5)? };
+    // a trace of version one estimates delays from the departure rate
+    let choices = Choices { delay_stamp: false, ..Choices::default() };
     let mut link = Link {
-        pie: State::open(&chosen, number(&row, 1)?)?,
+        pie: State::open(&Opening { params: chosen, moment: number(&row, 1)?, choices, ..Opening::for_rate(10_000_000) })?,
         ring: VecDeque::new(),
         packets: number(&row, 2)?,
         bytes: 0,

@@ -25,11 +25,11 @@ work=$(mktemp -d)
 trap 'rm -rf "$work"' EXIT
 mkdir -p "$out"
 
-# Linux's functions, out of the archive once for each of its versions (it is read whole for that)
+# Linux's functions, once for each version of the archive, which is read up to the second of these files
 version=$(stat --format=%Y-%s $source)
 if [ "$(cat "$out/version" 2> /dev/null)" != "$version" ]; then
     xz --decompress --stdout --threads=0 $source |
-        tar --extract --directory "$work" --strip-components=1 linux-source-6.1/net/sched/sch_pie.c linux-source-6.1/include/net/pie.h
+        tar --extract --occurrence --directory "$work" --strip-components=1 linux-source-6.1/net/sched/sch_pie.c linux-source-6.1/include/net/pie.h
     heads='struct pie_sched_data|bool pie_drop_early(|static int pie_qdisc_enqueue(|void pie_process_dequeue(|void pie_calculate_probability('
     # from a line that begins with one of the heads to the line that closes the function or struct
     awk -v heads="$heads" '

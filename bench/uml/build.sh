@@ -23,6 +23,9 @@ xz --decompress --stdout --threads=0 $source | tar --extract --directory "$work"
     --exclude='*/Documentation/*/*' --exclude='*/drivers/gpu/*.[ch]' --exclude='*/sound/*.[ch]'
 cd "$work"
 sed -i '/^config HZ$/,/default/s/100/1000/' arch/um/Kconfig
+# (the registers of a processor with AMX have 11,008 bytes, more than this version of Linux provides; a thread keeps them on its stack)
+sed -i '/HOST_FP_SIZE, 2696/s/2696/16384/' arch/x86/um/user-offsets.c
+sed -i '/^config KERNEL_STACK_ORDER$/,/default/s/default 2/default 4/' arch/um/Kconfig
 # (what the runs need, and nothing else)
 for word in EXPERT 64BIT MULTIUSER FHANDLE POSIX_TIMERS PRINTK BUG BASE_FULL FUTEX EPOLL SIGNALFD TIMERFD EVENTFD SHMEM ADVISE_SYSCALLS MEMBARRIER \
     FILE_LOCKING NO_HZ_IDLE HIGH_RES_TIMERS BINFMT_ELF BINFMT_SCRIPT TTY UNIX98_PTYS SSL NULL_CHAN PROC_FS SYSCTL PROC_SYSCTL SYSFS TMPFS HOSTFS \

@@ -4,4 +4,6 @@
 PATH=$PATH:/usr/sbin:/sbin
 programs linux.uml modprobe ip tc iperf3 ping sysctl timeout python3
 required 'sch_pie below /usr/lib/uml/modules' sh -c 'find /usr/lib/uml/modules -name sch_pie.ko | grep -q .'
+# Linux 6.1 in a process can't save the registers of AMX; build.sh changes that
+[ -n "${UML_LINUX:-}" ] || required "a processor without AMX, or UML_LINUX" sh -c '! grep -qw amx_tile /proc/cpuinfo'
 packages user-mode-linux kmod iproute2 iperf3 iputils-ping procps util-linux python3 flent

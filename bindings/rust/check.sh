@@ -3,8 +3,8 @@
 # events, the flight recorder, the calls at a link and the example queues in Rust, without a
 # network. It audits the history of the recorded queue, the events that four threads at a link fold,
 # and the texts of a queue with a flight recorder: while the queue runs, and after it was killed,
-# when the recorder in C must write the same text. Prints a line NOT RUN if there is no cargo 1.82
-# or later, or no C compiler to link with.
+# when the recorder in C must write the same text. Then it compares the programs of bench/peer with
+# `pie run`. Prints a line NOT RUN if there is no cargo 1.82 or later, or no C compiler to link with.
 # needs: library, program
 set -eu
 cd "$(dirname "$0")/../.."
@@ -101,3 +101,22 @@ shared=examples/shared
     crates/pie_c/out/libpie_c.a -pthread -lm
 "$work/flight_text" "$work/flight" | cmp - "$work/text"
 echo "bindings/rust: $texts texts of a working queue are clean, and what it left when it was killed is too ($found events), as C writes it as well"
+# bench/peer: the programs in Rust that docs/PERFORMANCE.md compares with `pie run`, over crate csv of Debian's packages
+registry=/usr/share/cargo/registry
+if ! compgen -G "$registry/csv-[0-9]*" > /dev/null; then
+    echo "NOT RUN: bindings/rust: no crate csv in $registry, so bench/peer was not built"
+    exit 0
+fi
+mkdir "$work/bench"
+cp -r bench/peer "$work/bench"
+ln -s "$PWD/bindings" "$work/bindings"
+(cd "$work/bench/peer" && cargo build --offline --quiet --target-dir "$work/peers" --config 'source.crates-io.replace-with="debian"' \
+    --config "source.debian.directory='$registry'")
+for kind in plain mixed; do
+    python3 bench/trace.py 2000 1 $kind > "$work/trace"
+    "$program" run < "$work/trace" > "$history"
+    peer=$work/peers/debug/peer
+    [ $kind = plain ] || peer=$work/peers/debug/mixed
+    "$peer" < "$work/trace" | cmp - "$history"
+done
+echo "bindings/rust: the programs of bench/peer write what pie run writes"

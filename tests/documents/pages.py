@@ -90,11 +90,10 @@ def has_numpy(python):
 def fresh(copy, page, real):
     """Makes a copy of the repository's own files and of the built ones. Returns it, and the environment of its
     commands."""
-    listed = subprocess.run(["git", "ls-files", "-co", "--exclude-standard"], cwd=ROOT, capture_output=True, text=True, check=True).stdout
-    for name in listed.splitlines():
-        if (ROOT / name).is_file():
-            (copy / name).parent.mkdir(parents=True, exist_ok=True)
-            shutil.copy2(ROOT / name, copy / name)
+    copy.mkdir()
+    listed = subprocess.run(["git", "ls-files", "-co", "--exclude-standard", "-z"], cwd=ROOT, capture_output=True, text=True, check=True).stdout
+    names = "\0".join(it for it in listed.split("\0") if (ROOT / it).is_file())
+    subprocess.run(["xargs", "-0", "cp", "--parents", "--preserve=mode,timestamps", "-t", copy], cwd=ROOT, input=names, text=True, check=True)
     home, tools = copy.parent / "home", copy.parent / "tools"
     for folder in (home, tools):
         folder.mkdir(exist_ok=True)
@@ -104,7 +103,8 @@ def fresh(copy, page, real):
     for name in MADE if ROOT / "bindings" in page.parents else ():
         if (ROOT / name / "out").is_dir():
             shutil.copytree(ROOT / name / "out", copy / name / "out", symlinks=True)
-    words = {**os.environ, "HOME": str(home), "CARGO_TARGET_DIR": f"{home}/target"}
+    # (each example in Rust is built once: nothing is kept for a next build, nor for a debugger)
+    words = {**os.environ, "HOME": str(home), "CARGO_TARGET_DIR": f"{home}/target", "CARGO_INCREMENTAL": "0", "CARGO_PROFILE_DEV_DEBUG": "0"}
     for name in ("CARGO", "RUSTUP"):
         words.setdefault(f"{name}_HOME", f"{Path.home()}/.{name.lower()}")
     if not real:
@@ -179,6 +179,8 @@ def main():
             check(made.returncode == 0, f"make -C {name} ends with status {made.returncode}:\n{made.stderr[-2000:]}")
     with tempfile.TemporaryDirectory() as work:
         for page in chosen or pages(RUN):
+            if not blocks(page.read_text()):
+                continue
             copy = Path(work) / "repository"
             environment = fresh(copy, page, real)
             run_page(page, copy, environment)

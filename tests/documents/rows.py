@@ -92,7 +92,7 @@ ROWS = {
         f"script {TEXTS} 'open2,3,loose,0,4,16,100\\n'", f"script {TEXTS} 'open2,1,loose,0,4,16,100\\n'",
         f"script {TEXTS} 'open2,1,bounded,0,4,16\\n'"],
     # the lock, the link and storms
-    "passes are taken, shared and gathered": ["c ports calls", "library those_that_sleep_at_a_held_lock_all_wake", "proof pie_lock told"],
+    "passes are taken, shared and gathered": ["c ports calls", "library those_that_sleep_at_a_held_lock_all_wake", "proof pie_lock history_represented"],
     "each call of a link, by one thread": ["c ports calls", "library a_caller_of_65535_is_answered_and_closes"],
     "events of several threads, each once": ["c ports threads", "c ports bursts_of_several"],
     "a full log of a link, and its folds": ["c ports bursts"],

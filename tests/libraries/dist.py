@@ -3,7 +3,8 @@
 of crates/. dist/'s assembly of the libraries must be byte for byte the output of bindings/c/library.py from the
 proved crates; assembled by the toolchain, dist/'s program must be the object file that `rt ci` built. If crates/ is
 no longer the manifest's tree, a difference is printed, with the number of commits by which dist/ is older, and is
-no failure. Then `make check` runs in a new folder, with clang too if it is installed.
+no failure. Then `make check` runs in a new folder, with clang if it is installed: with cc, tests/documents/pages.py
+runs it, as the README has it.
 
 The assembly must have one meaning for every assembler: it consists of labels, instructions, and directives of a
 short list, without macros, conditions, included files or preprocessor lines.
@@ -215,15 +216,14 @@ def main():
         check(git("rev-parse", f"{manifest['commit']}:crates") == manifest["crates"], "the manifest's commit has another tree of crates/")
     with tempfile.TemporaryDirectory() as work:
         stated(compare(manifest, work))
-        for compiler in ("cc", "clang"):
-            if not shutil.which(compiler):
-                print(f"NOT RUN: {NAME}: no {compiler} here, so make check did not run over what it builds")
-                continue
-            words = ["make", "-s", "check", f"CC={compiler}", f"BUILD={work}/{compiler}"]
-            done = subprocess.run(words, cwd=ROOT, stdout=subprocess.PIPE, stderr=subprocess.STDOUT, text=True, check=False)
-            told = [line for line in done.stdout.splitlines() if line.startswith("NOT RUN")]
-            print(*told, sep="\n", end="\n" if told else "")
-            check(done.returncode == 0, f"make check CC={compiler} fails:\n{done.stdout[-3000:]}")
+        compiler = "clang" if shutil.which("clang") else "cc"
+        if compiler == "cc":
+            print(f"NOT RUN: {NAME}: no clang here, so make check did not run over what it builds")
+        words = ["make", "-s", "check", f"CC={compiler}", f"BUILD={work}/{compiler}"]
+        done = subprocess.run(words, cwd=ROOT, stdout=subprocess.PIPE, stderr=subprocess.STDOUT, text=True, check=False)
+        told = [line for line in done.stdout.splitlines() if line.startswith("NOT RUN")]
+        print(*told, sep="\n", end="\n" if told else "")
+        check(done.returncode == 0, f"make check CC={compiler} fails:\n{done.stdout[-3000:]}")
     finish()
 
 

@@ -41,9 +41,9 @@ CLAUSES = {
     "capable_packets_are_spared": ["(λ opening before event. OnlyMarks opening before → SparesCapable event)"],
     "only_capable_packets_are_marked": ["(λ opening before event. MarksOnlyCapable event)"],
     "queues_stay_within_their_limits": [
-        "length (waiting_after opening history) ≤ opening.limits.packets }",
+        "length (waiting_after opening history) ≤ opening.limits.packets) }",
         "bytes_after opening (before ++ event ∷ []) ≤ (params_after opening before).limit_bytes)",
-        "bytes_after opening history ≤ most }"],
+        "bytes_after opening history ≤ most) }"],
     "waits_are_bounded": ["rate * time_of opening (before ++ event ∷ []) between ≤ 8 * 10 ^ 9 * (params_after opening before).limit_bytes }"],
     "the_probability_follows_the_delay": [
         "probability_after opening history ≤ 10 ^ 12 }",
@@ -71,10 +71,10 @@ CLAUSES = {
         "moment < effective_moment opening before + ahead + (params_after opening (before ++ event ∷ [])).t_update)"],
     "the_link_does_not_idle": ["2 * (params_after opening before).mean_pkt < bytes_after opening (before ++ event ∷ []))",
                                "event.answer ≡ Empty → waiting_after opening before ≡ [])"],
-    "the_rate_lies_between_its_samples": ["IsBetween least most (average_after opening history) }"],
+    "the_rate_lies_between_its_samples": ["IsBetween least most (average_after opening history)) }"],
     "the_estimated_delay_lies_between": [
         "IsBetween (min (2 ^ 40) (bytes_after opening history * least / (params_after opening history).dq_threshold)) "
-        "(bytes_after opening history * most / (params_after opening history).dq_threshold) (delay_after opening history) }"],
+        "(bytes_after opening history * most / (params_after opening history).dq_threshold) (delay_after opening history)) }"],
 }
 
 

@@ -8,6 +8,7 @@ refused_storms.py does this for storms.
 
 usage: tests/program/refused_requests.py [PROGRAM]      PROGRAM: crates/pie/out/pie by default
 needs: program, an early start"""
+import functools
 import os
 import sys
 import tempfile
@@ -36,13 +37,19 @@ def is_beginning(words, variable, output, want):
     return "--summary" in words or set(output.splitlines()) <= set(want.splitlines())
 
 
+@functools.cache
+def output_of(words, given):
+    """Returns the output of the program for this text."""
+    return run(list(words), given)[1]
+
+
 def texts_before(words, given, place):
     """Returns the outputs allowed before this read, if each earlier read returned STEP bytes: the output of all
     complete records, including those of the last page, or of the records that were complete one read earlier,
     because a record may be processed at the next read."""
     for reads in (place - 1, max(place - 2, 0)):
         read = given[:STEP * reads]
-        yield run(words, read[:read.rfind(b"\n") + 1])[1]
+        yield output_of(tuple(words), read[:read.rfind(b"\n") + 1])
 
 
 def refused(library, met, name, words, given, variables=tuple(FAULTS), **more):
@@ -70,7 +77,7 @@ def refused(library, met, name, words, given, variables=tuple(FAULTS), **more):
 def long_text(library, met):
     """Returns a text that is long enough for several reads and writes. The output is written in
     pages of some 32 KB, neither byte by byte nor all at the end."""
-    long = TRACE.replace(b"8,32,100", b"8,3200,9999", 1) + b"depart,1,1001006\nshow\n" * 1500
+    long = TRACE.replace(b"8,32,100", b"8,3200,9999", 1) + b"depart,1,1001006\ntally\n" * 1200
     text = run(["run"], long)[1]
     commands = {"run": (["run"], long), **{name: (words, text) for name, words in READERS.items()}}
     for name, (words, given) in commands.items():

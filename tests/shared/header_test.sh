@@ -1,7 +1,7 @@
 # Shared by the tests of include/pie_flight.h and include/pie_follow.h; source it in bash. `header_test NAME
 # ARGUMENT..` builds tests/libraries/NAME.c as C11, C++11 and C++17 with warnings as errors, and with the
-# sanitizers, and runs each program in a folder of its own below `$work`. It runs at the top of the repository, and
-# sets `$failed` if something fails.
+# sanitizers (that of threads if the test has some), and runs each program in a folder of its own below `$work`. It
+# runs at the top of the repository, and sets `$failed` if something fails.
 cd "$(dirname "$0")/../.."
 cc=${CC:-cc}
 cxx=${CXX:-c++}
@@ -57,7 +57,9 @@ header_test() {
     else
         echo "NOT RUN: $script: this compiler has no address sanitizer"
     fi
-    if has "-fsanitize=thread"; then
+    if ! grep -q pthread_create "tests/libraries/$name.c"; then
+        return
+    elif has "-fsanitize=thread"; then
         try "thread sanitizer" "$cc" -std=c11 -O1 -g -fsanitize=thread -Iinclude
     else
         echo "NOT RUN: $script: this compiler has no thread sanitizer"

@@ -1,7 +1,7 @@
 #!/usr/bin/env bash
 # Boots a kernel of Debian under qemu-system-x86_64 with the module, in simulated time, and sends TCP and pings through it from one network namespace over
 # another to a third (boot_init.sh). Afterwards sums.py audits each record and compares its sums with those of `tc -s -j` and of the receiver. The kernel
-# must not warn. The same boot loads modules with faults (the first four of mutants.txt), and sums.py must find each fault.
+# must not warn. The same boot loads a module with one fault after the other (the first four of mutants.txt), and sums.py must find each fault.
 # --all: all faults, and the kernel's own queues in the same place. SEED seeds the simulation (1).
 # ROOT contains a kernel's boot/ and lib/modules/, of an installed package (/, the default) or an unpacked one. HEADERS is the folder above the kernel's
 # headers (/usr/src). It takes a minute of one processor, and two with --all.
@@ -23,10 +23,9 @@ pie=${PIE:-$PWD/crates/pie/out/pie}
 build_module . "$work/root/mods/sch_pie_recorded.ko"
 mutants=$(sed -n 's/^name: //p' "$work/source/mutants.txt")
 [ $all = 1 ] || mutants=$(head -n 4 <<< "$mutants")
-for name in $mutants; do
-    "$work/source/mutant.py" "$name" > "$work/build/bindings/kernel/sch_pie_recorded_main.c"
-    build_module . "$work/root/mods/mutants/$name.ko"
-done
+echo "$mutants" > "$work/root/mods/faults"
+"$work/source/mutant.py" > "$work/build/bindings/kernel/sch_pie_recorded_main.c"
+build_module . "$work/root/mods/faulty.ko"
 fill_root bindings/kernel/boot_init.sh veth sch_htb sch_tbf sch_netem sch_pie
 truncate -s 256M "$work/disk"
 # shellcheck disable=SC2086

@@ -63,9 +63,11 @@ floods() {
     $box kill $senders
 }
 
-# refuses WORDS..: the change of the leaf 2: is refused; prints tc's text
+# refuses COMMAND WORDS..: the change or replacement of the leaf 2: is refused; prints tc's text
 refuses() {
-    if /bin/tc -n r qdisc change dev rb parent 1:1 handle 2: "$@" 2> /tmp/refused; then
+    command=$1
+    shift
+    if /bin/tc -n r qdisc $command dev rb parent 1:1 handle 2: "$@" 2> /tmp/refused; then
         echo "FAILED: not refused: $*"
     fi
     $box echo "TOLD refused: $* ($($box sed -n 's/^Error: //p' /tmp/refused))"
@@ -157,23 +159,21 @@ flood=$!
 $box sleep 1
 $box kill $flood
 /bin/tc -n r qdisc change dev rb parent 1:1 handle 2: pie tupdate 8ms alpha 4 beta 30 noecn || echo "FAILED change"
-refuses pie limit 100
-refuses pie bytemode
-refuses pie dq_rate_estimator
-refuses pie target 20s
+refuses replace pie limit 100
+refuses change pie bytemode
+refuses change pie dq_rate_estimator
+refuses change pie target 20s
 $box sleep 1
 link_down_and_up
 wait
 ends changes
 $box rmmod sch_pie_recorded || echo "FAILED rmmod"
 
-# each module with a fault: ECN through tbf, by marks alone, with a limit that is reached; then a flood whose packets are dropped whenever two wait, and a
+# the module with each fault: ECN through tbf, by marks alone, with a limit that is reached; then a flood whose packets are dropped whenever two wait, and a
 # purge meanwhile
-for module in /mods/mutants/*.ko; do
-    [ -e $module ] || continue
-    name=${module##*/}
-    name=mutant_${name%.ko}
-    $box insmod $module || echo "FAILED insmod $module"
+for fault in $($box cat /mods/faults); do
+    name=mutant_$fault
+    $box insmod /mods/faulty.ko fault=$fault || echo "FAILED insmod fault=$fault"
     received $name.before
     /bin/tc -n r qdisc add dev rb root handle 1: tbf rate 10mbit burst 10kb latency 10s
     /bin/tc -n r qdisc add dev rb parent 1:1 handle 2: pie_recorded limit 60 target 2ms tupdate 10ms ecn mark_ecnth 100% || echo "FAILED tc $name"
@@ -188,8 +188,25 @@ for module in /mods/mutants/*.ko; do
     $box rmmod sch_pie_recorded || echo "FAILED rmmod $name"
 done
 
+# a reader ends with its queue, although a new record has the name of the old one after the module was loaded again
+for at in before after; do
+    $box insmod /mods/sch_pie_recorded.ko || echo "FAILED insmod"
+    /bin/tc -n r qdisc add dev rb root handle 2: pie_recorded events 100 || echo "FAILED tc"
+    if [ $at = before ]; then
+        tap follow rb > /dev/null &
+        tap=$!
+        $box sleep 0.1
+        /bin/tc -n r qdisc del dev rb root
+        $box rmmod sch_pie_recorded || echo "FAILED rmmod while a record is mapped"
+    fi
+done
+$box sleep 1
+if $box kill -0 $tap 2> /dev/null; then
+    echo "FAILED: pie-tap reads a record whose queue is gone"
+fi
+/bin/tc -n r qdisc del dev rb root
+
 # the namespace of the queue is deleted while senders send and its record is mapped
-$box insmod /mods/sch_pie_recorded.ko || echo "FAILED insmod"
 /bin/tc -n r qdisc add dev rb root handle 1: tbf rate 10mbit burst 10kb latency 10s
 /bin/tc -n r qdisc add dev rb parent 1:1 handle 2: pie_recorded || echo "FAILED tc"
 tap follow rb > /tmp/deleted.excerpt &

@@ -45,6 +45,24 @@ else
     echo "NOT RUN: bindings/kernel: dist/ is of other crates than pie_kernel.S (bindings/kernel/make.sh makes it anew), so the example was not compared"
 fi
 
+cc -O2 -Wall -Wextra -Iinclude -o "$work/pie-tap" $here/pie_tap.c -x assembler dist/x86_64/pie_c.S
+if "$work/pie-tap" --help > /dev/full 2> "$work/log"; then
+    fail "pie-tap does not report a full output"
+fi
+# a record without a complete snapshot: pie-tap copies it again until a signal
+{
+    printf PIEFLGT1
+    for word in 2 10 10 3 2 1; do
+        printf '%b' "\\00$word\\0\\0\\0\\0\\0\\0\\0"
+    done
+    head -c 8192 /dev/zero
+} > "$work/record"
+for words in dump follow record; do
+    ended=0
+    timeout --kill-after=60 1 "$work/pie-tap" $words "$work/record" > "$work/tapped" 2>&1 || ended=$?
+    [ $ended = 124 ] || { cat "$work/tapped" >&2; fail "pie-tap $words does not end at a signal: $ended"; }
+done
+
 built=
 for headers in /usr/src/linux-headers-*-amd64; do
     [ -e "$headers/Module.symvers" ] || continue

@@ -16,7 +16,7 @@ if [ -z "$kernel" ] || ! [ -d "$headers/linux-headers-$release" ]; then
 fi
 work=${KEEP:-$(mktemp -d)}
 [ -n "${KEEP-}" ] || trap 'rm -rf "$work"' EXIT
-mkdir -p "$work/build/bindings" "$work/root"/{bin,dev,proc,sys,tmp,run,var} "$work/root/mods/mutants"
+mkdir -p "$work/build/bindings" "$work/root"/{bin,dev,proc,sys,tmp,run,var} "$work/root/mods"
 cp -r bindings/kernel "$work/build/bindings/"
 cp -r bindings/kernel "$work/source"
 cp -r include "$work/build/"
@@ -55,7 +55,7 @@ fill_root() {
             cp -n -L "$library" "$work/root$library"
         done
     done
-    (cd "$work/root" && find . | sort | cpio -o -H newc --quiet --reproducible | gzip -1n) > "$work/initrd"
+    (cd "$work/root" && find . | sort | cpio -o -H newc --quiet --reproducible) > "$work/initrd"
 }
 
 # boot PARAMETERS [OPTION..]: boots with these parameters of the kernel and options of qemu, until the first process ends. Fails if it did not end well.

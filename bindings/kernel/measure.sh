@@ -40,12 +40,13 @@ measured() {
 measured warm_up pfifo limit 1000 -- words=1
 measured pfifo pfifo limit 1000
 measured pie pie
-measured unrecorded pie_recorded events 0
-measured unrecorded_ecn pie_recorded events 0 ecn
 measured pie_ecn pie ecn
-measured recorded pie_recorded noflows
-measured recorded_with_flows pie_recorded
-measured recorded_with_flows_to_compute pie_recorded -- hashed=0
+for ecn in "" ecn; do
+    measured unrecorded${ecn:+_$ecn} pie_recorded events 0 $ecn
+    measured recorded${ecn:+_$ecn} pie_recorded noflows $ecn
+    measured recorded_with_flows${ecn:+_$ecn} pie_recorded $ecn
+    measured recorded_with_flows_to_compute${ecn:+_$ecn} pie_recorded $ecn -- hashed=0
+done
 $box dmesg | $box grep -o 'COUNT.*'
 echo ended
 $box poweroff -f

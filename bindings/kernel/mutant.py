@@ -1,26 +1,29 @@
 #!/usr/bin/env python3
-"""Prints the module's C with the fault NAME of mutants.txt. Its blocks, separated by a blank line, are lines `name:`, `says:` (the fault), `old:` and
-`new:`. The text of `old:` occurs once in the C; \\n in it is a line feed and \\t a tab.
+"""Prints the module's C with the faults of mutants.txt. The module has the one that its parameter `fault` names. The blocks of mutants.txt, separated by
+a blank line, are lines `name:`, `says:` (the fault), `old:` and `new:`. The text of `old:` occurs once in the C; \\n in it is a line feed and \\t a tab.
+FAULT in the text of `new:` is the condition that the module has this fault.
 
-usage: bindings/kernel/mutant.py NAME"""
+usage: bindings/kernel/mutant.py"""
 import sys
 from pathlib import Path
 
 HERE = Path(__file__).resolve().parent
+LAST_INCLUDE = '#include "pie_flows.h"\n'
+PARAMETER = """
+static char *fault = "";
+module_param(fault, charp, 0444);
+"""
 
 
 def main():
-    name = sys.argv[1]
-    code = (HERE / "sch_pie_recorded_main.c").read_text()
+    code = (HERE / "sch_pie_recorded_main.c").read_text().replace(LAST_INCLUDE, LAST_INCLUDE + PARAMETER)
     for block in (HERE / "mutants.txt").read_text().split("\n\n"):
-        fields = dict(line.split(": ", 1) if ": " in line else (line.rstrip(":"), "") for line in block.strip().split("\n"))
-        if fields["name"] == name:
-            old, new = (fields[key].replace("\\n", "\n").replace("\\t", "\t") for key in ("old", "new"))
-            if code.count(old) != 1:
-                sys.exit(f"mutant.py: the text of {name} occurs {code.count(old)} times in the C")
-            print(code.replace(old, new), end="")
-            return
-    sys.exit(f"mutant.py: there is no mutant {name}")
+        fields = dict(line.split(": ", 1) for line in block.strip().split("\n"))
+        old, new = (fields[key].replace("\\n", "\n").replace("\\t", "\t") for key in ("old", "new"))
+        if code.count(old) != 1:
+            sys.exit(f"mutant.py: the text of {fields['name']} occurs {code.count(old)} times in the C")
+        code = code.replace(old, new.replace("FAULT", f'!strcmp(fault, "{fields["name"]}")'))
+    print(code, end="")
 
 
 main()

@@ -12,41 +12,51 @@
 
 #include "pie_recorded.h"
 
+/* Returns true if the first `bytes` bytes of a packet's network header are in its linear part. */
+static __always_inline bool pr_has_header(const struct sk_buff *skb, size_t bytes)
+{
+	size_t at = skb_network_header(skb) - skb->head;
+
+	return at + bytes <= skb_tail_pointer(skb) - skb->head;
+}
+
 /*
  * Returns the hash of a packet that has none. The flow dissector takes 600 instructions, so the
  * most common packets have a hash of this queue's own: IPv4 without options, TCP or UDP, no
  * fragment, with the ports in the linear part.
  */
-static noinline u32 pr_hash(struct sk_buff *skb, u64 key)
+static __always_inline u32 pr_hash(struct sk_buff *skb, u64 key)
 {
 	const struct iphdr *header = ip_hdr(skb);
-	u32 ports;
+	u32 ports, flow;
 	u64 hash;
 
-	if (skb->protocol != htons(ETH_P_IP) ||
-	    (const u8 *)(header + 1) + sizeof(ports) > skb_tail_pointer(skb) || header->ihl != 5 ||
-	    ip_is_fragment(header) ||
-	    (header->protocol != IPPROTO_TCP && header->protocol != IPPROTO_UDP))
+	if (unlikely(skb->protocol != htons(ETH_P_IP) ||
+		     !pr_has_header(skb, sizeof(*header) + sizeof(ports)) ||
+		     *(const u8 *)header != 0x45 || ip_is_fragment(header) ||
+		     (header->protocol != IPPROTO_UDP && header->protocol != IPPROTO_TCP)))
 		return skb_get_hash(skb);
 	memcpy(&ports, header + 1, sizeof(ports));
 	hash = (__force u32)header->saddr | (u64)(__force u32)header->daddr << 32;
 	hash = (hash ^ key) * GOLDEN_RATIO_64;
 	hash ^= hash >> 32 ^ (u64)header->protocol << 32;
 	hash = (hash ^ ports) * GOLDEN_RATIO_64;
-	return hash >> 32 ?: 1;
+	flow = hash >> 32;
+	return likely(flow) ? flow : 1;
 }
 
 /*
- * Writes the addresses of a packet's flow to its place. A place that was written less than a
- * second ago keeps its flow, so senders of many flows do not load the flow dissector.
+ * Writes the addresses of a packet's flow to its place, and returns the flow. A place that was
+ * written less than a second ago keeps its flow, so senders of many flows do not load the flow
+ * dissector.
  */
-static noinline void pr_write_flow(struct pie_recorded_flow *to, const struct sk_buff *skb,
-				   u32 flow, u64 now)
+static noinline u32 pr_write_flow(struct pie_recorded_flow *to, const struct sk_buff *skb,
+				  u32 flow, u64 now)
 {
 	struct flow_keys keys;
 
 	if (to->flow && now - to->moment < NSEC_PER_SEC)
-		return;
+		return flow;
 	if (!skb_flow_dissect_flow_keys(skb, &keys, 0))
 		memset(&keys, 0, sizeof(keys));
 	WRITE_ONCE(to->flow, 0);
@@ -66,6 +76,7 @@ static noinline void pr_write_flow(struct pie_recorded_flow *to, const struct sk
 		memcpy(to->destination, &keys.addrs.v6addrs.dst, 16);
 	}
 	smp_store_release(&to->flow, flow); /* a reader that sees it sees the fields above */
+	return flow;
 }
 
 #endif

@@ -25,16 +25,32 @@
 	cmpl	$13, %ecx
 	je	.LBB0_16
 	cmpl	$14, %ecx
-	jne	.LBB0_19
+	jne	.LBB0_18
 	shrdq	$14, %rdx, %rax
 	shrq	$14, %rdx
 	jmp	.LBB0_14
+.LBB0_2:
+	cmpl	$10, %ecx
+	je	.LBB0_13
+	cmpl	$11, %ecx
+	je	.LBB0_15
+	cmpl	$12, %ecx
+	jne	.LBB0_18
+	shrdq	$12, %rdx, %rax
+	shrq	$12, %rdx
+	jmp	.LBB0_14
+.LBB0_10:
+	cmpl	$15, %ecx
+	je	.LBB0_17
+	cmpl	$16, %ecx
+	jne	.LBB0_18
+	shrdq	$16, %rdx, %rax
+	shrq	$16, %rdx
+	jmp	.LBB0_14
 .LBB0_18:
-	testq	%r8, %r8
-	je	.LBB0_26
-.LBB0_19:
 	xorl	%ecx, %ecx
-	testq	%r8, %r8
+	cmpq	$1, %r8
+	adcq	$0, %r8
 	sete	%sil
 	movq	%rax, %rdi
 	orq	%rdx, %rdi
@@ -59,16 +75,14 @@
 	sbbq	%r9, %r10
 	setb	%r10b
 	orb	%dil, %r10b
-	movq	%rsi, %rdi
-	xorq	$127, %rdi
-	orq	%r9, %rdi
-	sete	%r11b
-	testb	%r10b, %r10b
 	movq	%rdx, %rdi
 	cmovneq	%rcx, %rdi
 	cmoveq	%rax, %rcx
-	orb	%r10b, %r11b
 	jne	.LBB0_25
+	movq	%rsi, %r10
+	xorq	$127, %r10
+	orq	%r9, %r10
+	je	.LBB0_25
 	movl	%esi, %ecx
 	xorb	$127, %cl
 	movq	%rdx, %rdi
@@ -127,24 +141,6 @@
 	shldq	$1, %r10, %rdi
 	leaq	(%r11,%r10,2), %rcx
 	jmp	.LBB0_25
-.LBB0_2:
-	cmpl	$10, %ecx
-	je	.LBB0_13
-	cmpl	$11, %ecx
-	je	.LBB0_15
-	cmpl	$12, %ecx
-	jne	.LBB0_19
-	shrdq	$12, %rdx, %rax
-	shrq	$12, %rdx
-	jmp	.LBB0_14
-.LBB0_10:
-	cmpl	$15, %ecx
-	je	.LBB0_17
-	cmpl	$16, %ecx
-	jne	.LBB0_19
-	shrdq	$16, %rdx, %rax
-	shrq	$16, %rdx
-	jmp	.LBB0_14
 .LBB0_13:
 	shrdq	$10, %rdx, %rax
 	shrq	$10, %rdx
@@ -171,8 +167,6 @@
 	cmovneq	%rax, %rcx
 	movq	%rcx, %rax
 	RET
-.LBB0_26:
-	ud2
 .Lfunc_end0:
 	.size	"pie_control::update::delay", .Lfunc_end0-"pie_control::update::delay"
 

@@ -43,6 +43,7 @@ static const char usage[] =
 /* A record that is mapped. */
 struct tap {
     const char *path;
+    int file;
     void *memory;
     size_t bytes;
     void *scratch; /* memory for a copy */
@@ -113,13 +114,12 @@ static const char *find(const char *queue) {
 
 static void map(struct tap *tap, const char *path) {
     struct stat about;
-    int file = open(path, O_RDONLY | O_CLOEXEC);
-    if (file < 0 || fstat(file, &about) != 0)
+    tap->file = open(path, O_RDONLY | O_CLOEXEC);
+    if (tap->file < 0 || fstat(tap->file, &about) != 0)
         fail(errno == EACCES ? "only root reads a record: " : "the record cannot be opened: ", path);
     tap->path = path;
     tap->bytes = (size_t)about.st_size;
-    tap->memory = mmap(NULL, tap->bytes, PROT_READ, MAP_SHARED, file, 0);
-    close(file);
+    tap->memory = mmap(NULL, tap->bytes, PROT_READ, MAP_SHARED, tap->file, 0);
     if (tap->memory == MAP_FAILED)
         fail("the record cannot be mapped: ", path);
     if ((tap->scratch = aligned_alloc(64, (tap->bytes + 63) / 64 * 64)) == NULL)
@@ -144,6 +144,7 @@ static void list(void) {
         printf("%-7u %-15s %-9s %-9s %12llu  %s\n", entry.serial, if_indextoname(entry.index, name) != NULL ? name : "-", handle, parent,
                (unsigned long long)PIE_LOAD(((PIE_WORD *)tap.memory)[PIE_FLIGHT_KEPT]), entry.path);
         munmap(tap.memory, tap.bytes);
+        close(tap.file);
         free(tap.scratch);
     }
     closedir(folder);
@@ -153,7 +154,7 @@ static void list(void) {
 
 /* The flows of a record. */
 struct flows {
-    FILE *out; /* NULL: none are asked for */
+    FILE *out; /* NULL if no flows are requested */
     const struct pie_recorded_flow *places;
     uint64_t seen[PIE_RECORDED_FLOWS]; /* when the place was written that was read last */
 };
@@ -236,7 +237,9 @@ static int dump(struct tap *tap, struct flows *flows) {
     int answer;
     do
         answer = pie_flight_dump(tap->memory, tap->bytes, tap->scratch, write_out, NULL);
-    while (answer == PIE_FLIGHT_GONE);
+    while (answer == PIE_FLIGHT_GONE && !is_ended);
+    if (answer == PIE_FLIGHT_GONE)
+        fail("no snapshot could be copied before a signal: ", tap->path);
     if (answer == PIE_FLIGHT_NONE)
         fail("this is no record: ", tap->path);
     if (answer == PIE_FLIGHT_BROKEN)
@@ -246,11 +249,12 @@ static int dump(struct tap *tap, struct flows *flows) {
     return 0;
 }
 
-/* Waits for events; returns 0 when the queue is gone or a signal came. */
+/* Waits for events; returns 0 when the queue is gone or a signal came. After a file of /proc was removed, lseek fails, although a later file may have
+ * its name. */
 static int pause_for(const struct tap *tap, unsigned *turns) {
     struct timespec five = {0, 5000000};
     nanosleep(&five, NULL);
-    return !is_ended && (++*turns % 50 != 0 || access(tap->path, F_OK) == 0);
+    return !is_ended && (++*turns % 50 != 0 || lseek(tap->file, 0, SEEK_CUR) == 0);
 }
 
 /* Copies the memory, and returns its latest snapshot. */
@@ -260,7 +264,9 @@ static PIE_WORD *latest(struct tap *tap, const struct pie_flight_layout *layout)
     do {
         begun = pie_flight_copy((PIE_WORD *)tap->scratch, (PIE_WORD *)tap->memory, layout, NULL, NULL);
         snapshot = pie_flight_oldest((PIE_WORD *)tap->scratch, layout, begun, 0);
-    } while (snapshot == NULL);
+    } while (snapshot == NULL && !is_ended);
+    if (snapshot == NULL)
+        fail("no snapshot could be copied before a signal: ", tap->path);
     while ((later = pie_flight_oldest((PIE_WORD *)tap->scratch, layout, begun, PIE_LOAD(snapshot[PIE_FLIGHT_COUNT]) + 1)) != NULL)
         snapshot = later;
     return snapshot;
@@ -334,12 +340,10 @@ static void push(struct again *it, uint64_t tag, uint64_t since, uint32_t size) 
 /* Begins at a snapshot of the copy: its state, and the packets that waited. */
 static void again_begin(struct again *it, struct tap *tap, const struct pie_flight_layout *layout, PIE_WORD *snapshot, uint64_t every) {
     PIE_WORD *words = (PIE_WORD *)tap->scratch;
-    struct pie_opening opening;
     uint64_t came = PIE_LOAD(snapshot[PIE_FLIGHT_CAME]), left = PIE_LOAD(snapshot[PIE_FLIGHT_LEFT]);
     uint64_t number = PIE_LOAD(snapshot[PIE_FLIGHT_COUNT]), kept = PIE_LOAD(words[PIE_FLIGHT_KEPT]);
-    pie_flight_load(&opening, words + PIE_FLIGHT_OPENING, sizeof opening / 8);
     pie_flight_load(&it->state, snapshot + PIE_FLIGHT_STATE, sizeof it->state / 8);
-    it->room = opening.packets;
+    it->room = layout->queued;
     if (it->queue == NULL && (it->queue = malloc(it->room * sizeof *it->queue)) == NULL)
         fail("out of memory for the packets of ", tap->path);
     it->head = it->packets = 0;
@@ -455,10 +459,12 @@ int main(int count, char **words) {
     signal(SIGTERM, end);
     if (count == 2 && strcmp(words[1], "--help") == 0) {
         fputs(usage, stdout);
+        flush();
         return 0;
     }
     if (count == 2 && strcmp(words[1], "list") == 0) {
         list();
+        flush();
         return 0;
     }
     if (count > 1 && strcmp(words[1], "record") == 0 && (count == 3 || count == 4)) {

@@ -35,7 +35,8 @@ built() {
         make -s -C "$build/linux-source-6.1" O="$build/$kind" KCONFIG_ALLCONFIG="$build/$kind/wanted" allnoconfig > "$build/$kind/log"
         cp "$build/$kind/wanted" "$build/$kind/configured"
     fi
-    nice -n "${NICE:-19}" make -s -C "$build/linux-source-6.1" O="$build/$kind" -j"${JOBS:-4}" bzImage modules > "$build/$kind/log" 2>&1
+    # KCSAN watches few of all accesses at a time: without the kernel's own it watches the module's
+    KCSAN_SANITIZE=n nice -n "${NICE:-19}" make -s -C "$build/linux-source-6.1" O="$build/$kind" -j"${JOBS:-4}" bzImage modules > "$build/$kind/log" 2>&1
     release=$(cat "$build/$kind/include/config/kernel.release")
     rm -rf "$build/$kind-root"
     mkdir -p "$build/$kind-root/boot" "$build/$kind-root/lib/modules/$release" "$build/$kind-root/src"
@@ -50,16 +51,23 @@ booted() {
     set -- "$2"
     # shellcheck source=guest.sh
     . bindings/kernel/guest.sh
+    # (also where the kernel itself has no UBSAN)
+    [ $kind != kasan ] || export UBSAN_SANITIZE=y
     build_module . "$work/root/mods/sch_pie_recorded.ko"
+    for symbol in $(case $kind in kasan) echo __asan_ __ubsan_ ;; kcsan) echo __tsan_ ;; esac); do
+        nm "$work/root/mods/sch_pie_recorded.ko" | grep -q $symbol || { echo "$me: the module has no $symbol" >&2; exit 1; }
+    done
     cc -O2 -Wall -Wextra -Iinclude -static -o "$work/root/bin/requests" "$here/requests.c"
     fill_root "$here/init" veth dummy sch_htb
-    # a slow machine stalls the guest, which is no error of it
+    # reports of lockdep, and stacks, have the level 4; a slow machine stalls the guest, which is no error of it
     local parameters="panic=-1 nowatchdog rcupdate.rcu_cpu_stall_suppress=1"
     [ $kind = kcsan ] || parameters="$parameters panic_on_warn=1"
     [ $kind != plain ] || parameters="$parameters slub_debug=FZPU page_poison=1"
+    # the other processors of an emulated machine need longer to meet a watchpoint
+    [ $kind != kcsan ] || parameters="$parameters kcsan.udelay_task=1000 kcsan.udelay_interrupt=1000 kcsan.skip_watch=300"
     timeout "${LIMIT:-7200}" nice -n "${NICE:-19}" qemu-system-x86_64 -nodefaults -display none -monitor none -no-reboot -kernel "$kernel" \
         -initrd "$work/initrd" -m 3072 -smp 4 -accel tcg,thread=multi -cpu Nehalem,+rdrand -serial "file:$work/console" \
-        -append "console=ttyS0 quiet $parameters mitigations=off random.trust_cpu=on rdinit=/init \
+        -append "console=ttyS0 loglevel=5 $parameters mitigations=off random.trust_cpu=on rdinit=/init \
 seconds=${SECONDS_OF_TRAFFIC:-120} rate=${RATE:-50mbit} flood=${FLOOD:-30M} pause=${PAUSE:-0} requests=${REQUESTS:-5000} seed=${SEED:-1}" < /dev/null || true
     tr -d '\r' < "$work/console" > "$build/$kind.console"
     echo "$release" > "$build/$kind.release"
@@ -76,9 +84,13 @@ for kind in ${1:-kasan kcsan}; do
     echo "$me: $kind, Linux $(cat "$build/$kind.release")"
     sed -n 's/^TOLD/ /p' "$console"
     if [ "$kind" = kcsan ]; then
-        # KCSAN reports races of the whole kernel; those with a function of the module count
+        if ! grep -q 'setup_watchpoints: [1-9]' "$console"; then
+            echo "$me: KCSAN was not at work" >&2
+            exit 1
+        fi
+        # those with a function of the module count
         echo "  KCSAN: $(grep -c 'BUG: KCSAN' "$console" || true) reports elsewhere"
-        if grep -A 40 'BUG: KCSAN' "$console" | grep -E '\b(pr|pie)_[a-z_]+\+0x'; then
+        if grep -A 40 'BUG: KCSAN' "$console" | grep -E '(data-race in|/) (pr|pie)_[a-z_]+|\b(pr|pie)_[a-z_]+\+0x'; then
             echo "$me: a data race of the module" >&2
             exit 1
         fi

@@ -72,21 +72,22 @@ struct pr_record {
  * The statistics are flight.stats. Both are used without a record too.
  */
 struct pr_sched {
+	/* not `pie`, whose address would be the queue's, and stay in a register between calls */
+	struct pr_random random;
 	struct pie_state pie;
 	struct pie_flight flight;
 	/* the events of the call under way: on the stack they would be zeroed first */
 	struct pie_event arrival;
 	struct pie_event departure;
 	struct pie_event other;
-	struct pr_random random;
 	u64 hash_key;
 	u32 room;		/* the most packets */
 	u32 next_tag;
 	bool ecn;
 	bool flows;
 	u64 purged;
+	u64 maxq;
 	u32 refused;	/* packets that a call refused */
-	u32 maxq;
 	struct hrtimer timer;
 	spinlock_t lock; /* the timer against a reset without the tree's lock, before destroy */
 	struct Qdisc *sch;
@@ -99,13 +100,12 @@ struct pr_sched {
 	bool is_open;
 };
 
-/* What a packet carries while it is queued. */
+/* What a packet carries while it is queued. Of a queue without a record, `since` alone. */
 struct pr_cb {
+	u64 since;	/* the moment of its arrival */
 	u64 tag;
-	u64 since;	/* the moment of arrival, and the ECN field above */
-};
-
-#define PR_ECN_SHIFT 60
+	u32 ecn;	/* its ECN field on departure */
+} __packed __aligned(4);
 
 static struct pr_cb *pr_cb(const struct sk_buff *skb)
 {
@@ -124,38 +124,39 @@ static noinline void pr_snapshot(struct pr_sched *q)
 }
 
 /* Ends the recording of an event. */
-static void pr_kept(struct pr_sched *q, const struct pie_flight_burst *burst)
+static __always_inline void pr_kept(struct pr_sched *q, const struct pie_flight_burst *burst)
 {
 	pie_flight_end(&q->flight, burst);
-	if (unlikely(pie_flight_is_due(&q->flight)))
+	if (unlikely(burst->count >= q->flight.next))
 		pr_snapshot(q);
 }
 
-/* Records q->arrival. */
-static __always_inline void pr_keep_arrival(struct pr_sched *q)
+/* Records q->arrival, of a packet with the tag `tag`. */
+static __always_inline void pr_keep_arrival(struct pr_sched *q, u64 tag, u32 size, u32 ecn,
+					    u32 verdict)
 {
-	const struct pie_event *event = &q->arrival;
 	struct pie_flight_burst burst = pie_flight_begin(&q->flight);
 
-	pie_flight_arrive(&burst, event->moment, event->tag, event->word, event->size, event->ecn,
-			  event->answer, PR_ENQUEUE);
+	pie_flight_arrive(&burst, q->arrival.moment, tag, q->arrival.word, size, (u8)ecn, verdict,
+			  PR_ENQUEUE);
 	pr_kept(q, &burst);
 }
 
-/* Records q->departure, of a packet that arrived at `since`. */
-static __always_inline void pr_keep_departure(struct pr_sched *q, u64 since)
+/* Records q->departure, of a packet that carried `cb`. */
+static __always_inline void pr_keep_departure(struct pr_sched *q, const struct pr_cb *cb,
+					      u32 caller)
 {
 	const struct pie_event *event = &q->departure;
 	struct pie_stats *stats = &q->flight.stats;
 	struct pie_flight_burst burst = pie_flight_begin(&q->flight);
-	u64 waited = q->pie.moment - since;
+	u64 since = cb->since, waited = q->pie.moment - since;
+	u32 size = event->size;
 
 	stats->left++;
-	stats->left_bytes += event->size;
+	stats->left_bytes += size;
 	stats->waited += waited;
 	stats->waited_high += stats->waited < waited;
-	pie_flight_depart(&burst, event->moment, event->tag, since, event->size, event->ecn,
-			  event->caller);
+	pie_flight_depart(&burst, event->moment, cb->tag, since, size, (u8)cb->ecn, caller);
 	pr_kept(q, &burst);
 }
 
@@ -202,22 +203,14 @@ static noinline u32 pr_ecn_of_any(struct sk_buff *skb)
 /* Returns the packet's ECN field; not-ECT if it has none or could not be marked. */
 static __always_inline u32 pr_ecn(struct sk_buff *skb)
 {
-	const u8 *header = skb_network_header(skb);
-
 	/* most packets: IPv4, with a header that no other packet shares */
 	if (likely(skb->protocol == htons(ETH_P_IP) && !skb_cloned(skb) &&
-		   header + sizeof(struct iphdr) <= skb_tail_pointer(skb)))
-		return ipv4_get_dsfield((const struct iphdr *)header) & INET_ECN_MASK;
+		   pr_has_header(skb, sizeof(struct iphdr))))
+		return ipv4_get_dsfield(ip_hdr(skb)) & INET_ECN_MASK;
 	return pr_ecn_of_any(skb);
 }
 
-/* Marks a packet, which can be marked. */
-static noinline void pr_mark(struct sk_buff *skb)
-{
-	INET_ECN_set_ce(skb);
-}
-
-/* Returns the flow of a packet, whose addresses are in the record if there was a place. */
+/* Returns a packet's flow, whose addresses are in the record if there was a place. */
 static __always_inline u32 pr_flow(struct pr_sched *q, struct sk_buff *skb)
 {
 	bool is_hashed = skb->l4_hash || skb->sw_hash;
@@ -225,13 +218,15 @@ static __always_inline u32 pr_flow(struct pr_sched *q, struct sk_buff *skb)
 	struct pie_recorded_flow *place = &q->places[flow % PIE_RECORDED_FLOWS];
 
 	if (unlikely(place->flow != flow))
-		pr_write_flow(place, skb, flow, q->arrival.moment);
+		flow = pr_write_flow(place, skb, flow, q->arrival.moment);
 	return flow;
 }
 
-/* Counts and records an arrival whose packet is dropped. */
-static noinline void pr_dropped(struct pr_sched *q, u32 verdict)
+/* Counts and records an arrival, and drops its packet. */
+static noinline int pr_drop(struct sk_buff *skb, struct Qdisc *sch, struct sk_buff **to_free,
+			    u64 tag, u32 verdict)
 {
+	struct pr_sched *q = qdisc_priv(sch);
 	struct pie_stats *stats = &q->flight.stats;
 
 	switch (verdict) {
@@ -247,11 +242,55 @@ static noinline void pr_dropped(struct pr_sched *q, u32 verdict)
 	default:
 		/* nothing was decided: a size above 65535, as a stab can make */
 		q->refused++;
-		return;
+		return qdisc_drop(skb, sch, to_free);
 	}
 	q->next_tag++;
 	if (q->record)
-		pr_keep_arrival(q);
+		pr_keep_arrival(q, tag, q->arrival.size, q->arrival.ecn, verdict);
+	return qdisc_drop(skb, sch, to_free);
+}
+
+/* Enqueues the packet of q->arrival, and records the arrival. */
+static __always_inline int pr_queue(struct sk_buff *skb, struct Qdisc *sch, u64 tag, u32 verdict,
+				    const bool is_recorded)
+{
+	struct pr_sched *q = qdisc_priv(sch);
+	struct pie_stats *stats = &q->flight.stats;
+	u32 size = q->arrival.size, ecn = q->arrival.ecn;
+	u64 since = q->pie.moment;
+
+	pr_cb(skb)->since = since;
+	if (is_recorded) {
+		/* in registers: after a barrier, q->arrival would be read again */
+		const struct pie_event event = { .tag = tag, .size = size };
+		u32 leaving = verdict == PIE_MARK ? (u32)PIE_CE : ecn;
+
+		q->next_tag++;
+		pr_cb(skb)->tag = tag;
+		pr_cb(skb)->ecn = leaving;
+		pie_flight_came(&q->flight, &event, since, leaving);
+		if (q->flight.bytes > stats->largest_queue)
+			stats->largest_queue = q->flight.bytes;
+	} else {
+		q->flight.packets++;
+		q->flight.bytes += size;
+	}
+	if (q->flight.packets > q->maxq)
+		q->maxq = q->flight.packets;
+	qdisc_enqueue_tail(skb, sch);
+	if (is_recorded)
+		pr_keep_arrival(q, tag, size, ecn, verdict);
+	return NET_XMIT_SUCCESS;
+}
+
+/* Marks a packet, which can be marked, and enqueues it. */
+static noinline int pr_queue_marked(struct sk_buff *skb, struct Qdisc *sch, u64 tag)
+{
+	struct pr_sched *q = qdisc_priv(sch);
+
+	INET_ECN_set_ce(skb);
+	q->flight.stats.marked++;
+	return pr_queue(skb, sch, tag, PIE_MARK, q->record);
 }
 
 /* Enqueues or drops a packet that needs no segmentation. A tag is only for the record. */
@@ -259,47 +298,27 @@ static __always_inline int pr_enqueue_one(struct sk_buff *skb, struct Qdisc *sch
 					  struct sk_buff **to_free, const bool is_recorded)
 {
 	struct pr_sched *q = qdisc_priv(sch);
-	struct pie_event *event = &q->arrival;
-	struct pie_stats *stats = &q->flight.stats;
-	u64 ecn, since;
+	u64 tag = 0;
 	u32 verdict;
 
-	event->moment = ktime_get_ns();
-	if (is_recorded)
-		event->tag = q->next_tag | (q->flows ? (u64)pr_flow(q, skb) << 32 : 0);
-	event->word = pr_word(&q->random, event->moment);
-	event->size = qdisc_pkt_len(skb);
-	ecn = q->ecn ? pr_ecn(skb) : PIE_NOT_ECT;
-	event->ecn = ecn;
-	verdict = pie_arrive_event(&q->pie, q->flight.bytes, q->room - (u32)q->flight.packets,
-				   event);
-	if (likely(verdict == PIE_ENQUEUE)) {
-		stats->enqueued++;
-	} else if (verdict == PIE_MARK) {
-		pr_mark(skb);
-		ecn = PIE_CE;
-		stats->marked++;
-	} else {
-		pr_dropped(q, verdict);
-		return qdisc_drop(skb, sch, to_free);
-	}
-	since = q->pie.moment;
+	q->arrival.moment = ktime_get_ns();
+	q->arrival.size = qdisc_pkt_len(skb);
+	q->arrival.ecn = q->ecn ? pr_ecn(skb) : PIE_NOT_ECT;
 	if (is_recorded) {
-		q->next_tag++;
-		pr_cb(skb)->tag = event->tag;
-		pr_cb(skb)->since = since | ecn << PR_ECN_SHIFT;
-		pie_flight_came(&q->flight, event, since, ecn);
-		if (q->flight.bytes > stats->largest_queue)
-			stats->largest_queue = q->flight.bytes;
-		pr_keep_arrival(q);
-	} else {
-		pr_cb(skb)->since = since;
-		q->flight.packets++;
-		q->flight.bytes += event->size;
+		if (q->flows)
+			tag = (u64)pr_flow(q, skb) << 32;
+		tag |= q->next_tag;
 	}
-	if (q->flight.packets > q->maxq)
-		q->maxq = q->flight.packets;
-	return qdisc_enqueue_tail(skb, sch);
+	q->arrival.word = pr_word(&q->random, q->arrival.moment);
+	verdict = pie_arrive_event(&q->pie, q->flight.bytes, q->room - (u32)q->flight.packets,
+				   &q->arrival);
+	if (likely(verdict == PIE_ENQUEUE)) {
+		q->flight.stats.enqueued++;
+		return pr_queue(skb, sch, tag, PIE_ENQUEUE, is_recorded);
+	}
+	if (verdict == PIE_MARK)
+		return pr_queue_marked(skb, sch, tag);
+	return pr_drop(skb, sch, to_free, tag, verdict);
 }
 
 static int pr_enqueue(struct sk_buff *skb, struct Qdisc *sch, struct sk_buff **to_free);
@@ -342,6 +361,12 @@ static noinline int pr_enqueue_recorded(struct sk_buff *skb, struct Qdisc *sch,
 	return pr_enqueue_one(skb, sch, to_free, true);
 }
 
+static noinline int pr_enqueue_unrecorded(struct sk_buff *skb, struct Qdisc *sch,
+					  struct sk_buff **to_free)
+{
+	return pr_enqueue_one(skb, sch, to_free, false);
+}
+
 static int pr_enqueue(struct sk_buff *skb, struct Qdisc *sch, struct sk_buff **to_free)
 {
 	const struct pr_sched *q = qdisc_priv(sch);
@@ -350,30 +375,22 @@ static int pr_enqueue(struct sk_buff *skb, struct Qdisc *sch, struct sk_buff **t
 		return pr_enqueue_gso(skb, sch, to_free);
 	if (q->record)
 		return pr_enqueue_recorded(skb, sch, to_free);
-	return pr_enqueue_one(skb, sch, to_free, false);
+	return pr_enqueue_unrecorded(skb, sch, to_free);
 }
 
-/* A packet has left the queue, by q->departure.caller. */
-static __always_inline void pr_left(struct pr_sched *q, const struct sk_buff *skb,
-				    const bool is_recorded)
+/* Decides and records the departure of a packet, which is no longer in the queue. */
+static __always_inline void pr_left(struct pr_sched *q, const struct sk_buff *skb, u32 caller)
 {
-	struct pr_cb *cb = pr_cb(skb);
-	struct pie_event *event = &q->departure;
-	u64 since = cb->since;
+	const struct pr_cb *cb = pr_cb(skb);
 	u32 answer;
 
-	event->moment = ktime_get_ns();
-	event->size = qdisc_pkt_len(skb);
-	if (is_recorded) {
-		event->tag = cb->tag;
-		event->ecn = since >> PR_ECN_SHIFT;
-		since &= BIT_ULL(PR_ECN_SHIFT) - 1;
-	}
+	q->departure.moment = ktime_get_ns();
+	q->departure.size = qdisc_pkt_len(skb);
 	q->flight.packets--;
-	q->flight.bytes -= event->size;
-	answer = pie_depart_event(&q->pie, q->flight.bytes, since, event);
-	if (is_recorded && likely(answer == PIE_DONE))
-		pr_keep_departure(q, since);
+	q->flight.bytes -= q->departure.size;
+	answer = pie_depart_event(&q->pie, q->flight.bytes, cb->since, &q->departure);
+	if (q->record && likely(answer == PIE_DONE))
+		pr_keep_departure(q, cb, caller);
 }
 
 static struct sk_buff *pr_dequeue(struct Qdisc *sch)
@@ -383,10 +400,7 @@ static struct sk_buff *pr_dequeue(struct Qdisc *sch)
 
 	if (unlikely(!skb))
 		return skb;
-	if (q->record)
-		pr_left(q, skb, true);
-	else
-		pr_left(q, skb, false);
+	pr_left(q, skb, PR_DEQUEUE);
 	return skb;
 }
 
@@ -509,6 +523,8 @@ static bool pr_flag(const struct nlattr *attr, bool otherwise)
 	return attr ? nla_get_u32(attr) != 0 : otherwise;
 }
 
+#define PR_FIXED(option) option " is fixed when the qdisc is added: delete it and add it again"
+
 /* Refuses a change of what belongs to the opening. Its present value is no change. */
 static int pr_check_opening(const struct pr_sched *q, struct nlattr **tb,
 			    struct netlink_ext_ack *extack)
@@ -518,15 +534,15 @@ static int pr_check_opening(const struct pr_sched *q, struct nlattr **tb,
 	bool is_half = q->pie.choices & PIE_DECAY_HALF;
 
 	if (pr_number(tb[TCA_PIE_LIMIT], q->room) != q->room)
-		NL_SET_ERR_MSG(extack, "limit belongs to the opening: replace the qdisc");
+		NL_SET_ERR_MSG(extack, PR_FIXED("limit"));
 	else if (pr_flag(tb[TCA_PIE_BYTEMODE], is_scaled) != is_scaled)
-		NL_SET_ERR_MSG(extack, "bytemode belongs to the opening: replace the qdisc");
+		NL_SET_ERR_MSG(extack, PR_FIXED("bytemode"));
 	else if (pr_flag(tb[TCA_PIE_DQ_RATE_ESTIMATOR], is_rate) != is_rate)
-		NL_SET_ERR_MSG(extack, "dq_rate_estimator belongs to the opening: replace qdisc");
+		NL_SET_ERR_MSG(extack, PR_FIXED("dq_rate_estimator"));
 	else if (pr_flag(tb[TCA_PIE_RECORDED_DECAY], is_half) != is_half)
-		NL_SET_ERR_MSG(extack, "decay belongs to the opening: replace the qdisc");
+		NL_SET_ERR_MSG(extack, PR_FIXED("decay"));
 	else if (pr_number(tb[TCA_PIE_RECORDED_EVENTS], q->events) != q->events)
-		NL_SET_ERR_MSG(extack, "events belongs to the opening: replace the qdisc");
+		NL_SET_ERR_MSG(extack, PR_FIXED("events"));
 	else
 		return 0;
 	return -EOPNOTSUPP;
@@ -716,8 +732,6 @@ static int pr_init(struct Qdisc *sch, struct nlattr *opt, struct netlink_ext_ack
 	}
 	q->room = opening.packets;
 	sch->limit = q->room;
-	q->arrival.caller = PR_ENQUEUE;
-	q->departure.caller = PR_DEQUEUE;
 	get_random_bytes(&q->random, sizeof(q->random));
 	q->hash_key = get_random_u64();
 	err = pr_record_open(q, &opening, extack);
@@ -740,12 +754,10 @@ static void pr_reset(struct Qdisc *sch)
 
 	if (q->is_open) {
 		spin_lock_bh(&q->lock);
-		q->departure.caller = PR_PURGE;
 		for (skb = sch->q.head; skb; skb = skb->next) {
-			pr_left(q, skb, q->record);
+			pr_left(q, skb, PR_PURGE);
 			q->purged++;
 		}
-		q->departure.caller = PR_DEQUEUE;
 		q->other.moment = ktime_get_ns();
 		q->other.caller = PR_PURGE;
 		pie_reset_event(&q->pie, &q->other);

@@ -20,6 +20,7 @@
 #undef pie_stats
 
 #include "pie.h"
+#include "pie_random.h"
 #include "queues.h"
 
 #define KINDS 4
@@ -179,8 +180,11 @@ void queue_consider(void *queue, int is_considered)
 		vars->burst_time = is_considered ? 0 : PSCHED_NS2TICKS(150 * NSEC_PER_MSEC);
 		vars->prob = is_considered ? MAX_PROB / 100 : 0;
 	} else if (!strcmp(sch->ops->id, "pie_recorded")) {
-		struct pie_state *pie = qdisc_priv(sch);
+		/* after the generator of random words (struct pr_sched) */
+		struct pie_state *pie = qdisc_priv(sch) + sizeof(struct pr_random);
 
+		if (pie->params.target != 15 * NSEC_PER_MSEC)
+			__builtin_trap();
 		pie->burst = is_considered ? 0 : 150 * NSEC_PER_MSEC;
 		pie->prob = is_considered ? PIE_ONE / 100 : 0;
 		pie->old_delay = is_considered ? 20 * NSEC_PER_MSEC : 0;

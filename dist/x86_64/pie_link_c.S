@@ -1315,7 +1315,7 @@
 	cmpb	$0, 1(%rdi)
 	je	.LBB12_3
 	movq	128(%rdi), %rax
-	jmp	.LBB12_18
+	jmp	.LBB12_16
 .LBB12_1:
 	movq	%rbx, 160(%rdi)
 	xorl	%eax, %eax
@@ -1330,7 +1330,7 @@
 	xorl	%esi, %esi
 	popcntq	%rcx, %rsi
 	cmpl	$1, %esi
-	jne	.LBB12_12
+	jne	.LBB12_13
 	rep		bsfq	%rcx, %rsi
 	addq	$-10, %rsi
 	cmpq	$6, %rsi
@@ -1339,14 +1339,13 @@
 	movslq	(%rcx,%rsi,4), %rsi
 	addq	%rcx, %rsi
 	jmpq	*%rsi
-.LBB12_15:
+.LBB12_6:
 	shrdq	$10, %rdx, %rax
 	shrq	$10, %rdx
-	jmp	.LBB12_16
-.LBB12_12:
-	testq	%rcx, %rcx
-	je	.LBB12_14
+	jmp	.LBB12_14
 .LBB12_13:
+	cmpq	$1, %rcx
+	adcq	$0, %rcx
 	movq	%rdi, %r14
 	movq	%rax, %rdi
 	movq	%rdx, %rsi
@@ -1354,13 +1353,13 @@
 	xorl	%ecx, %ecx
 	callq	__udivti3@PLT
 	movq	%r14, %rdi
-.LBB12_16:
+.LBB12_14:
 	movabsq	$1099511627776, %rcx
 	cmpq	%rcx, %rax
 	cmovaeq	%rcx, %rax
 	testq	%rdx, %rdx
 	cmovneq	%rcx, %rax
-.LBB12_18:
+.LBB12_16:
 	movzbl	5(%rdi), %r9d
 	movq	136(%rdi), %rcx
 	movq	144(%rdi), %rsi
@@ -1373,95 +1372,95 @@
 	imulq	40(%rdi), %rdx
 	addq	%r10, %rdx
 	cmpq	$999999, %rcx
-	ja	.LBB12_20
+	ja	.LBB12_18
 	leaq	2047(%rdx), %r10
 	testq	%rdx, %rdx
 	cmovnsq	%rdx, %r10
 	sarq	$11, %r10
 	movq	%r10, %rdx
-	jmp	.LBB12_32
-.LBB12_20:
+	jmp	.LBB12_30
+.LBB12_18:
 	cmpq	$9999999, %rcx
-	ja	.LBB12_22
+	ja	.LBB12_20
 	leaq	511(%rdx), %r10
 	testq	%rdx, %rdx
 	cmovnsq	%rdx, %r10
 	sarq	$9, %r10
 	movq	%r10, %rdx
-	jmp	.LBB12_32
-.LBB12_22:
+	jmp	.LBB12_30
+.LBB12_20:
 	cmpq	$99999999, %rcx
-	ja	.LBB12_24
+	ja	.LBB12_22
 	leaq	127(%rdx), %r10
 	testq	%rdx, %rdx
 	cmovnsq	%rdx, %r10
 	sarq	$7, %r10
 	movq	%r10, %rdx
-	jmp	.LBB12_32
-.LBB12_24:
+	jmp	.LBB12_30
+.LBB12_22:
 	cmpq	$999999999, %rcx
-	ja	.LBB12_26
+	ja	.LBB12_24
 	leaq	31(%rdx), %r10
 	testq	%rdx, %rdx
 	cmovnsq	%rdx, %r10
 	sarq	$5, %r10
 	movq	%r10, %rdx
-	jmp	.LBB12_32
-.LBB12_26:
+	jmp	.LBB12_30
+.LBB12_24:
 	movq	%rcx, %r10
 	shrq	$10, %r10
 	cmpq	$9765624, %r10
-	ja	.LBB12_28
+	ja	.LBB12_26
 	leaq	7(%rdx), %r10
 	testq	%rdx, %rdx
 	cmovnsq	%rdx, %r10
 	sarq	$3, %r10
 	movq	%r10, %rdx
-	jmp	.LBB12_32
-.LBB12_28:
+	jmp	.LBB12_30
+.LBB12_26:
 	movq	%rcx, %r10
 	shrq	$11, %r10
 	cmpq	$48828124, %r10
-	ja	.LBB12_30
+	ja	.LBB12_28
 	movq	%rdx, %r10
 	shrq	$63, %r10
 	addq	%rdx, %r10
 	sarq	%r10
 	movq	%r10, %rdx
-	jmp	.LBB12_32
-.LBB12_9:
+	jmp	.LBB12_30
+.LBB12_10:
 	shrdq	$14, %rdx, %rax
 	shrq	$14, %rdx
-	jmp	.LBB12_16
-.LBB12_7:
+	jmp	.LBB12_14
+.LBB12_8:
 	shrdq	$12, %rdx, %rax
 	shrq	$12, %rdx
-	jmp	.LBB12_16
-.LBB12_8:
+	jmp	.LBB12_14
+.LBB12_9:
 	shrdq	$13, %rdx, %rax
 	shrq	$13, %rdx
-	jmp	.LBB12_16
-.LBB12_6:
+	jmp	.LBB12_14
+.LBB12_7:
 	shrdq	$11, %rdx, %rax
 	shrq	$11, %rdx
-	jmp	.LBB12_16
-.LBB12_10:
+	jmp	.LBB12_14
+.LBB12_11:
 	shrdq	$15, %rdx, %rax
 	shrq	$15, %rdx
-	jmp	.LBB12_16
-.LBB12_11:
+	jmp	.LBB12_14
+.LBB12_12:
 	shrdq	$16, %rdx, %rax
 	shrq	$16, %rdx
-	jmp	.LBB12_16
-.LBB12_30:
+	jmp	.LBB12_14
+.LBB12_28:
 	cmpb	$0, 3(%rdi)
-	jne	.LBB12_32
+	jne	.LBB12_30
 	movabsq	$20000000000, %r10
 	cmpq	%r10, %rdx
 	cmovgeq	%r10, %rdx
-.LBB12_32:
+.LBB12_30:
 	testb	%r9b, %r9b
-	je	.LBB12_33
+	je	.LBB12_31
 	leaq	(%rax,%rax), %r9
 	cmpq	%r8, %r9
 	setae	%r9b
@@ -1470,8 +1469,8 @@
 	setae	%r10b
 	addq	%rcx, %rdx
 	orb	%r9b, %r10b
-	jne	.LBB12_36
-.LBB12_35:
+	jne	.LBB12_34
+.LBB12_33:
 	xorl	%ecx, %ecx
 	testq	%rdx, %rdx
 	cmovgq	%rdx, %rcx
@@ -1484,7 +1483,7 @@
 	movq	%rcx, %rax
 	mulq	%rdx
 	movq	%r9, %rax
-.LBB12_36:
+.LBB12_34:
 	xorl	%ecx, %ecx
 	testq	%rdx, %rdx
 	cmovgq	%rdx, %rcx
@@ -1492,20 +1491,20 @@
 	cmpq	%r9, %rcx
 	cmovgeq	%r9, %rcx
 	testq	%rdx, %rdx
-	jle	.LBB12_38
+	jle	.LBB12_36
 	movq	152(%rdi), %rsi
 	xorl	%edx, %edx
 	subq	16(%rdi), %rsi
 	cmovaeq	%rsi, %rdx
 	movb	$1, %sil
-	jmp	.LBB12_40
-.LBB12_33:
+	jmp	.LBB12_38
+.LBB12_31:
 	addq	%rcx, %rdx
 	movq	%rsi, %rcx
 	orq	%rax, %rcx
-	jne	.LBB12_36
-	jmp	.LBB12_35
-.LBB12_38:
+	jne	.LBB12_34
+	jmp	.LBB12_33
+.LBB12_36:
 	leaq	(%rax,%rax), %rdx
 	cmpq	%r8, %rdx
 	setae	%r9b
@@ -1518,10 +1517,10 @@
 	cmovaeq	%rsi, %rdx
 	movb	$1, %sil
 	orb	%r9b, %r8b
-	jne	.LBB12_40
+	jne	.LBB12_38
 	movq	24(%rdi), %rdx
 	xorl	%esi, %esi
-.LBB12_40:
+.LBB12_38:
 	movq	%rcx, 136(%rdi)
 	movq	%rax, 144(%rdi)
 	movq	%rdx, 152(%rdi)
@@ -1535,20 +1534,18 @@
 	popq	%rbx
 	popq	%r14
 	retq
-.LBB12_14:
-	ud2
 .Lfunc_end12:
 	.size	"pie_aqm::controller::Controller::update", .Lfunc_end12-"pie_aqm::controller::Controller::update"
 	.section	".rodata.pie_aqm::controller::Controller::update","a",@progbits
 	.p2align	2, 0x0
 .LJTI12_0:
-	.long	.LBB12_15-.LJTI12_0
 	.long	.LBB12_6-.LJTI12_0
 	.long	.LBB12_7-.LJTI12_0
 	.long	.LBB12_8-.LJTI12_0
 	.long	.LBB12_9-.LJTI12_0
 	.long	.LBB12_10-.LJTI12_0
 	.long	.LBB12_11-.LJTI12_0
+	.long	.LBB12_12-.LJTI12_0
 
 	.section	".text.pie_book::deciding_core::RawCore::set","ax",@progbits
 	.p2align	4

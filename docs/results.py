@@ -301,13 +301,21 @@ def longer():
     most, count = sum(it > 0 for it in found), len(found)
     chance = sum(math.comb(count, it) for it in range(most, count + 1)) / 2 ** count
     return (f"{most} of {count} parts. If longer and shorter were equally likely, at least {most} would be longer with a probability of "
-            f"{100 * chance:.0f} %")
+            f"{100 * chance:.{int(chance < 0.01)}f} %")
 
 
 def pooled():
     """Returns the mean of the differences over all parts after a start, each part with the same weight."""
     found = later_differences()
     return interval(judge(fmean(found), stdev(found) / math.sqrt(len(found)), len(found) - 1, margin("probe")), "probe")
+
+
+def without_hystart(field, digits=None):
+    """Returns the change of the difference between tail drop here and pfifo in the start of `four` if CUBIC has no HyStart, in the blocks of both."""
+    ours, theirs = ({queue: RUNS.values(scenario, queue, field, "start") for queue in ("tail", "pfifo")} for scenario in ("nohystart", "four"))
+    blocks = set.intersection(*(set(values) for it in (ours, theirs) for values in it.values()))
+    found = [ours["tail"][it] - ours["pfifo"][it] - theirs["tail"][it] + theirs["pfifo"][it] for it in blocks]
+    return f"{interval(judge(fmean(found), stdev(found) / math.sqrt(len(found)), len(found) - 1, margin(field)), field, digits)} {UNITS.get(field, 'ms')}"
 
 
 def blocks_needed(scenario, one, other, field, part, most=512):
@@ -334,7 +342,7 @@ def print_needs():
 
 
 # scenarios through both bottlenecks with the same algorithm
-SAME_ALGORITHM = ["full", "waves", "four"]
+SAME_ALGORITHM = ["full", "waves", "four", "nohystart", "reno", "short"]
 
 
 def same_calibration_table():

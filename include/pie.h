@@ -289,7 +289,7 @@ uint32_t pie_check_params(const struct pie_params *params);
 
 /* Fills `params` with the defaults for a link of `rate` bits per second. limit_bytes is 200 ms at that rate, but at least its
  * default and at most 2^30: so it is less than 200 ms above 42.9 Gbit/s, and 86 ms at 100 Gbit/s.
- * Notes: for links below 8.7 Mbit/s without PIE_DELAY_STAMP see dq_threshold in docs/LIBRARY.md. */
+ * Notes: for links below 17.5 Mbit/s without PIE_DELAY_STAMP see dq_threshold in docs/LIBRARY.md. */
 void pie_params_for(uint64_t rate, struct pie_params *params);
 
 /* Fills `opening` with the default opening for a link of `rate` bits per second: the parameters of pie_params_for and the

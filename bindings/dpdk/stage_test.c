@@ -614,14 +614,14 @@ int main(int count, char **words) {
         test_records();
         test_flows(1 << 14, 0);
         test_flows(0, 50);
-        test_threads(4000, 0, 0, 0);
-        test_threads(4000, 0, 2000, 0);
+        test_threads(800, 0, 0, 0);
+        test_threads(800, 0, 2000, 0);
     }
     test_cut_beside(10);
-    test_threads(1500, 1 << 14, 0, 0);
-    test_threads(1500, 0, 4000, 0);
-    test_threads(1500, 0, 0, 500000);
-    test_threads(1500, 1 << 14, 4000, 1000000);
+    test_threads(300, 1 << 14, 0, 0);
+    test_threads(300, 0, 4000, 0);
+    test_threads(300, 0, 0, 500000);
+    test_threads(300, 1 << 14, 4000, 1000000);
     rte_mempool_free(pool);
     rte_eal_cleanup();
     return 0;

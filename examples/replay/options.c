@@ -7,26 +7,26 @@
 static const char help_of_use[] =
     "replay [OPTIONS] CAPTURE [FILTER]\n"
     "\n"
-    "Sends the packets of a capture (pcap or pcapng; - is standard input) through a link with PIE (RFC 8033) in front of it, at the times\n"
-    "of the capture, and writes the history of every decision, for pie audit and pie explain. FILTER is in tcpdump's language: a capture\n"
-    "holds both directions, and a queue has one.\n"
+    "Sends the packets of a capture (pcap or pcapng; - is standard input) through a simulated link with PIE (RFC 8033), at the times of\n"
+    "the capture, and writes a history of all decisions for pie audit and pie explain. FILTER is a filter of tcpdump: a capture contains\n"
+    "both directions, a queue only one.\n"
     "\n"
-    "What it shows is which packets PIE would have dropped of this traffic as it was. What it cannot show is what the senders would have\n"
-    "done then: those of a capture don't answer, so a TCP that would slow down after a drop goes on here as it did. Delays and drops of an\n"
-    "overload are greater than they would be, and those after it come from traffic that would have been another one.\n"
+    "The history shows which packets of this traffic PIE would have dropped. It cannot show how the senders would have reacted: a TCP that\n"
+    "would slow down after a drop continues here as in the capture. So delays and drops in an overload are greater than on a real link,\n"
+    "and after an overload the traffic itself would have been different.\n"
     "\n"
-    "  -o FILE              the history; standard output where none is named\n"
+    "  -o FILE              the history; standard output by default\n"
     "  -w FILE              the capture as pcapng, with a comment at each packet that was dropped or marked\n"
-    "  --flows FILE         whose packets they are: a flow's number stands in the upper 32 bits of each tag, and FILE tells each number's\n"
-    "                       addresses and ports\n"
-    "  --seed 1             of the random words: the same seed, the same history\n"
-    "  --split 1500b        split larger packets, as offloading joins them before they are captured, into packets of so many bytes\n";
+    "  --flows FILE         put the flow's number into the upper 32 bits of each tag, and write the addresses and ports of each number\n"
+    "                       to FILE\n"
+    "  --seed 1             seed of the random words; equal seeds give equal histories\n"
+    "  --split 1500b        split packets above this size, which segmentation offload joined before the capture\n";
 
 static const char help_of_units[] =
     "\n"
-    "The options of the link are those of pie params. Times, rates and sizes are read as tc reads them, but never rounded. A packet has the\n"
-    "bytes of its IP header's length. A packet's tag in the history is its frame's number in the capture, from 1, as Wireshark numbers\n"
-    "them; with --flows the tag's lower 32 bits are. Caller 1 is the sender, 2 the link, 3 the timer. Example:\n"
+    "Times, rates and sizes have the units of tc and are never rounded. The size of a packet is the length in its IP header. Its tag in\n"
+    "the history, or with --flows the lower 32 bits of the tag, is the number of its frame in the capture, counted from 1 as in\n"
+    "Wireshark. Caller 1 is the sender, 2 the link, 3 the timer. Example:\n"
     "\n"
     "  replay --rate 50mbit --ecn -o history -w commented.pcapng yesterday.pcap 'dst net 192.0.2.0/24'\n";
 

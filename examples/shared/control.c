@@ -6,22 +6,22 @@
 #include <string.h>
 
 const char control_help[] =
-    "  --rate 10mbit        rate of the link: bit, kbit, mbit, gbit, tbit, and in bytes bps, kbps and so on\n"
-    "  --target 15ms        the wanted delay: s, ms, us, ns\n"
-    "  --tupdate 15ms       the time between two updates\n"
-    "  --limit 1000p        how many packets may wait; also --limit 256kb (b, kb of 1024 bytes, mb, gb): how many bytes, 200 ms at the\n"
-    "                       rate where nothing is said, and 256kb if that is more\n"
-    "  --alpha 2, --beta 20 the gains of tc, in sixteenths per second\n"
-    "  --ecn                mark packets whose ECN field allows it\n"
-    "  --delay stamp        what packets waited (stamp), or an estimate by the departure rate (rate, as --dq_rate_estimator)\n"
+    "  --rate 10mbit        rate of the link in bit, kbit, mbit, gbit, tbit, or in bytes: bps, kbps and so on\n"
+    "  --target 15ms        target delay in s, ms, us, ns\n"
+    "  --tupdate 15ms       time between updates\n"
+    "  --limit 1000p        limit of the queue in packets; also --limit 256kb in bytes (b, kb of 1024 bytes, mb, gb). The default in\n"
+    "                       bytes is 200 ms at the rate, at least 256kb\n"
+    "  --alpha 2, --beta 20 gains in the unit of tc, sixteenths per second\n"
+    "  --ecn                mark packets that are ECN-capable\n"
+    "  --delay stamp        delay from time stamps (stamp), or from the departure rate (rate, as --dq_rate_estimator)\n"
     "  --bytemode           pick a packet below the MTU less often, in proportion to its size; --mtu 1514b\n"
     "  --no_derandomization, --no_cap_drop_adjustment\n"
-    "                       packets picked by the random word alone, steps without a cap\n"
+    "                       pick packets by the random word alone; change the probability without a cap\n"
     "  --decay zero         the probability decays at delays of 0 (zero), or below half the target (half)\n"
-    "  --profile 1          1: always active; 2: turns itself on and off\n"
-    "  --queue pie          pie, or tail: only the limit drops (PIE with gains of 0, so that its history can be audited too)\n"
+    "  --profile 1          1: always active; 2: activated and deactivated by the load\n"
+    "  --queue pie          pie, or tail: only the limit drops (PIE with gains of 0, so that pie audit can check its history too)\n"
     "  --max_burst 150ms, --mean_pkt 1024b, --mark_ecnth 10%, --dq_threshold 16kb\n"
-    "                       the parameters of pie.h for which tc has no word\n";
+    "                       parameters of pie.h that tc does not have\n";
 
 /* The options that were given, in addition to those in the control. */
 struct said {

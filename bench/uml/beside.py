@@ -7,7 +7,8 @@ usage: bench/uml/beside.py PIE FOLDER [--blocks FIRST-LAST] [--kept COUNT] [NAME
        bench/uml/beside.py PIE FOLDER --queues stamp,pie [--blocks 1-2] OPTIONS         one scenario by options, as scenarios.py has them
   PIE        the built program; build/pie is what make builds
   --queues   of the link: tail, stamp, rate (the delay by the departure rate), half (the other decay), wide (a target of 20 ms), marks (ECN up to any
-             probability), slowwide (a target of 30 ms), mtu (a mean_pkt of 1514 bytes); of the kernel: pfifo, pie, pie-rate (dq_rate_estimator), pie-wide, fq_codel, cake
+             probability), slowwide (a target of 30 ms), mtu (a mean_pkt of 1514 bytes); of the kernel: pfifo, pie, pie-rate (dq_rate_estimator), pie-wide,
+             fq_codel, cake. NAME-again runs the queue once more, with other random words
   --blocks   the blocks of the scenario, as 1-2; all by default
   --kept     the number of blocks of each scenario whose files stay in the folder; 1 by default
   --late     also runs whose traffic began late: for a test in real time on a busy machine
@@ -156,6 +157,7 @@ class Plan:
 
 
 def queue_of(name, words):
+    name = name.removesuffix("-again")
     if name in OURS:
         more = ["--tupdate", "15ms"] + ["--ecn"] * words.ecn + (["--grant", words.grant] if words.grant else [])
         return {"kind": "ours", "words": OURS[name] + more}
@@ -450,9 +452,10 @@ def main():
         chosen["own"] = {"queues": dict.fromkeys(words.queues.split(","), last)}
     failed = []
     for name, it in chosen.items():
-        last = max(it["queues"].values())
+        queues = it["queues"] | it.get("again", {})
+        last = max(queues.values())
         for number in range(blocks[0], min(blocks[-1], last) + 1) if blocks else range(1, last + 1):
-            scenario = scenario_of(name, options(it["options"]) if "options" in it else words, it["queues"], [number])
+            scenario = scenario_of(name, options(it["options"]) if "options" in it else words, queues, [number])
             results, short = Table(folder / "results.csv", FIELDS), Table(folder / "short.csv", SHORT_FIELDS)
             failed += run(scenario, str(number), folder / name, program, results, short, words)
         tell(folder, name)

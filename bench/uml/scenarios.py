@@ -7,7 +7,8 @@ The sections of RFC 7928 are 4.5 (Interaction with ECN), 5 (Transport Protocols;
 from the RFC.
 
 A block is one draw of start times, round trips and short flows, and of the order of the queues; every queue of a scenario gets the same blocks, as
-many as it has: `cake:2` is a queue with 2 blocks, others have the number of the scenario.
+many as it has: `cake:2` is a queue with 2 blocks, others have the number of the scenario. The queues of TWICE run each of their blocks a second
+time with other random words, as `stamp-again` and `pie-again`: two runs of the same queue must agree.
 
 Options (beside.py takes the same):
   --seconds 12, --from 4          the length of a run; its parts are the first 4 s and the rest
@@ -74,6 +75,8 @@ TABLE = [
     ("fifty", "", "50 Mbit/s, 4 CUBIC", FIVE, 5, "--rate 50mbit --seconds 7 --from 3 --probe 50ms"),
     ("gigabit", "", "1 Gbit/s, 16 CUBIC", FIVE, 2, "--rate 1gbit --seconds 5 --from 2 --probe 10ms --flows 16:cubic:20ms"),
 ]
+# queues that run each block twice
+TWICE = ["stamp", "pie"]
 # scenarios that get the blocks of another
 SAME_BLOCKS = {"choices": "four", "nohystart": "four", "shortnohystart": "short", "probe20": "four", "probe200": "four",
                "hundred20": "hundred", "hundred200": "hundred", "bucket": "two"}
@@ -84,6 +87,7 @@ def queues_of(text, blocks):
     return {name: int(count or blocks) for name, _, count in (it.partition(":") for it in text.split(","))}
 
 
-SCENARIOS = {name: {"name": name, "section": section, "words": words, "queues": queues_of(queues, blocks), "options": shlex.split(options)}
+SCENARIOS = {name: {"name": name, "section": section, "words": words, "queues": queues_of(queues, blocks), "options": shlex.split(options),
+                    "again": {f"{queue}-again": count for queue, count in queues_of(queues, blocks).items() if queue in TWICE}}
              for name, section, words, queues, blocks, options in TABLE}
 SUITE = [name for name, it in SCENARIOS.items() if set(queues_of(FIVE, 1)) <= set(it["queues"])]

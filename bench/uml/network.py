@@ -10,6 +10,7 @@ usage: bench/uml/network.py FOLDER/BLOCK.json"""
 import contextlib
 import ctypes
 import json
+import math
 import os
 import shlex
 import socket
@@ -24,7 +25,9 @@ TRAFFIC = HERE / "out/traffic"
 LEAD = 3.0      # seconds from the bottleneck's start to the traffic's; the kernel's pie makes its first update half a second after it was made
 REST = 1.0      # seconds after the traffic, in which its last packets arrive
 MOST_BY_DEFAULT = 100e6     # bits a second that Linux's usual bound of a TCP flow's memory allows
+USUAL_MEMORY = 6 << 20      # bytes: the usual bound of a receiving TCP flow's memory
 TCP_MEMORY = 1 << 26        # bytes of a TCP flow above that rate
+BUCKET = 4e-6               # seconds: htb's least bucket
 PORT = 5201
 RECEIVER = "10.2.0.1"
 SPACES = ("senders", "bottleneck", "receivers")
@@ -96,9 +99,7 @@ class Run:
             do("ip link set lo up", space)
             set_number(space, "tcp_ecn", self.scenario["ecn"])
             set_number(space, "tcp_no_metrics_save", 1)
-            if max(rate for _, rate in self.rates) > MOST_BY_DEFAULT:
-                for name in ("tcp_rmem", "tcp_wmem"):
-                    set_number(space, name, f"4096 131072 {TCP_MEMORY}")
+            self.set_memory(space)
         (self.set_up_link if self.is_ours() else self.set_up_router)()
         for place in range(len(self.delays)):
             do(f"ip addr add 10.1.0.{place + 1}/24 dev senders", "senders")
@@ -109,6 +110,16 @@ class Run:
         do(f"ip route add 10.2.0.0/24 {ways[0]}", "senders")
         do(f"ip route add 10.1.0.0/24 {ways[1]}", "receivers")
         self.set_up_delays()
+
+    def set_memory(self, space):
+        """Sets the memory of TCP flows. A receiver has the greatest memory from the beginning. Otherwise Linux would enlarge its window step by step.
+        The steps, and with them the moments of ACKs, depend on the memory of a queued packet, which is 2304 bytes if it comes from the link's TUN
+        device, and fewer if it comes through the router."""
+        is_fast = max(rate for _, rate in self.rates) > MOST_BY_DEFAULT
+        most = TCP_MEMORY if is_fast else USUAL_MEMORY
+        set_number(space, "tcp_rmem", f"4096 {most} {most}")
+        if is_fast:
+            set_number(space, "tcp_wmem", f"4096 131072 {most}")
 
     def is_ours(self):
         return self.queue["kind"] == "ours"
@@ -126,7 +137,7 @@ class Run:
             do(f"ip -n bottleneck link set {device} netns {device}")
 
     def set_up_router(self):
-        """A router: htb has the rate, without the 14 bytes of an Ethernet header and without a bucket, and below it is the queue. A size table
+        """A router: htb has the rate, without the 14 bytes of an Ethernet header and with a small bucket, and below it is the queue. A size table
         (stab) counts the headers of a super-packet once. If senders pass super-packets, there is none, and the rate grows by the Ethernet headers
         of full packets."""
         for space, device in (("senders", "near"), ("receivers", "far")):
@@ -144,8 +155,9 @@ class Run:
         self.begun = time.time()
 
     def set_rate(self, rate, verb):
-        bucket = self.scenario["bucket"]
         rate = round(rate * 1514 / 1500) if self.scenario["offload"] else rate
+        # (the bucket makes up for timers that end late; tc drops fractions of a microsecond)
+        bucket = max(self.scenario["bucket"], math.ceil(rate / 8 * BUCKET))
         words = f"rate {rate}bit ceil {rate}bit burst {bucket}b cburst {bucket}b quantum 1514"
         do(f"tc class {verb} dev far parent 1: classid 1:1 htb {words}", "bottleneck")
 
@@ -164,6 +176,8 @@ class Run:
         self.set_up()
         # (in real time the machine may have been slow until here)
         begin = round(max(self.begun + LEAD, time.time() + LEAD / 2) * 1e9)
+        # (TCP's time stamps count milliseconds of the monotonic clock; all runs begin with a new one)
+        begin += (time.time_ns() - time.monotonic_ns() - begin) % 1_000_000
         ends = [("senders", "10.1.0.1", "back", self.plan["back"])] if self.plan["back"] else []
         ends.append(("receivers", RECEIVER, "there", self.plan["there"]))
         receivers, senders = [], []

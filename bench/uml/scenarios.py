@@ -20,7 +20,7 @@ Options (beside.py takes the same):
   --limit 200ms                   of each queue, in packets of 1500 bytes at the first rate
   --probe 100ms                   a probe each 100 ms; 200 ms below 10 Mbit/s
   --reverse 10mbit                the rate of the way back, with a tail drop queue of the same limit
-  --bucket 1                      bytes of htb's bucket
+  --bucket 1                      bytes of htb's bucket, which has at least the bytes of 4 us
   --ecn, --offload, --grant 5ms   TCP asks for ECN and queues mark; senders pass super-packets; the link sends at its grants
   --no-hystart                    CUBIC's slow start ends only at a loss"""
 import shlex

@@ -24,6 +24,7 @@
 #include <stdio.h>
 #include <stdlib.h>
 #include <string.h>
+#include <sys/prctl.h>
 #include <sys/socket.h>
 #include <time.h>
 #include <unistd.h>
@@ -32,7 +33,6 @@
 #define MOST_FLOWS 1024
 #define MOST_INTERVALS 1024
 #define INTERVAL 100000000 /* ns */
-#define LOOK 5000000       /* ns between two looks of the receiver; packets of UDP have their kernel's time stamp */
 #define UNSENT 32768       /* bytes of a TCP flow that its kernel holds and has not sent: few, so that a flow ends when it is due */
 #define NEVER INT64_MAX
 
@@ -79,9 +79,11 @@ static FILE *open_file(const char *name, const char *mode) {
     return file;
 }
 
-/* Waits for a descriptor, or until a moment. */
+/* Waits for a descriptor, or until a moment. A wait may end shortly before the moment, so that the caller waits again: Linux may end a wait late by a
+ * thousandth of its length. */
 static void wait_until(struct pollfd *files, nfds_t count, int64_t moment) {
     int64_t left = moment == NEVER ? 1000000000 : moment - now();
+    left -= left / 512;
     struct timespec timeout = {.tv_sec = left > 0 ? left / 1000000000 : 0, .tv_nsec = left > 0 ? left % 1000000000 : 0};
     if (ppoll(files, count, &timeout, NULL) < 0 && errno != EINTR)
         die("ppoll");
@@ -168,13 +170,11 @@ static int receive(char **words) {
     FILE *out = open_file(words[4], "w");
     nfds_t open = 2;
     int yes = 1;
-    const struct timespec pause = {.tv_nsec = LOOK};
     files[0] = (struct pollfd){.fd = listen_at(&place), .events = POLLIN};
     files[1] = (struct pollfd){.fd = socket(AF_INET, SOCK_DGRAM | SOCK_NONBLOCK, 0), .events = POLLIN};
     if (setsockopt(files[1].fd, SOL_SOCKET, SO_TIMESTAMPNS, &yes, sizeof yes) < 0 || bind(files[1].fd, (struct sockaddr *)&place, sizeof place) < 0)
         die("bind");
     while (!is_stopped) {
-        nanosleep(&pause, NULL);
         wait_until(files, open, NEVER);
         int64_t moment = now();
         if (files[1].revents != 0)
@@ -376,6 +376,9 @@ int main(int words_count, char **words) {
     struct sigaction action = {.sa_handler = stop};
     if (sigaction(SIGTERM, &action, NULL) < 0 || signal(SIGPIPE, SIG_IGN) == SIG_ERR)
         die("signals");
+    /* (by default Linux may end any wait 50 us late) */
+    if (prctl(PR_SET_TIMERSLACK, 1) != 0)
+        die("the timer slack");
     if (words_count == 5 && strcmp(words[1], "receive") == 0) {
         begin = strtoll(words[3], NULL, 10);
         return receive(words);

@@ -25,6 +25,7 @@
 #include <stdlib.h>
 #include <string.h>
 #include <sys/ioctl.h>
+#include <sys/prctl.h>
 #include <sys/random.h>
 #include <time.h>
 #include <unistd.h>
@@ -458,6 +459,9 @@ int main(int count, char **words) {
     int answer = read_options(count, words, &options);
     if (answer != OPTIONS_READ)
         return answer == OPTIONS_HELP ? 0 : 1;
+    /* (by default Linux ends a wait up to 50 us late, so that it can wake several threads at once) */
+    if (prctl(PR_SET_TIMERSLACK, 1) != 0)
+        die("the timer slack");
     hold_signals(&signals);
     open_link(&link, &options);
     while (!is_stopped && moment_of(&link) < options.lasts) {

@@ -193,7 +193,6 @@ def options(words=None):
     parser.add_argument("--ecn", action="store_true")
     parser.add_argument("--from", dest="beginning", type=float, default=4)
     parser.add_argument("--offload", action="store_true")
-    parser.add_argument("--no-hystart", action="store_true")
     return parser.parse_intermixed_args(words)
 
 
@@ -206,8 +205,7 @@ def scenario_of(name, words, queues, blocks):
     queues = {queue: queue_of(queue, words) | {"blocks": count} for queue, count in queues.items()}
     found = {"name": name, "seed": SAME_BLOCKS.get(name, name), "queues": queues, "seconds": seconds, "rates": rates, "groups": groups,
              "short": words.short, "ecn": int(words.ecn), "offload": words.offload, "bounds": bounds, "probe": probe, "bucket": words.bucket,
-             "reverse": rate_of(words.reverse) if words.reverse else 0, "linux": "tcp_cubic.hystart=0" if words.no_hystart else "",
-             "packets": max(1, int(rates[0][1] / 8 * number(words.limit, "ms", "s") / 1500))}
+             "reverse": rate_of(words.reverse) if words.reverse else 0, "packets": max(1, int(rates[0][1] / 8 * number(words.limit, "ms", "s") / 1500))}
     plans = {str(block): Plan(found, block) for block in blocks}
     found["blocks"] = {block: {"delays": plan.delays, "plan": plan.lines, "groups": plan.groups} for block, plan in plans.items()}
     return found
@@ -399,12 +397,9 @@ def run(scenario, number, folder, program, results, short, words):
     folder.mkdir(parents=True, exist_ok=True)
     (folder / f"{number}.json").write_text(json.dumps(scenario))
     linux = [str(HERE / "run.sh")] * (not os.environ.get("IN_USER_MODE_LINUX"))
-    if scenario["linux"] and not linux:
-        return [f"{scenario['name']}: run.sh must start its Linux, with {scenario['linux']}"]
     before = processor_seconds()
     with open(folder / "said", "w") as said:
-        subprocess.run([*linux, sys.executable, str(HERE / "network.py"), str(folder / f"{number}.json")], stderr=said,
-                       env=os.environ | {"UML_PARAMETERS": scenario["linux"]})
+        subprocess.run([*linux, sys.executable, str(HERE / "network.py"), str(folder / f"{number}.json")], stderr=said)
     failed, version, processor = [], version_of(), (processor_seconds() - before) / len(scenario["order"])
     for place in scenario["order"]:
         block, queue = place.split("-", 1)

@@ -21,8 +21,7 @@ Options (beside.py takes the same):
   --probe 100ms                   a probe each 100 ms; 200 ms below 10 Mbit/s
   --reverse 10mbit                the rate of the way back, with a tail drop queue of the same limit
   --bucket 1                      bytes of htb's bucket, which has at least the bytes of 4 us
-  --ecn, --offload, --grant 5ms   TCP asks for ECN and queues mark; senders pass super-packets; the link sends at its grants
-  --no-hystart                    CUBIC's slow start ends only at a loss"""
+  --ecn, --offload, --grant 5ms   TCP asks for ECN and queues mark; senders pass super-packets; the link sends at its grants"""
 import shlex
 
 # the queues of RFC 7928's suite: this link's PIE, and the kernel's pie, fq_codel, cake and pfifo
@@ -30,14 +29,13 @@ FIVE = "stamp,pie,fq_codel:3,cake:2,pfifo:2"
 
 # name, section of RFC 7928, words, queues, blocks, options; the most important ones come first
 TABLE = [
-    ("four", "5.1", "4 CUBIC", "tail:104,stamp,wide:6,pfifo:104,pie,fq_codel:6,cake:2", 20, ""),
-    ("full", "", "UDP of 12 Mbit/s alone", "tail,pfifo", 12, "--seconds 8 --from 2 --flows 1:udp=12mbit:20ms"),
+    ("four", "5.1", "4 CUBIC", "tail,stamp,wide:6,pfifo,pie,fq_codel:6,cake:2", 20, ""),
+    ("full", "", "UDP of 12 Mbit/s alone", "tail,pfifo", 12, "--seconds 8 --from 2 --probe 20ms --flows 1:udp=12mbit:20ms"),
     ("waves", "", "UDP of 7 Mbit/s, and bursts of 200 packets", "tail,pfifo", 3,
      "--seconds 8 --from 2 --probe 20ms --flows 1:udp=7mbit:20ms 1:burst=200x1s:20ms"),
-    ("reno", "", "4 Reno", "tail,pfifo", 88, "--flows 4:reno:20ms"),
-    ("nohystart", "", "4 CUBIC without HyStart", "tail,pfifo", 48, "--no-hystart"),
+    ("reno", "", "4 Reno", "tail,pfifo", 20, "--flows 4:reno:20ms"),
     ("two", "", "2 Mbit/s, 4 CUBIC", FIVE, 8, "--rate 2mbit --seconds 25 --from 5"),
-    ("slow", "", "0.5 Mbit/s, 4 CUBIC, limit 1 s", f"{FIVE},slowwide:12,mtu", 12, "--rate 500kbit --limit 1s --seconds 40 --from 10"),
+    ("slow", "", "0.5 Mbit/s, 4 CUBIC, limit 1 s", f"{FIVE},slowwide:6,mtu", 12, "--rate 500kbit --limit 1s --seconds 40 --from 10"),
     ("far", "6", "4 CUBIC, 100 ms", f"{FIVE},half:10,wide:4", 18, "--flows 4:cubic:100ms"),
     ("udp", "5.3", "4 CUBIC, UDP of 12 Mbit/s", FIVE, 20, "--flows 4:cubic:20ms 1:udp=12mbit:20ms"),
     ("choices", "", "4 CUBIC", "half,rate,pie-rate,cake", 4, ""),
@@ -53,10 +51,8 @@ TABLE = [
     ("ecn", "4.5", "4 CUBIC, ECN", FIVE, 24, "--ecn"),
     ("ecnudp", "5.3", "4 CUBIC, ECN, ECN-capable UDP of 12 Mbit/s", f"{FIVE},marks", 3, "--ecn --flows 4:cubic:20ms 1:ect=12mbit:20ms"),
     ("ecnmany", "4.5", "16 CUBIC, ECN", "stamp,marks", 3, "--ecn --flows 16:cubic:20ms"),
-    ("short", "7", "1 CUBIC, short flows", "stamp,pie,fq_codel:3,cake:2,pfifo:72,tail:72", 3,
+    ("short", "7", "1 CUBIC, short flows", "stamp:3,pie:3,fq_codel:3,cake:2,pfifo,tail", 20,
      "--seconds 20 --flows 1:cubic:20ms --short 1460x2,14600x2,146000x0.5,730000x0.1"),
-    ("shortnohystart", "", "1 CUBIC without HyStart, short flows", "tail,pfifo", 24,
-     "--seconds 20 --flows 1:cubic:20ms --short 1460x2,14600x2,146000x0.5,730000x0.1 --no-hystart"),
     ("one", "8", "1 CUBIC", FIVE, 10, "--flows 1:cubic:20ms"),
     ("tight", "", "4 CUBIC, limit 10 ms", "stamp,pie", 10, "--limit 10ms"),
     ("back", "9.2", "4 CUBIC each way", FIVE, 4, "--reverse 10mbit --flows 4:cubic:20ms back:4:cubic:20ms"),
@@ -70,16 +66,15 @@ TABLE = [
     ("sixteen", "8", "16 CUBIC", FIVE, 10, "--flows 16:cubic:20ms"),
     ("onoff", "8.2.5", "2 CUBIC, and 16 more from 5 to 10 s", f"{FIVE},half", 3,
      "--seconds 15 --from 0 --flows 2:cubic:20ms 8:cubic:20ms:5s-10s 8:cubic:20ms:5s-10s"),
-    ("grant30", "", "4 CUBIC, grants of 30 ms", "stamp,rate", 3, "--grant 30ms"),
-    ("bucket", "", "2 Mbit/s, 4 CUBIC, a bucket of 1514 bytes in htb", "pie", 6, "--rate 2mbit --seconds 25 --from 5 --bucket 1514"),
+    ("grant30", "", "4 CUBIC, grants of 30 ms", "stamp,rate", 2, "--grant 30ms"),
+    ("bucket", "", "2 Mbit/s, 4 CUBIC, a bucket of 1514 bytes in htb", "pie", 4, "--rate 2mbit --seconds 25 --from 5 --bucket 1514"),
     ("fifty", "", "50 Mbit/s, 4 CUBIC", FIVE, 5, "--rate 50mbit --seconds 7 --from 3 --probe 50ms"),
     ("gigabit", "", "1 Gbit/s, 16 CUBIC", FIVE, 2, "--rate 1gbit --seconds 5 --from 2 --probe 10ms --flows 16:cubic:20ms"),
 ]
 # queues that run each block twice
 TWICE = ["stamp", "pie"]
 # scenarios that get the blocks of another
-SAME_BLOCKS = {"choices": "four", "nohystart": "four", "shortnohystart": "short", "probe20": "four", "probe200": "four",
-               "hundred20": "hundred", "hundred200": "hundred", "bucket": "two"}
+SAME_BLOCKS = {"choices": "four", "probe20": "four", "probe200": "four", "hundred20": "hundred", "hundred200": "hundred", "bucket": "two"}
 
 
 def queues_of(text, blocks):

@@ -90,7 +90,7 @@ change-read row caller moment asks who when few small e =
   where
     by : (p : RawParams) → ParamsRead row p → (bad : Option Field) → first_bad p ≡ bad → Says (Ok (change_to caller moment p bad)) asks
         → Reads row kind.Params asks
-    by p read moment good e = grind (arith, nat_tests, read-as, fits-of-nine)
+    by p read first bad e = grind (arith, nat_tests, read-as, fits-of-nine)
 
 pub command-read : (row : Row) (k : CommandKind) (asks : CommandFields) → Says (command_at row k) asks → Reads row k asks
 unfolding command_at command_fields

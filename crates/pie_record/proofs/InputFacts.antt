@@ -95,16 +95,13 @@ pub read-through : {E : Type 0} (before after : Option (List ℕ)) (bytes buf : 
     → ReadConsumes (prepend_known (slice_range bytes at end) before) (prepend_known (slice_range bytes at end) after) result buf
 read-through before after bytes buf at end result over read = rw (none-ahead bytes at end over, prepend-nil before, prepend-nil after) read
 
-first-part : (bytes : List ℕ) (at count end : ℕ) → count ≤ end - at → slice_range bytes at (at + count) ≡ take count (slice_range bytes at end)
-first-part bytes at count end within = grind (arith, nat_tests, take-take)
-
 module _ (known : Option (List ℕ)) (bytes all copied rest : List ℕ) (at end count : ℕ) (same : bytes ≡ all) (within : count ≤ end - at) (inside : end ≤ length all)
     (is : copied ≡ slice_range all at (at + count)) where
   copied-long : length copied ≡ count
   copied-long = grind (arith, nat_tests, length-take, length-drop, within, inside)
 
   copied-is : take count (copied ++ rest) ≡ take count (slice_range bytes at end)
-  copied-is = grind (arith, nat_tests, copied-long, take-append_seam, first-part, within)
+  copied-is = grind (arith, nat_tests, copied-long, take-append_seam, take-take, within)
 
   ahead-long : count ≤ length (slice_range bytes at end)
   ahead-long = grind (arith, nat_tests, whole, length-take, length-drop, within, inside)

@@ -204,8 +204,7 @@ params-behind a b c params more fits = params-back params more fits
 -- the fields of a command are read back, whatever fields follow
 pub command-back : (asks : CommandFields) (more : Row) → CommandFieldsFit asks → command_at (command_row_fields asks ++ more) (command_row_kind asks) ≡ Ok asks
 unfolding command_at arrival_at change_at packet_at field_at command_fields
-command-back (asked.Command caller (Arrive moment packet word)) more f =
-    rw (back_u16 _ f.0, back_u64 _ f.1.0, back_u64 _ f.1.1.tag, back_u32 _ f.1.1.size, back_ecn packet.ecn, back_u64 _ f.1.2) refl
+command-back (asked.Command caller (Arrive moment packet word)) more f = grind (arith, nat_tests, back_u16, back_u64, back_u32, back_ecn)
 command-back (asked.Command caller (SetParams moment params)) more f =
     rw (back_u16 caller f.0, back_u64 moment f.1.0, params-behind _ _ _ params more (nine-of-fits params f.1.1), f.1.1.in_range) refl
 command-back (asked.BadParams change) more f =

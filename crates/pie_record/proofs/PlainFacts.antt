@@ -83,10 +83,7 @@ between-other from byte rest ends first others i it = grind (arith, nat_tests, s
 
 pub between : (from : ℕ) (line : List ℕ) (i : ℕ) → i < length (ends_from from line) → IsBetween from line (ends_from from line) (split_line line) i
 unfolding commas split_line field_at
-between from [] zero before =
-    let none : from - from ≡ 0 = omega arith in
-    let more : from + 0 - from ≡ 0 = omega arith in
-    record { above = omega arith; rising = omega arith; within = omega arith; is = rw (none, more) refl }
+between from [] zero before = grind (arith, nat_tests)
 between from [] (suc i) before = absurd (omega arith)
 between from (byte ∷ rest) i before = by (byte == 44) refl (λ j less. between (from + 1) rest j less)
   where

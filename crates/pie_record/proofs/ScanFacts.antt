@@ -23,8 +23,7 @@ module _ (bytes : List ℕ) where
   -- bytes above the comma
   scanned-above : (now : List ℕ) (at from n : ℕ) → ((k : ℕ) → from ≤ k → k < from + n → 44 < get_or bytes (at + k) 0) → at + (from + n) ≤ length bytes
       → IsScanned bytes now (at + from) → IsScanned bytes now (at + (from + n))
-  scanned-above now at from zero above within so_far =
-      let same : at + from ≡ at + (from + 0) = omega arith in subst (λ (p : ℕ). IsScanned bytes now p) same so_far
+  scanned-above now at from zero above within so_far = grind (arith, nat_tests)
   scanned-above now at from (suc n) above within so_far =
       let shorter = scanned-above now at from n (λ k high less. above k high (omega arith)) (omega arith) so_far in
       let same : at + (from + n) + 1 ≡ at + (from + suc n) = omega arith in

@@ -333,14 +333,11 @@ lines-all held opening progress (request ∷ requests) =
     ∙ ap (λ (history : List Event). history ++ events_of rest) here.events ∙ later.0 in
     rw (progress_after-request opening progress request requests) (told, λ legal. later.1 (here.legal legal))
 
-line-made : (request : Request) (given : Reply) → CanBeMade (line_of_reply request given)
-line-made request given = grind (arith, nat_tests)
-
 pub all-made : (requests : List Request) (given : List Reply) → All CanBeMade (lines_of_replies requests given)
 unfolding lines_of_replies
 all-made [] given = All-nil CanBeMade
 all-made (request ∷ requests) [] = All-nil CanBeMade
-all-made (request ∷ requests) (reply ∷ given) = grind (arith, nat_tests, line-made, all-made requests given)
+all-made (request ∷ requests) (reply ∷ given) = grind (arith, nat_tests, all-made requests given)
 
 -- after the lines of a legal history, the lines of a continued run are legal, and their events are the run's
 pub record AreRuns (opening : Opening) (lines : List Line) (history : List Event) : Type 0 where
@@ -518,36 +515,26 @@ replies-append : (opening : Opening) (from : Progress) (xs ys : List Request)
     → replies opening from (xs ++ ys) ≡ replies opening from xs ++ replies opening (progress_after opening from (steps_of xs)) ys
 unfolding replies steps_of progress_after
 replies-append opening from [] ys = refl
-replies-append opening from (Ask caller command ∷ xs) ys =
-    grind (arith, nat_tests, replies-append opening (after opening from (Ask caller command)) xs ys)
 replies-append opening from (request ∷ xs) ys = grind (arith, nat_tests, replies-append opening (after opening from request) xs ys)
 
 progress-append : (opening : Opening) (from : Progress) (xs ys : List Request)
     → progress_after opening from (steps_of (xs ++ ys)) ≡ progress_after opening (progress_after opening from (steps_of xs)) (steps_of ys)
 unfolding steps_of progress_after
 progress-append opening from [] ys = refl
-progress-append opening from (Ask caller command ∷ xs) ys = progress-append opening (after opening from (Ask caller command)) xs ys
-progress-append opening from (request ∷ xs) ys = progress-append opening (after opening from request) xs ys
-
--- a fold of all events of the tail
-folds-all : (opening : Opening) (at : Progress) → after opening at (Fold at.held) ≡ resumed_progress at.history
-folds-all opening at = grind (arith, nat_tests)
-
-lets-go : (opening : Opening) (at : Progress) → reply opening at (Fold at.held) ≡ fold_reply at.held
-lets-go opening at = grind (arith, nat_tests)
+progress-append opening from (request ∷ xs) ys = grind (arith, nat_tests, progress-append opening (after opening from request) xs ys)
 
 pub whole_replies : (opening : Opening) (earlier later : List Request)
     → let there = progress_at_end opening earlier in
     replies opening start (earlier ++ Fold there.held ∷ later)
     ≡ replies opening start earlier ++ fold_reply there.held ∷ replies opening (resumed_progress there.history) later
 unfolding replies
-whole_replies opening earlier later = grind (arith, nat_tests, replies-append, lets-go, folds-all)
+whole_replies opening earlier later = grind (arith, nat_tests, replies-append)
 
 pub whole_ends : (opening : Opening) (earlier later : List Request)
     → let there = progress_at_end opening earlier in
     progress_at_end opening (earlier ++ Fold there.held ∷ later) ≡ progress_after opening (resumed_progress there.history) (steps_of later)
 unfolding progress_after steps_of
-whole_ends opening earlier later = grind (arith, nat_tests, progress-append, folds-all)
+whole_ends opening earlier later = grind (arith, nat_tests, progress-append)
 
 -- ==== A record of lost events is a fault of every excerpt
 

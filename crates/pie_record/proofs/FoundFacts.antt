@@ -1,5 +1,6 @@
 -- The result of reading a line, as a statement on the remaining records.
-use Rattle.std.proofs.Common.{sym, ap, ◌∙◌, arith, subst, get_or}
+use Rattle.std.proofs.lemmas.Bool.Decides.{nat_tests}
+use Rattle.std.proofs.Common.{ap, ◌∙◌, arith, subst, get_or}
 use Rattle.pie_record.specs.{◌≡◌, ◌<◌, ◌++◌, ◌∷◌, ◌==◌, ℕ, List, [], length, refl, true, false, Bool, Option, Some, None, Row}
 use Rattle.pie_record.specs.{split_line, records_left, records_at, strip_bom, prepend_known, HasTakenLine, WasTaken, ReadsPlain, IsPlainLine, Keeps, IsAtEnd}
 use Rattle.pie_record.proofs.LineReads.{line-read, feed-read}
@@ -10,9 +11,7 @@ use Rattle.csv.specs.declared.parser.State.TheVariants as st
 -- bytes that do not begin with the first byte of a byte order mark begin with none
 no-mark : (byte : ℕ) (rest : List ℕ) → (byte == 239) ≡ false → strip_bom (byte ∷ rest) ≡ byte ∷ rest
 unfolding strip_bom
-no-mark byte [] other = refl
-no-mark byte (b ∷ []) other = refl
-no-mark byte (b ∷ c ∷ rest) other = rw other refl
+no-mark byte rest other = grind (arith, nat_tests)
 
 at-left : (is_first : Bool) (byte : ℕ) (rest : List ℕ) → (is_first ≡ true → (byte == 239) ≡ false)
     → records_at is_first (byte ∷ rest) ≡ records_left st.StartRecord (byte ∷ rest)
@@ -31,15 +30,7 @@ plain-at is_first (byte ∷ line) rest plain some other = at-left is_first byte 
 
 module _ (is_first : Bool) (before after : Option (List ℕ)) (line ends : List ℕ) (long : ℕ) (it : HasTakenLine before line ends long after) where
   pub plain-found : 0 < long → ReadsPlain found.Plain is_first before (split_line line) after
-  plain-found some = by before it.taken
-    where
-      by : (o : Option (List ℕ)) → WasTaken o line after → ReadsPlain found.Plain is_first o (split_line line) after
-      by None taken = tt
-      by (Some all) taken = (
-        taken.0,
-        taken.1,
-        ap (records_at is_first) taken.2 ∙ plain-at is_first line taken.0 it.plain (omega (arith, it.is_long, some)) (λ _. it.no_mark some),
-      )
+  plain-found some = grind (arith, nat_tests, plain-at)
 
   pub empty-found : long ≡ 0 → (row : Row) → ReadsPlain found.Empty is_first before row after
   empty-found none row = by line before (it.is_long ∙ none) it.taken
@@ -53,8 +44,7 @@ module _ (is_first : Bool) (before after : Option (List ℕ)) (line ends : List 
 -- ---- more bytes were read
 
 kept : (rest : List ℕ) (after : Option (List ℕ)) → Keeps (Some rest) after → after ≡ Some rest
-kept rest None keeps = absurd keeps
-kept rest (Some xs) keeps = ap Some keeps
+kept rest after keeps = grind (arith, nat_tests)
 
 pub nothing-found : (is_first : Bool) (before after : Option (List ℕ)) (row : Row) → Keeps before after → IsAtEnd after
     → ReadsPlain found.Nothing is_first before row after
@@ -67,6 +57,4 @@ nothing-found is_first (Some all) after row keeps over =
 -- ---- bytes that are left to csv
 
 pub later-left : (before after : Option (List ℕ)) (row : Row) → after ≡ prepend_known (10 ∷ []) before → ReadsPlain found.Odd false before row after
-later-left None after row back = tt
-later-left (Some all) after row back =
-    (10 ∷ all, back, sym (feed-read all) ∙ ap (records_left st.StartRecord) (sym (no-mark 10 all refl)))
+later-left before after row back = grind (arith, nat_tests, feed-read, no-mark)

@@ -1,4 +1,5 @@
 -- The remaining bytes of a reader that has read bytes ahead.
+use Rattle.std.proofs.lemmas.Bool.Decides.{nat_tests}
 use Rattle.std.proofs.Common.{sym, ap, ◌∙◌, arith, take, drop, append_assoc, get_or}
 use Rattle.std.specs.Prelude.{slice_range, slice_get, Result}
 use lib.Seq.{paste}
@@ -21,8 +22,7 @@ from-start bytes count = let same : count - 0 ≡ count = omega arith in rw same
 
 -- room was made, if there was none
 pub room-made : (bytes made : List ℕ) (at end : ℕ) → end ≤ length bytes → (0 < length bytes → made ≡ bytes) → slice_range bytes at end ≡ slice_range made at end
-room-made [] made at end inside same = none-ahead [] at end (omega (arith, inside)) ∙ sym (none-ahead made at end (omega (arith, inside)))
-room-made (byte ∷ bytes) made at end inside same = ap (λ (l : List ℕ). slice_range l at end) (sym (same (omega arith)))
+room-made bytes made at end inside same = grind (arith, nat_tests, none-ahead)
 
 -- ---- bytes were read behind those that were ahead, which were moved to the front
 
@@ -37,18 +37,11 @@ module _ (bytes moved now : List ℕ) (at end count : ℕ) (order : at ≤ end) 
       ∙ take-paste bytes 0 (drop at bytes) n (omega (arith, inside, order)) (omega (arith, behind, inside, order))
 
   whole : slice_range now 0 (end - at + count) ≡ slice_range bytes at end ++ slice_range now (end - at) (end - at + count)
-  whole =
-      let more : end - at + count - (end - at) ≡ count = omega arith in
-      from-start now (end - at + count) ∙ take-add (end - at) count now
-      ∙ ap (λ (l : List ℕ). l ++ take count (drop (end - at) now)) (same ∙ moved-front) ∙ rw more refl
+  whole = grind (arith, nat_tests, from-start, take-add, moved-front)
 
   pub fill-keeps : (before after : Option (List ℕ)) → Consumes before after (slice_range now (end - at) (end - at + count))
       → Keeps (prepend_known (slice_range bytes at end) before) (prepend_known (slice_range now 0 (end - at + count)) after)
-  fill-keeps None after taken = tt
-  fill-keeps (Some xs) None taken = absurd taken
-  fill-keeps (Some xs) (Some ys) taken =
-      ap (λ (l : List ℕ). l ++ ys) whole ∙ append_assoc (slice_range bytes at end) (slice_range now (end - at) (end - at + count)) ys
-      ∙ ap (λ (l : List ℕ). slice_range bytes at end ++ l) (sym taken)
+  fill-keeps before after taken = grind (arith, nat_tests, whole, append_assoc)
 
 -- ---- a line is taken of the bytes ahead
 
@@ -88,23 +81,11 @@ module _ (bytes line ends : List ℕ) (at place end : ℕ) (found : IsFound (sli
       ∙ ap (λ (l : List ℕ). l ++ 10 ∷ drop (place + 1) ahead) (sym is-line)
 
   taken : (known : Option (List ℕ)) → WasTaken (prepend_known ahead known) line (prepend_known (slice_range bytes (at + (place + 1)) end) known)
-  taken None = tt
-  taken (Some ys) = (
-    drop (place + 1) ahead ++ ys,
-    ap (λ (l : List ℕ). Some (l ++ ys)) (range-behind bytes at (place + 1) end (let w = within in omega (arith, w))),
-    ap (λ (l : List ℕ). l ++ ys) cut-off ∙ append_assoc line (10 ∷ drop (place + 1) ahead) ys,
-  )
+  taken known = grind (arith, nat_tests, range-behind, within, cut-off, append_assoc)
 
   pub line-taken : (known : Option (List ℕ)) → (0 < place → (get_or line 0 0 == 239) ≡ false)
       → HasTakenLine (prepend_known (slice_range bytes at end) known) line ends place (prepend_known (slice_range bytes (at + (place + 1)) end) known)
-  line-taken known no_mark = record {
-    room = found.room;
-    is_long = ap length (found.copied ∙ ap (take place) rest-is) ∙ length-take-le place (drop at bytes) (let i = inside in omega (arith, i));
-    plain = found.plain;
-    cut = found.cut;
-    no_mark = no_mark;
-    taken = taken known;
-  }
+  line-taken known no_mark = grind (arith, nat_tests, rest-is, length-take-le, inside, taken)
 
 -- ---- reads by csv
 
@@ -114,30 +95,16 @@ pub read-through : {E : Type 0} (before after : Option (List ℕ)) (bytes buf : 
     → ReadConsumes (prepend_known (slice_range bytes at end) before) (prepend_known (slice_range bytes at end) after) result buf
 read-through before after bytes buf at end result over read = rw (none-ahead bytes at end over, prepend-nil before, prepend-nil after) read
 
-first-part : (bytes : List ℕ) (at count end : ℕ) → count ≤ end - at → slice_range bytes at (at + count) ≡ take count (slice_range bytes at end)
-first-part bytes at count end within =
-    let long : at + count - at ≡ count = omega arith in
-    rw long (sym (take-take count (end - at) (drop at bytes) within))
-
 module _ (known : Option (List ℕ)) (bytes all copied rest : List ℕ) (at end count : ℕ) (same : bytes ≡ all) (within : count ≤ end - at) (inside : end ≤ length all)
     (is : copied ≡ slice_range all at (at + count)) where
   copied-long : length copied ≡ count
-  copied-long =
-      let front = length-take (at + count - at) (drop at all) in
-      let behind = length-drop at all in
-      ap length is ∙ omega (arith, front, behind, within, inside)
+  copied-long = grind (arith, nat_tests, length-take, length-drop, within, inside)
 
   copied-is : take count (copied ++ rest) ≡ take count (slice_range bytes at end)
-  copied-is =
-      ap (λ (n : ℕ). take n (copied ++ rest)) (sym copied-long) ∙ take-append_seam copied rest ∙ is ∙ first-part all at count end within
-      ∙ ap (λ (l : List ℕ). take count (slice_range l at end)) (sym same)
+  copied-is = grind (arith, nat_tests, copied-long, take-append_seam, take-take, within)
 
   ahead-long : count ≤ length (slice_range bytes at end)
-  ahead-long =
-      let whole = length-take (end - at) (drop at bytes) in
-      let behind = length-drop at bytes in
-      let long = ap length same in
-      omega (arith, whole, behind, long, within, inside)
+  ahead-long = grind (arith, nat_tests, whole, length-take, length-drop, within, inside)
 
   -- bytes that were ahead are read
   pub read-ahead : Consumes (prepend_known (slice_range bytes at end) known) (prepend_known (slice_range bytes (at + count) end) known)

@@ -54,13 +54,7 @@ written (byte ∷ line) plain = by (byte == 44) refl (written line (All-tail IsP
 text-written : (line first : List ℕ) (others : Row) → needs_quotes rows_setup first ≡ false → first ++ fields_text rows_setup others ≡ line
     → 0 < length line → text_of (first ∷ others) ≡ line ++ 10 ∷ []
 unfolding fields_text is_blank
-text-written line first [] plain is some =
-    let own = field-own first plain in
-    let same : first ≡ line = sym (append-nil first) ∙ is in
-    let long : (length first == 0) ≡ false = grind (arith, nat_tests, same, some) in
-    rw (own, long) (ap (λ (l : List ℕ). l ++ 10 ∷ []) is)
-text-written line first (next ∷ others) plain is some =
-    ap (λ (f : List ℕ). (f ++ fields_text rows_setup (next ∷ others)) ++ 10 ∷ []) (field-own first plain) ∙ ap (λ (l : List ℕ). l ++ 10 ∷ []) is
+text-written line first others plain is some = grind (arith, nat_tests, field-own, append-nil)
 
 -- csv writes a plain record as its line
 pub line-text : (line : List ℕ) → IsPlainLine line → 0 < length line → text_of (split_line line) ≡ line ++ 10 ∷ []

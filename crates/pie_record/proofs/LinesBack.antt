@@ -90,14 +90,7 @@ change-read row caller moment asks who when few small e =
   where
     by : (p : RawParams) → ParamsRead row p → (bad : Option Field) → first_bad p ≡ bad → Says (Ok (change_to caller moment p bad)) asks
         → Reads row kind.Params asks
-    by p read None good e = read-as (Reads row kind.Params) (asked.Command caller (SetParams moment p)) asks e
-        (record { kind = refl; has = (who, (when, read.has)); fits = (few, (small, fits-of-nine p read.fits good)) })
-    by p read (Some field) bad e =
-        read-as (Reads row kind.Params) (asked.BadParams (record { caller = caller; moment = moment; params = p })) asks e (record {
-          kind = refl;
-          has = (who, (when, read.has));
-          fits = record { caller = few; moment = small; nine = read.fits; field = field; bad = bad };
-        })
+    by p read first bad e = grind (arith, nat_tests, read-as, fits-of-nine)
 
 pub command-read : (row : Row) (k : CommandKind) (asks : CommandFields) → Says (command_at row k) asks → Reads row k asks
 unfolding command_at command_fields
@@ -121,16 +114,13 @@ command-read row k asks e =
 
 pub kind-has : (row : Row) (k : CommandKind) → command_kind row ≡ Some k → Has row 0 (command_word k)
 unfolding command_kind
-kind-has row k e =
-    let all : List CommandKind = kind.Arrive ∷ kind.Depart ∷ kind.Update ∷ kind.Reset ∷ kind.Params ∷ [] in
-    word-has row (command_word k) (found (λ kind. is_kind row (command_word kind)) all k e)
+kind-has row k e = grind (arith, nat_tests, word-has, found)
 
 -- the row of a command begins with its keyword, has the length and the kind of its command, whatever fields follow
 pub command-shape : (asks : CommandFields) (more : Row) → (command_row_fields asks ≡ command_word (command_row_kind asks) ∷ drop 1 (command_row_fields asks))
     × (command_length (command_row_kind asks) ≡ length (command_row_fields asks)) × (command_kind (command_row_fields asks ++ more) ≡ Some (command_row_kind asks))
 unfolding command_kind field_at command_fields
-command-shape (asked.Command caller (Arrive moment packet word)) more = (refl, refl, refl)
-command-shape _ more = (refl, refl, refl)
+command-shape asks more = grind (arith, nat_tests)
 
 -- the record of a command alone
 pub record WrittenAs (row : Row) (asks : CommandFields) : Type 0 where
@@ -214,8 +204,7 @@ params-behind a b c params more fits = params-back params more fits
 -- the fields of a command are read back, whatever fields follow
 pub command-back : (asks : CommandFields) (more : Row) → CommandFieldsFit asks → command_at (command_row_fields asks ++ more) (command_row_kind asks) ≡ Ok asks
 unfolding command_at arrival_at change_at packet_at field_at command_fields
-command-back (asked.Command caller (Arrive moment packet word)) more f =
-    rw (back_u16 _ f.0, back_u64 _ f.1.0, back_u64 _ f.1.1.tag, back_u32 _ f.1.1.size, back_ecn packet.ecn, back_u64 _ f.1.2) refl
+command-back (asked.Command caller (Arrive moment packet word)) more f = grind (arith, nat_tests, back_u16, back_u64, back_u32, back_ecn)
 command-back (asked.Command caller (SetParams moment params)) more f =
     rw (back_u16 caller f.0, back_u64 moment f.1.0, params-behind _ _ _ params more (nine-of-fits params f.1.1), f.1.1.in_range) refl
 command-back (asked.BadParams change) more f =
@@ -276,15 +265,7 @@ verdict-read moment packet w text answer e = (grind (arith, nat_tests, e), grind
 done-ends : (row : Row) (asks : CommandFields) (answer : Answer) → CanHave asks Done → (length row == command_length (command_row_kind asks) + 1) ≡ true
     → Says (and_then (word_at row (command_length (command_row_kind asks)) (word_of_answer said.Done)) (λ _. Ok Done)) answer → Ends row asks answer
 unfolding answer_fields
-done-ends row asks answer can long e =
-    let at : ℕ = command_length (command_row_kind asks) in
-    let a = and_after (word_at row at (word_of_answer said.Done)) _ answer e in
-    read-as (Ends row asks) Done answer a.rest (record {
-      has = (word-there row at (word_of_answer said.Done) a.got a.is, tt);
-      long = eqb-true (length row) (at + 1) long;
-      can = can;
-      numbers = tt;
-    })
+done-ends row asks answer can long e = grind (arith, nat_tests, and_after, read-as, word-there, eqb-true)
 
 departure-ends : (row : Row) (caller moment : ℕ) (answer : Answer) → has_length kind.Depart (length row) ≡ true → Says (departure_at row) answer
     → Ends row (asked.Command caller (Depart moment)) answer
@@ -418,18 +399,12 @@ record AnswerBack (row : Row) (kind : CommandKind) (answer : Answer) : Type 0 wh
 answer-back : (asks : CommandFields) (answer : Answer) → CanHave asks answer → AnswerFits answer
     → AnswerBack (command_row_fields asks ++ answer_fields answer) (command_row_kind asks) answer
 unfolding answer_at verdict_of departure_at update_at packet_at field_at command_fields answer_fields
-answer-back (asked.Command caller (Depart moment)) (Left packet) can f =
-    record { long = refl; reads = rw (back_u64 packet.tag f.tag, back_u32 packet.size f.size, back_ecn packet.ecn) refl }
-answer-back (asked.Command caller (Update moment)) (Updated delay prob burst) can f =
-    record { long = refl; reads = rw (back_u64 delay f.0, back_u64 prob f.1, back_u64 burst f.2) refl }
-answer-back _ answer can f = first_of (search rules, cc)
+answer-back asks answer can f = grind (arith, nat_tests, back_u64, back_u32, back_ecn)
 
 line-back : (version : Version) (asks : CommandFields) (answer : Answer) → CommandFieldsFit asks → CanHave asks answer → AnswerFits answer
     → line_of version (command_row_fields asks ++ answer_fields answer) ≡ Ok (line_for asks answer)
 unfolding line_of event_line
-line-back version asks answer fits can numbers =
-    let back = answer-back asks answer can numbers in
-    rw ((command-shape asks (answer_fields answer)).2, back.long, command-back asks (answer_fields answer) fits, back.reads) refl
+line-back version asks answer fits can numbers = grind (arith, nat_tests, answer-back, command-shape, command-back)
 
 -- the record of a command followed by an answer that the command can have
 pub answered-back : (version : Version) (row : Row) (caller : ℕ) (command : Command) (answer : Answer)
@@ -459,8 +434,7 @@ clock-reads version row clock e =
 
 clock-back : (clock : Clock) → ClockFits clock → line_of Three (clock_row clock) ≡ Ok (line.Clock clock)
 unfolding line_of command_kind field_at clock_row clock_in clock_at
-clock-back clock fits =
-    rw (number-back most_moment clock.moment fits.0 (omega (arith, fits.0)), number-back most_u64 clock.unix fits.1 (omega (arith, fits.1))) refl
+clock-back clock fits = grind (arith, nat_tests, number-back)
 
 -- the records of a line that was read are read as that line, and those of a note as no line
 pub line-again : (told : Line) → LineFits told → AreLinesOf Three (line_rows told) (without_notes (told ∷ []))

@@ -3,7 +3,7 @@ use Rattle.std.proofs.Common.{sym, ap, ◌∙◌, arith, subst}
 use Rattle.std.proofs.lemmas.Bool.{and_parts, ne_eqb}
 use Rattle.std.proofs.lemmas.Bool.Decides.{nat_tests}
 use Rattle.std.proofs.lemmas.List.{length-map}
-use Rattle.std.proofs.lemmas.List.Elements.{All-cons, All-head, All-nil, All-tail}
+use Rattle.std.proofs.lemmas.List.Elements.{All-head, All-nil, All-tail}
 use Rattle.pie_event.specs.declared.profile.Profile.TheVariants.{One, Two}
 use Rattle.pie_record.specs.{Opening, ◌≡◌, ◌<◌, ◌+◌, ◌^◌, ℕ, List, [], ◌∷◌, ◌++◌, map, Bool, true, false, decimal, refl, if◌then◌else◌, Some, None}
 use Rattle.pie_record.specs.{Result, Ok, field_at, usual, default_profile, Elements, Half, Zero, RawParams, first_bad, Mode, Bounded, Rolling}
@@ -13,8 +13,8 @@ use Rattle.pie_record.specs.{version_three_fields, version_two_fields, one_of_tw
 use Rattle.pie_record.specs.{delay_word, mode_word, picking_word, profile_number, size_word, step_word, are_default, are_usual, chosen_row}
 use Rattle.pie_record.specs.{earlier_row, is_earlier, nine_of, opening_row, version_three_row, Decay, Choices, Limits, OpenRefusal, Option, Err}
 use Rattle.pie_record.specs.{Checked, checked_opening, refused_opening, ◌≤◌, length, All, Event, Line, Version, HasField, rows_text, command_kind}
-use Rattle.pie_record.specs.{line_of, kind_word, version_of, RemainingLines, after_opening, remaining_after_opening, remaining_from, fault_from, history_opening}
-use Rattle.pie_record.specs.{history_version, lines_from, Begins, EventFits, AreLinesOf, IsHistoryText, event_row, written_rows, drop, numbers_at, ◌==◌}
+use Rattle.pie_record.specs.{line_of, kind_word, version_of, after_opening, remaining_from, fault_from, history_opening}
+use Rattle.pie_record.specs.{history_version, lines_from, Begins, EventFits, AreLinesOf, IsHistoryText, event_row, written_rows, numbers_at, ◌==◌}
 use Rattle.pie_record.specs.declared.history_record.Line.TheVariants.{Valid}
 use Rattle.pie_record.proofs.FieldFacts.{back_u32, back_u64, params-back}
 use Rattle.pie_record.proofs.HistoryFacts.{line_in-line}
@@ -104,8 +104,7 @@ pub chosen-read : (row : Row) (c : Choices) (told : Bool) (place : ℕ) → fiel
     → field_at row 4 ≡ Some (step_word c.elements.step) → field_at row 5 ≡ Some (size_word c.elements.size)
     → decay_at row 6 told ≡ Ok c.elements.decay → field_at row place ≡ Some (mode_word c.mode) → chosen_at row told place ≡ draft_at row (place + 1) c
 unfolding chosen_at elements_at profile_of one_of_two
-chosen-read row c told place profile delay picking step size decay mode =
-    grind (arith, nat_tests, profile, delay, picking, step, size, decay, mode)
+chosen-read row c told place profile delay picking step size decay mode = grind (arith, nat_tests)
 
 -- the choices with another decay; one of the two decays makes the record a field longer
 abbrev decaying : Choices → Decay → Choices
@@ -181,9 +180,7 @@ pub remaining-read : (version : Version) (most number : ℕ) (rows : List Row) (
 unfolding AreLinesOf lines_from fault_from
 remaining-read version most number [] [] within tells = refl
 remaining-read version most number (row ∷ rows) (line ∷ lines) within tells =
-    rw (line_in-line version most number row line (omega arith) tells.0)
-    (ap (λ (c : RemainingLines). let more : RemainingLines = record { lines = line ∷ c.lines; fault = c.fault } in more)
-    (remaining-read version most (number + 1) rows lines (omega arith) tells.1))
+    grind (arith, nat_tests, line_in-line, remaining-read version most (number + 1) rows lines (omega arith) tells.1)
 remaining-read version most number _ _ within tells = absurd tells
 
 -- a row that reads as a line has a field
@@ -196,8 +193,7 @@ pub fields-read : (version : Version) (rows : List Row) (lines : List Line) → 
 unfolding AreLinesOf
 fields-read version [] lines tells = All-nil HasField
 fields-read version (row ∷ rows) [] tells = absurd tells
-fields-read version (row ∷ rows) (line ∷ lines) tells = All-cons HasField row rows (field-reads version row line tells.0)
-    (fields-read version rows lines tells.1)
+fields-read version (row ∷ rows) (line ∷ lines) tells = grind (arith, nat_tests, field-reads, fields-read version rows lines tells.1)
 
 -- ---- a whole text
 
@@ -207,13 +203,7 @@ pub history-read : (kind : FirstKind) (rest : Row) (rows : List Row) (opening : 
     → All HasField rows → AreLinesOf (version_of (kind_word kind ∷ rest)) rows lines → length rows < 2 ^ 32
     → IsHistoryText (rows_text ((kind_word kind ∷ rest) ∷ rows)) opening lines
 unfolding history_opening history_version after_opening
-history-read kind rest rows opening lines opens some tells few =
-    let records = records_of-written kind rest rows some in
-    record {
-      opens = ap history_opening records ∙ opens;
-      tells = ap (λ (all : List Row). remaining_after_opening (2 ^ 32) all) records
-          ∙ remaining-read (version_of (kind_word kind ∷ rest)) (2 ^ 32) 2 rows lines (omega arith) tells;
-    }
+history-read kind rest rows opening lines opens some tells few = grind (arith, nat_tests, records_of-written, remaining-read)
 
 -- ---- the text of a history
 
@@ -225,17 +215,7 @@ events-read version (event ∷ events) fit =
 
 opening_row-begins : (o : Opening) → Begins (opening_row o)
 unfolding opening_row
-opening_row-begins o = either (is_earlier o) _
-  where
-    by : (profile : Profile) (mode : Mode) (rest : Row) → Begins (earlier_row profile mode ++ rest)
-    by One Bounded rest = record { kind = kinds.Open; rest = rest; is = refl }
-    by One Rolling rest = record { kind = kinds.Rolling; rest = rest; is = refl }
-    by Two mode rest = record { kind = kinds.Open2; rest = profile_number Two ∷ mode_word mode ∷ rest; is = refl }
-
-    either : (b : Bool) (rest : Row)
-        → Begins ((if b then earlier_row o.choices.profile o.choices.mode else version_three_row o.choices) ++ rest)
-    either true rest = by o.choices.profile o.choices.mode rest
-    either false rest = record { kind = kinds.Open3; rest = drop 1 (version_three_row o.choices) ++ rest; is = refl }
+opening_row-begins o = grind (arith, nat_tests)
 
 pub written-back : (opening : Opening) (events : List Event) → opening_refusal opening.limits opening.moment ≡ None → ParamsFit opening.params
     → All EventFits events → length events < 2 ^ 32

@@ -52,8 +52,7 @@ slice-before byte rest from e above =
     rw (none, zero_, long, same, later) refl
 
 start-behind : (from : ℕ) (ends : List ℕ) (j : ℕ) → start_of from (from ∷ ends) (suc j) ≡ start_of (from + 1) ends j
-start-behind from ends zero = refl
-start-behind from ends (suc k) = refl
+start-behind from ends j = grind (arith, nat_tests)
 
 -- the ends of a line that begins with a comma, and of one that begins with another byte
 ends-comma : (from byte : ℕ) (rest : List ℕ) → (byte == 44) ≡ true → ends_from from (byte ∷ rest) ≡ from ∷ ends_from (from + 1) rest
@@ -75,44 +74,16 @@ split-other byte rest is = rw is refl
 between-comma : (from byte : ℕ) (rest ends : List ℕ) (fields : Row) (i : ℕ) → ((j : ℕ) → i ≡ suc j → IsBetween (from + 1) rest ends fields j)
     → IsBetween from (byte ∷ rest) (from ∷ ends) ([] ∷ fields) i
 unfolding field_at
-between-comma from byte rest ends fields zero later =
-    let none : from - from ≡ 0 = omega arith in
-    record { above = omega arith; rising = omega arith; within = omega arith; is = rw none refl }
-between-comma from byte rest ends fields (suc j) later =
-    let it = later j refl in
-    let start = start-behind from ends j in
-    record {
-      above = rw start (omega (arith, it.above));
-      rising = rw start it.rising;
-      within = omega (arith, it.within);
-      is = rw start (it.is ∙ ap Some (slice-behind byte rest from (start_of (from + 1) ends j) (get_or ends j 0) it.above it.rising));
-    }
+between-comma from byte rest ends fields i later = grind (arith, nat_tests, start-behind, slice-behind)
 
 between-other : (from byte : ℕ) (rest ends first : List ℕ) (others : Row) (i : ℕ) → IsBetween (from + 1) rest ends (first ∷ others) i
     → IsBetween from (byte ∷ rest) ends (with_byte byte (first ∷ others)) i
 unfolding field_at with_byte
-between-other from byte rest ends first others zero it = record {
-  above = omega arith;
-  rising = omega (arith, it.rising);
-  within = omega (arith, it.within);
-  is = let same = some-is it.is in ap Some (ap (λ (f : List ℕ). byte ∷ f) same ∙ slice-before byte rest from (get_or ends 0 0) it.rising);
-}
-  where
-    some-is : {a b : List ℕ} → Some a ≡ Some b → a ≡ b
-    some-is e = grind (arith, e)
-between-other from byte rest ends first others (suc j) it = record {
-  above = omega (arith, it.above);
-  rising = it.rising;
-  within = omega (arith, it.within);
-  is = it.is ∙ ap Some (slice-behind byte rest from (start_of (from + 1) ends (suc j)) (get_or ends (suc j) 0) it.above it.rising);
-}
+between-other from byte rest ends first others i it = grind (arith, nat_tests, slice-before, slice-behind)
 
 pub between : (from : ℕ) (line : List ℕ) (i : ℕ) → i < length (ends_from from line) → IsBetween from line (ends_from from line) (split_line line) i
 unfolding commas split_line field_at
-between from [] zero before =
-    let none : from - from ≡ 0 = omega arith in
-    let more : from + 0 - from ≡ 0 = omega arith in
-    record { above = omega arith; rising = omega arith; within = omega arith; is = rw (none, more) refl }
+between from [] zero before = grind (arith, nat_tests)
 between from [] (suc i) before = absurd (omega arith)
 between from (byte ∷ rest) i before = by (byte == 44) refl (λ j less. between (from + 1) rest j less)
   where

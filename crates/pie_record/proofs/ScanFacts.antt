@@ -1,39 +1,29 @@
 -- The progress of a scan: over a byte, and over a block of bytes that a mask marks.
-use Rattle.std.proofs.Common.{suc, zero, ◌/◌, sym, ap, ◌∙◌, arith, subst, get_or, take, drop, take-take, ⊎_elim}
+use Rattle.std.proofs.lemmas.Bool.Decides.{nat_tests}
+use Rattle.std.proofs.Common.{suc, zero, ◌/◌, sym, ap, ◌∙◌, arith, subst, get_or, take, take-take, ⊎_elim}
 use Rattle.std.proofs.lemmas.Bool.{cases_lt}
 use Rattle.std.proofs.Math.Seq.{take-add}
 use Rattle.std.proofs.lemmas.Nat.Bits.{bit_at_and, bit_at_lowest, bit_at-suc}
 use Rattle.std.specs.Int.{bit_at}
 use lib.Bits.{bit_and}
 use Rattle.std.specs.Prelude.{slice_get, slice_range}
-use Rattle.pie_record.specs.{◌≡◌, ◌<◌, ◌+◌, ◌-◌, ◌++◌, ◌∷◌, ◌≤◌, ℕ, List, [], length, commas, IsFound, IsLowest, IsScanned, IsWithout, AreMarked, Some}
+use Rattle.pie_record.specs.{◌≡◌, ◌<◌, ◌+◌, ◌-◌, ◌++◌, ◌∷◌, ◌≤◌, ℕ, List, [], length, IsFound, IsLowest, IsScanned, IsWithout, AreMarked, Some}
 use Rattle.pie_record.proofs.LineFacts.{commas-comma, commas-other, plain-above, plain-more}
 
 module _ (bytes : List ℕ) where
   -- the next byte is a comma, or another plain one
   pub scanned-comma : (now next : List ℕ) (place : ℕ) → IsScanned bytes now place → place < length bytes → get_or bytes place 0 ≡ 44
       → next ≡ now ++ place ∷ [] → IsScanned bytes next (place + 1)
-  scanned-comma now next place so_far within is added = record {
-    within = omega arith;
-    plain = plain-more bytes place within so_far.plain (plain-above (get_or bytes place 0) (omega (arith, is)));
-    cut = let same : 0 + place ≡ place = omega arith in
-        added ∙ ap (λ (l : List ℕ). l ++ place ∷ []) so_far.cut ∙ ap (λ (n : ℕ). commas 0 (take place bytes) ++ n ∷ []) (sym same)
-        ∙ sym (commas-comma 0 bytes place within is);
-  }
+  scanned-comma now next place so_far within is added = grind (arith, nat_tests, plain-more, plain-above, commas-comma)
 
   scanned-other : (now : List ℕ) (place : ℕ) → IsScanned bytes now place → place < length bytes → 44 < get_or bytes place 0
       → IsScanned bytes now (place + 1)
-  scanned-other now place so_far within above = record {
-    within = omega arith;
-    plain = plain-more bytes place within so_far.plain (plain-above (get_or bytes place 0) (omega (arith, above)));
-    cut = so_far.cut ∙ sym (commas-other 0 bytes place within (λ is. omega (arith, above, is)));
-  }
+  scanned-other now place so_far within above = grind (arith, nat_tests, plain-more, plain-above, commas-other)
 
   -- bytes above the comma
   scanned-above : (now : List ℕ) (at from n : ℕ) → ((k : ℕ) → from ≤ k → k < from + n → 44 < get_or bytes (at + k) 0) → at + (from + n) ≤ length bytes
       → IsScanned bytes now (at + from) → IsScanned bytes now (at + (from + n))
-  scanned-above now at from zero above within so_far =
-      let same : at + from ≡ at + (from + 0) = omega arith in subst (λ (p : ℕ). IsScanned bytes now p) same so_far
+  scanned-above now at from zero above within so_far = grind (arith, nat_tests)
   scanned-above now at from (suc n) above within so_far =
       let shorter = scanned-above now at from n (λ k high less. above k high (omega arith)) (omega arith) so_far in
       let same : at + (from + n) + 1 ≡ at + (from + suc n) = omega arith in
@@ -42,9 +32,7 @@ module _ (bytes : List ℕ) where
   module _ (at end next mask : ℕ) (marks : AreMarked bytes at end next mask) (room : end ≤ length bytes) where
     -- a byte without a bit is above the comma
     unmarked : (k : ℕ) → next ≤ k → at + k < end → bit_at mask k ≡ 0 → 44 < get_or bytes (at + k) 0
-    unmarked k high within none =
-        ⊎_elim (λ above. above) (λ small. let one = marks.each k high within small in absurd (omega (arith, one, none)))
-        (cases_lt 44 (get_or bytes (at + k) 0))
+    unmarked k high within none = grind (arith, nat_tests, cases_lt)
 
     -- the scan passes the bytes without a bit
     pub scanned-past : (now : List ℕ) (bit : ℕ) → next ≤ bit → at + bit ≤ end → ((k : ℕ) → k < bit → bit_at mask k ≡ 0)
@@ -61,10 +49,7 @@ module _ (bytes : List ℕ) where
 -- a block more of a copy
 pub block-copied : (before now bytes : List ℕ) (at : ℕ) → take at before ≡ take at bytes → take (at + 32) now ≡ take at before ++ slice_range bytes at (at + 32)
     → take (at + 32) now ≡ take (at + 32) bytes
-block-copied before now bytes at same is =
-    let long : at + 32 - at ≡ 32 = omega arith in
-    is ∙ ap (λ (l : List ℕ). l ++ slice_range bytes at (at + 32)) same ∙ ap (λ (n : ℕ). take at bytes ++ take n (drop at bytes)) long
-    ∙ sym (take-add at 32 bytes)
+block-copied before now bytes at same is = grind (arith, nat_tests, take-add)
 
 -- a line in such a copy
 pub found-line : (bytes line ends : List ℕ) (place last : ℕ) → take last line ≡ take last bytes → IsScanned bytes ends place → slice_get bytes place ≡ Some 10
@@ -83,12 +68,7 @@ found-line bytes line ends place last same scanned feed before room =
 -- the marks above the lowest
 pub marks-next : (bytes : List ℕ) (at end next mask rest bit : ℕ) → AreMarked bytes at end next mask → bit_at mask bit ≡ 1 → IsWithout mask rest bit
     → AreMarked bytes at end (bit + 1) rest
-marks-next bytes at end next mask rest bit marks set is = record {
-  each = λ k high less small. let there = (marks.within bit set).0 in is.above k (omega arith) ∙ marks.each k (omega (arith, there)) less small;
-  within = λ k one.
-      ⊎_elim (λ above. (omega arith, (marks.within k (sym (is.above k above) ∙ one)).1)) (λ low. let none = is.none k low in absurd (omega (arith, one, none)))
-      (cases_lt bit k);
-}
+marks-next bytes at end next mask rest bit marks set is = grind (arith, nat_tests, cases_lt)
 
 -- ---- a mask without its lowest bit
 

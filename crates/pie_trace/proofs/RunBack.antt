@@ -5,7 +5,7 @@ use Rattle.pie_trace.proofs.Names.{All-cons, All-nil, first_bad, Command, Event,
 use Rattle.pie_trace.proofs.Names.{is_refused_full, or_full, refusal_by_rule, opening_refusal, registers_after, Progress, event_of, fold_outcome}
 use Rattle.pie_trace.proofs.Names.{held_with_one, recorded, refused_or, start, Flaw, TraceFault, Request, Ask, BadParams, Clock, Fold, Show, Tally}
 use Rattle.pie_trace.proofs.Names.{Draft, FirstKind, Version, before_fault, history_rows, history_text, record_fault, replies, requests_of, text_left}
-use Rattle.pie_trace.proofs.Names.{opening_of, opening_read, Row, rows_text, text_of, request_of, line_of, Begins, AreLinesOf, IsHistoryText}
+use Rattle.pie_trace.proofs.Names.{opening_of, opening_read, Row, rows_text, request_of, line_of, Begins, AreLinesOf, IsHistoryText}
 use Rattle.pie_trace.proofs.Names.{line_of_reply, lines_left, lines_of_replies, rows_left, run_lines, first_fields, first_kind, kind_word, version_of}
 use Rattle.pie_trace.proofs.Names.{Reply, after, history_row, reply, reply_to_command, reply_to_fold, code_of, drop, records_of, rows_without_fault}
 use Rattle.pie_trace.proofs.Names.{line_in-line, Line, append_assoc, append-nil, filter_map-append, progress_after, RunEnd, end_of, fault_of}
@@ -160,10 +160,7 @@ each-good version most opening P none one number progress (row ∷ rows) =
     by : (o : Option TraceFault) (r : Result Request Flaw) → record_fault version most number row ≡ o → request_of version row ≡ r
         → ((request : Request) → P (number + 1) (after opening progress request) rest (requests_of version rest))
         → P number progress (before_fault version most number (row ∷ rows)) (requests_of version (before_fault version most number (row ∷ rows)))
-    by (Some why) r e q later = rw e (none number progress)
-    by None (Ok request) e q later =
-        rw (e, q) (one number progress row rest request (requests_of version rest) (grind (arith, nat_tests, e)) q (later request))
-    by None (Err what) e q later = absurd (grind (arith, nat_tests, e, q))
+    by o r e q later = grind (arith, nat_tests)
 
 pub rows-lines : (version : Version) (held : Promises) (most : ℕ) (opening : Opening) (number : ℕ) (progress : Progress) (rows : List Row) → most ≤ 2 ^ 32
     → Opens opening → Sound opening progress
@@ -203,8 +200,7 @@ unfolding AreLinesOf lines_from
 all-answered version most number [] lines within are_lines = refl
 all-answered version most number (row ∷ rows) [] within are_lines = absurd are_lines
 all-answered version most number (row ∷ rows) (line ∷ lines) within are_lines =
-    rw (line_in-line version most number row line (omega arith) are_lines.0)
-    (ap (λ (l : List Row). row ∷ l) (all-answered version most (number + 1) rows lines (omega arith) are_lines.1))
+    grind (arith, nat_tests, line_in-line, all-answered version most (number + 1) rows lines (omega arith) are_lines.1)
 
 module _ (texts : TextsAreReadBack) (kind : FirstKind) (rest : Row) (rows : List Row) (opening : Opening) (lines : List Line) where
   pub written-tells : Written kind rest rows opening lines → IsHistoryText (rows_text ((kind_word kind ∷ rest) ∷ rows)) opening lines
@@ -256,8 +252,7 @@ sound-start held opening = record { legal = held.legal_at_first opening; fit = A
 pub text-begun : (most : ℕ) (past : List Event) (rows : List Row) (b : TextStart)
     → text_in most past rows (Ok b) ≡ rows_text (take b.read rows ++ rows_left b.version most b.opening (b.read + 1) (resumed_progress past) b.left)
 unfolding text_left rows_text
-text-begun most past rows b =
-    sym (flat_map-append text_of (take b.read rows) (rows_left b.version most b.opening (b.read + 1) (resumed_progress past) b.left))
+text-begun most past rows b = grind (arith, nat_tests, flat_map-append)
 
 pub text-whole : (most : ℕ) (row : Row) (rows : List Row) (opening : Opening) → 0 < most → opening_of row ≡ Ok opening
     → history_text most (row ∷ rows) ≡ rows_text (row ∷ rows_left (version_of row) most opening 2 start rows)
@@ -317,15 +312,6 @@ lines-next held opening progress (Fold n) = lines-none opening progress Note (af
 lines-next held opening progress (request.Clock clock) = lines-none opening progress (line.Clock clock) progress.held refl
 lines-next held opening progress _ = lines-none opening progress Note progress.held refl
 
--- the state after no request
-after-none : (opening : Opening) (progress : Progress) → progress_after opening progress (steps_of []) ≡ progress
-unfolding progress_after steps_of
-after-none opening progress = refl
-
-no-events : events_of [] ≡ []
-unfolding events_of
-no-events = refl
-
 abbrev AllAnswered : Opening → Progress → List Request → Type 0
 AllAnswered opening progress requests =
     (progress.history ++ events_of (lines_of_replies requests (replies opening progress requests))
@@ -333,8 +319,8 @@ AllAnswered opening progress requests =
     × (IsLegal opening progress.history → IsLegal opening (progress_after opening progress (steps_of requests)).history)
 
 lines-all : Promises → (opening : Opening) (progress : Progress) (requests : List Request) → AllAnswered opening progress requests
-unfolding lines_of_replies replies
-lines-all held opening progress [] = rw (after-none opening progress, no-events) (append-nil progress.history, λ legal. legal)
+unfolding lines_of_replies replies progress_after steps_of events_of
+lines-all held opening progress [] = (append-nil progress.history, λ legal. legal)
 lines-all held opening progress (request ∷ requests) =
     let here = lines-next held opening progress request in
     let later = lines-all held opening (after opening progress request) requests in
@@ -347,16 +333,11 @@ lines-all held opening progress (request ∷ requests) =
     ∙ ap (λ (history : List Event). history ++ events_of rest) here.events ∙ later.0 in
     rw (progress_after-request opening progress request requests) (told, λ legal. later.1 (here.legal legal))
 
-line-made : (request : Request) (given : Reply) → CanBeMade (line_of_reply request given)
-line-made (Ask caller command) (answered answer) = tt
-line-made _ _ = tt
-
 pub all-made : (requests : List Request) (given : List Reply) → All CanBeMade (lines_of_replies requests given)
 unfolding lines_of_replies
 all-made [] given = All-nil CanBeMade
 all-made (request ∷ requests) [] = All-nil CanBeMade
-all-made (request ∷ requests) (reply ∷ given) = All-cons CanBeMade (line_of_reply request reply) (lines_of_replies requests given) (line-made request reply)
-    (all-made requests given)
+all-made (request ∷ requests) (reply ∷ given) = grind (arith, nat_tests, all-made requests given)
 
 -- after the lines of a legal history, the lines of a continued run are legal, and their events are the run's
 pub record AreRuns (opening : Opening) (lines : List Line) (history : List Event) : Type 0 where
@@ -395,10 +376,10 @@ pub run-clean : ReadBack → LegalIsClean → Promises → (most : ℕ) (row : R
     (opening : Opening) → 0 < most → most ≤ 2 ^ 32 → opening_of row ≡ Ok opening
     → text_finding (records_of (history_text most (row ∷ rows)))
     ≡ Ok (Clean (length (progress_at_end opening (requests_of (version_of row) (before_fault (version_of row) most 2 rows))).history))
-unfolding run_lines
+unfolding run_lines events_of
 run-clean told clean held most row rows opening some few opens =
     let asked = requests_of (version_of row) (before_fault (version_of row) most 2 rows) in
-    let runs = lines-legal held opening start [] asked (All-nil CanBeMade) no-events (held.legal_at_first opening) in
+    let runs = lines-legal held opening start [] asked (All-nil CanBeMade) refl (held.legal_at_first opening) in
     clean (history_text most (row ∷ rows)) opening _ (told most row rows opening some few opens) runs.legal
     ∙ ap (λ (events : List Event). let found : Result Finding TraceFault = Ok (Clean (length events)) in found) runs.events
 
@@ -413,8 +394,7 @@ before-all version most number (row ∷ rows) e = by (record_fault version most 
     by : (o : Option TraceFault) → record_fault version most number row ≡ o → first_fault version most number (row ∷ rows) ≡ None
         → (first_fault version most (number + 1) rows ≡ None → before_fault version most (number + 1) rows ≡ rows)
         → before_fault version most number (row ∷ rows) ≡ row ∷ rows
-    by (Some why) r e later = let wrong : Some why ≡ None = rw r at e in cc
-    by None r e later = rw r (ap (λ (l : List Row). row ∷ l) (later (rw r at e)))
+    by o r e later = grind (arith, nat_tests)
 
 pub whole-clean : ReadBack → LegalIsClean → Promises → (most : ℕ) (rows : List Row) (end : RunEnd) → most ≤ 2 ^ 32 → fault_of most rows ≡ None
     → end_of most rows ≡ Some end → text_finding (records_of (history_text most rows)) ≡ Ok (Clean end.events)
@@ -468,9 +448,7 @@ behind most (row ∷ rows) b e = by (most == 0) (long_by most (resume_of row)) e
     by false None e = e
 
 within : (most : ℕ) (rows : List Row) (b : Preamble) → resumed_within most rows ≡ Ok b → Within most rows b
-within most rows b e =
-    let is = behind most rows b e in
-    record { begun = grind (arith, nat_tests, is); few = grind (arith, nat_tests, is) }
+within most rows b e = grind (arith, nat_tests, behind)
 
 -- ---- the text
 
@@ -483,15 +461,7 @@ text-resumed most past rows b e = rw (part-opened most rows b e) (text-begun mos
 -- legal lines are found clean
 lines-clean : Below → (text : List ℕ) (opening : Opening) (past : List Event) (lines : List Line) (history : List Event)
     → IsExcerptText text opening past lines → AreRuns opening (map Valid past ++ lines) history → IsFound text opening past (Clean (length history))
-lines-clean law text opening past lines history told runs =
-    let same : AreRuns opening (map Valid past ++ excerpt_lines (records_of text)) history =
-    subst (λ (ls : List Line). AreRuns opening (map Valid past ++ ls) history) (sym told.tells) runs in
-    record {
-      resumes = told.resumes;
-      goes = told.goes;
-      fault = told.fault;
-      finding = law.clean (records_of text) opening past same.legal ∙ ap (λ (events : List Event). Clean (length events)) same.events;
-    }
+lines-clean law text opening past lines history told runs = grind (arith, nat_tests)
 
 pub resumed-clean : Below → (most : ℕ) (rows : List Row) (opening : Opening) (past : List Event) (b : Preamble) → most ≤ 2 ^ 32
     → Resumes rows opening past → All (λ event. CommandFits event.command) past → resumed_within most rows ≡ Ok b
@@ -545,46 +515,26 @@ replies-append : (opening : Opening) (from : Progress) (xs ys : List Request)
     → replies opening from (xs ++ ys) ≡ replies opening from xs ++ replies opening (progress_after opening from (steps_of xs)) ys
 unfolding replies steps_of progress_after
 replies-append opening from [] ys = refl
-replies-append opening from (Ask caller command ∷ xs) ys =
-    ap (λ (given : List Reply). reply opening from (Ask caller command) ∷ given)
-    (replies-append opening (after opening from (Ask caller command)) xs ys)
-replies-append opening from (request ∷ xs) ys =
-    ap (λ (given : List Reply). reply opening from request ∷ given) (replies-append opening (after opening from request) xs ys)
+replies-append opening from (request ∷ xs) ys = grind (arith, nat_tests, replies-append opening (after opening from request) xs ys)
 
 progress-append : (opening : Opening) (from : Progress) (xs ys : List Request)
     → progress_after opening from (steps_of (xs ++ ys)) ≡ progress_after opening (progress_after opening from (steps_of xs)) (steps_of ys)
 unfolding steps_of progress_after
 progress-append opening from [] ys = refl
-progress-append opening from (Ask caller command ∷ xs) ys = progress-append opening (after opening from (Ask caller command)) xs ys
-progress-append opening from (request ∷ xs) ys = progress-append opening (after opening from request) xs ys
-
--- a fold of all events of the tail
-folds-all : (opening : Opening) (at : Progress) → after opening at (Fold at.held) ≡ resumed_progress at.history
-folds-all opening at = grind (arith, nat_tests)
-
-lets-go : (opening : Opening) (at : Progress) → reply opening at (Fold at.held) ≡ fold_reply at.held
-lets-go opening at = grind (arith, nat_tests)
+progress-append opening from (request ∷ xs) ys = grind (arith, nat_tests, progress-append opening (after opening from request) xs ys)
 
 pub whole_replies : (opening : Opening) (earlier later : List Request)
     → let there = progress_at_end opening earlier in
     replies opening start (earlier ++ Fold there.held ∷ later)
     ≡ replies opening start earlier ++ fold_reply there.held ∷ replies opening (resumed_progress there.history) later
 unfolding replies
-whole_replies opening earlier later =
-    let there = progress_at_end opening earlier in
-    replies-append opening start earlier (Fold there.held ∷ later)
-    ∙ ap (λ (given : List Reply). replies opening start earlier ++ given)
-    (ap (λ (one : Reply). one ∷ replies opening (after opening there (Fold there.held)) later) (lets-go opening there)
-    ∙ ap (λ (at : Progress). fold_reply there.held ∷ replies opening at later) (folds-all opening there))
+whole_replies opening earlier later = grind (arith, nat_tests, replies-append)
 
 pub whole_ends : (opening : Opening) (earlier later : List Request)
     → let there = progress_at_end opening earlier in
     progress_at_end opening (earlier ++ Fold there.held ∷ later) ≡ progress_after opening (resumed_progress there.history) (steps_of later)
 unfolding progress_after steps_of
-whole_ends opening earlier later =
-    let there = progress_at_end opening earlier in
-    progress-append opening start earlier (Fold there.held ∷ later)
-    ∙ ap (λ (at : Progress). progress_after opening at (steps_of later)) (folds-all opening there)
+whole_ends opening earlier later = grind (arith, nat_tests, progress-append)
 
 -- ==== A record of lost events is a fault of every excerpt
 
@@ -601,7 +551,11 @@ unfolding queued_row
 behind-queue count [] before after left is = record { before = before; after = after; is = sym is }
 behind-queue count (packet ∷ waiting) [] after left is = cc
 behind-queue count (packet ∷ waiting) (row ∷ before) after left is =
-    behind-queue count waiting before after left (let rest : before ++ (lost_row count ∷ after) ≡ map queued_row waiting ++ left = cc in rest)
+    grind (
+      arith,
+      nat_tests,
+      behind-queue count waiting before after left (let rest : before ++ (lost_row count ∷ after) ≡ map queued_row waiting ++ left = cc in rest),
+    )
 
 -- the laws of pie_excerpt on all preambles
 module _ (again : (row : Row) (rows : List Row) (begun : Preamble) → resumed_of (row ∷ rows) ≡ Ok begun

@@ -12,10 +12,10 @@ pub use Rattle.std.proofs.lemmas.List.Folds.{find-append}
 pub use Rattle.std.specs.List.{filter_map, find}
 pub use Rattle.std.specs.Option.{option_or}
 pub use Rattle.std.specs.Prelude.{nat_le, nat_lt, not, slice_get, ◌&&◌, ◌||◌, ◌⊎◌}
-pub use Rattle.pie_cut.specs.{All, AuditsFrom, CoreSnapshot, CoreView, EndView, Event, Finding, JoinsBy, Line, LinePlace, None, Opening, Option}
-pub use Rattle.pie_cut.specs.{Result, Some, Start, TraceFault, Valid, Waiting, append_known, at_core, at_opening, cons_option, first_place, flat_map}
-pub use Rattle.pie_cut.specs.{from_opening, history_lines, is_reached_at, is_some, kept, past_by, queued_row, reached_by, records_of, resume_with}
-pub use Rattle.pie_cut.specs.{set_by_after, snapshot_of, start_after, whole_lines, within}
+pub use Rattle.pie_cut.specs.{All, CoreSnapshot, CoreView, EndView, Event, Finding, Line, LinePlace, None, Opening, Option, Result, Some, Start}
+pub use Rattle.pie_cut.specs.{TraceFault, Valid, Waiting, append_known, at_core, at_opening, cons_option, first_place, flat_map, from_opening}
+pub use Rattle.pie_cut.specs.{history_lines, is_reached_at, is_some, kept, past_by, queued_row, reached_by, records_of, resume_with, set_by_after}
+pub use Rattle.pie_cut.specs.{snapshot_of, start_after, whole_lines, within}
 unfoldable pub use Rattle.pie_cut.specs.{chosen, difference_from, event_count, events_of, excerpt_lines, line_places, resume_row, rows_text}
 pub use Rattle.pie_audit.proofs.LegalFacts.{all-made, event_count-push, legal-clean, made-events}
 pub use Rattle.pie_audit.proofs.AuditorFacts.{Audits-finding, answered-within, count-push, event_count-append, few-may, made-count, shown-count}
@@ -33,8 +33,8 @@ pub use Rattle.pie_excerpt.specs.Preamble.{Preamble}
 unfoldable pub use Rattle.pie_excerpt.specs.Preamble.{resumed_of}
 pub use Rattle.pie_excerpt.specs.Fits.{ResumeFits}
 pub use Rattle.pie_excerpt.specs.declared.resume.Resume.{Resume}
-pub use Rattle.pie_record.proofs.Laws.{LineFits, event_count-cons, field-reads, latest_clock-none, latest_clock-push, line-again, lines-fit}
-pub use Rattle.pie_record.proofs.Laws.{lines_from-failed, lines_from-line, lines_from-none, reads-one}
+pub use Rattle.pie_record.proofs.Laws.{LineFits, event_count-cons, latest_clock-none, latest_clock-push, line-again, lines-fit, lines_from-failed}
+pub use Rattle.pie_record.proofs.Laws.{lines_from-line, lines_from-none, reads-one}
 pub use Rattle.pie_record.specs.HistoryLines.{after_opening, clock_in_line, events_in, history_version, is_event, lines_from, remaining_from}
 unfoldable pub use Rattle.pie_record.specs.ReadBack.{AreLinesOf}
 pub use Rattle.pie_record.specs.Text.{HasField}

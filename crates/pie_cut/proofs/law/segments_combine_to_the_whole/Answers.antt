@@ -1,4 +1,4 @@
-use Rattle.pie_cut.proofs.Names.{[], at_opening, excerpt_lines, from_opening, history_lines, refl, start_after}
+use Rattle.pie_cut.proofs.Names.{[], excerpt_lines, from_opening, history_lines, refl, start_after}
 use Rattle.pie_cut.proofs.JoinedFacts.{is-chain, legal-none}
 use Rattle.pie_cut.proofs.TextFacts.{part-fits, whole-fits}
 use Rattle.pie_cut.proofs.law.segments_combine_to_the_whole.Goals as goal

@@ -1,10 +1,11 @@
 #!/usr/bin/env bash
 # Counts by valgrind the instructions that the built program takes for a record, independent of the
 # load, and compares them with the stored counts (bench/counts.txt). It runs `pie run` on a
-# generated trace of RECORDS records; `audit`, `explain --all --csv`, `explain --summary` and `cut
-# --every` on its history; and bench/peer/run.c, a program in C over the library that writes the
-# same bytes as `pie run`. All instructions of a process count, including its start. The exit status
-# is 1 if a count grew, or if the peer writes other bytes.
+# generated trace of RECORDS records; `audit`, `explain --all --csv`, `explain --summary`, `explain
+# --flows 8` and `cut --every 1000` on its history, which has one flow; and bench/peer/run.c, a
+# program in C over the library that writes the same bytes as `pie run`. All instructions of a
+# process count, including its start. The exit status is 1 if a count grew, or if the peer writes
+# other bytes.
 #
 # usage: bench/pie_text_count.sh PROGRAM [--store | --within PERCENT]    after bindings/c/library.py; PROGRAM: crates/pie/out/pie
 #        bench/pie_text_count.sh --table
@@ -23,6 +24,7 @@ if [ "${1-}" = --table ]; then
          row("`pie run`, to the C program", "run", "peer")
          row("`pie audit`", "audit", "audit")
          row("`pie explain --summary`, to the audit", "explain_summary", "audit")
+         row("`pie explain --flows 8`, to the audit", "explain_flows", "audit")
          row("`pie explain --all --csv`, to the audit", "explain_csv", "audit")
          row("`pie cut --every 1000`, to the audit", "cut_every", "audit")}' "$stored"
     exit
@@ -60,10 +62,11 @@ count run "$work/trace" "$program" run &
 count audit "$work/history" "$program" audit &
 count explain_csv "$work/history" "$program" explain --all --csv &
 count explain_summary "$work/history" "$program" explain --summary &
+count explain_flows "$work/history" "$program" explain --flows 8 &
 count cut_every "$work/history" "$program" cut --every 1000 &
 count peer "$work/trace" "$work/peer" &
 wait
-cat "$work"/{run,audit,explain_csv,explain_summary,cut_every,peer}.count > "$work/counted"
+cat "$work"/{run,audit,explain_csv,explain_summary,explain_flows,cut_every,peer}.count > "$work/counted"
 if [ "${2-}" = --store ]; then
     cp "$work/counted" "$stored"
 fi
@@ -71,6 +74,7 @@ awk -v within="$within" 'NR == FNR {before[$1] = $2; next}
     {has_grown = $1 != "peer" && $2 * 100 > before[$1] * (100 + within); grew += has_grown; now[$1] = $2
      note = has_grown ? ": IT GREW" : $2 < before[$1] ? ": fewer" : ""
      printf "%-15s %4d instructions a record, stored %4d%s\n", $1, $2, before[$1], note}
-    END {printf "run to the peer %.2f; to the audit: explain_csv %.2f, explain_summary %.2f, cut_every %.2f\n", now["run"] / now["peer"],
-         now["explain_csv"] / now["audit"], now["explain_summary"] / now["audit"], now["cut_every"] / now["audit"]
+    END {printf "run to the peer %.2f; to the audit: explain_csv %.2f, explain_summary %.2f, explain_flows %.2f, cut_every %.2f\n",
+         now["run"] / now["peer"], now["explain_csv"] / now["audit"], now["explain_summary"] / now["audit"],
+         now["explain_flows"] / now["audit"], now["cut_every"] / now["audit"]
      exit grew > 0}' "$stored" "$work/counted"

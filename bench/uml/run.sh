@@ -6,11 +6,10 @@
 # usage: bench/uml/run.sh COMMAND [WORDS..]
 #   UML_MEMORY   its memory, 1024M where it isn't set; UML_SECONDS: it is ended after so many, 3600. Status 125 where it didn't come to an end.
 #   UML_LINUX    another Linux than Debian's: what build.sh made, whose time passes only while all its processes wait
-#   UML_PARAMETERS   parameters of its kernel
 set -u
 here=$(cd "$(dirname "$0")" && pwd)
 if [ $# = 0 ] || [ "$1" = --help ]; then
-    sed -n '2,9s/^# \{0,1\}//p' "$0"
+    sed -n '2,8s/^# \{0,1\}//p' "$0"
     [ "${1:-}" = --help ]
     exit
 fi
@@ -45,7 +44,7 @@ elif nice -n -15 true 2> /dev/null && [ "$(id -u)" = 0 ]; then
 fi
 # shellcheck disable=SC2086
 $before_others timeout --kill-after=5 "${UML_SECONDS:-3600}" "$linux_program" "${words[@]}" "mem=${UML_MEMORY:-1024M}" \
-    root=/dev/root rootfstype=hostfs rootflags=/ rw "init=$here/boot.sh" "STATE=$state" "uml_dir=$state" con=null con0=null,fd:1 quiet ${UML_PARAMETERS:-} \
+    root=/dev/root rootfstype=hostfs rootflags=/ rw "init=$here/boot.sh" "STATE=$state" "uml_dir=$state" con=null con0=null,fd:1 quiet \
     > "$state/kernel" 2>&1 < /dev/null &
 linux=$!
 tail --quiet --bytes=+1 --sleep-interval=0.2 --follow --pid="$linux" "$state/out" &

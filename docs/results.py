@@ -21,11 +21,11 @@ sys.path[:0] = [str(ROOT / "bench"), str(ROOT / "bench/uml")]
 sys.dont_write_bytecode = True
 from equivalence import compare, compare_pairs, judge, power  # noqa: E402
 from rfc7928 import estimate  # noqa: E402
-from scenarios import FIVE, SCENARIOS, queues_of  # noqa: E402
+from scenarios import FIVE, SCENARIOS, TWICE, queues_of  # noqa: E402
 
 # numbers of RESULTS.in that are settings of a scenario, a test, or RFC 8033: decimal numbers, and numbers with a unit
 SETTINGS = {"0.5", "0.85", "1.85", "1.5", "3.37", "4.4", "6.1", *(f"{it} ms" for it in (5, 10, 15, 20, 30, 40, 100, 200)),
-            *(f"{it} s" for it in (1.5, 2, 4, 8, 10, 14, 40, 60)), *(f"{it} Mbit/s" for it in (0.5, 2, 10, 12)), *(f"{it} bytes" for it in (64, 1500, 1514, 16384)),
+            *(f"{it} s" for it in (1.5, 2, 4, 8, 10, 14, 40, 60)), *(f"{it} Mbit/s" for it in (0.5, 2, 10, 12)), *(f"{it} bytes" for it in (64, 1500, 1514, 16384)), "4 µs",
             *(f"{it} %" for it in (1, 5, 10, 80, 84, 90, 100))}
 UNITS = {"goodput": "Mbit/s"}
 DIGITS = {"goodput": 2, "jain": 2, "early": 0, "tail": 0, "marks": 0, "lost": 0, "probes": 0}
@@ -220,23 +220,21 @@ def version_of(row):
     return tuple(row["version"].split(".")[:2])
 
 
+@functools.cache
+def earlier():
+    """Returns the scenarios that have a run of an earlier version of network.py or traffic.c than `four` has."""
+    present = {version_of(row) for row in ROWS if row["scenario"] == "four"}
+    return [name for name in SCENARIOS if {version_of(row) for row in ROWS if row["scenario"] == name} - present]
+
+
 def versions():
-    """Returns the number of runs that the most frequent version of network.py and traffic.c made, and the comparison of each queue's runs by this
-    version with its earlier runs, in words."""
-    made = list({(row["scenario"], row["queue"], row["block"]): version_of(row) for row in ROWS}.values())
-    most = max(set(made), key=made.count)
-    found = []
-    for name, queue in RUNS.rows:
-        for part in split_parts(name):
-            for field in ("goodput", "probe"):
-                rows = [row for row in RUNS.blocks(name, queue, f"{part[0]:g}-{part[1]:g}").values() if row[field]]
-                these, others = ([float(row[field]) for row in rows if (version_of(row) == most) == it] for it in (True, False))
-                if min(len(these), len(others)) >= 2:
-                    found.append(compare(these, others, margin_of(field, others)))
-    inside = sum(it[1] <= 0 <= it[2] for it in found)
-    return (f"{made.count(most)} of {len(made)} runs have one version of network.py ({most[0]}) and traffic.c ({most[1]}). The others have earlier versions. "
-            f"Of {len(found)} comparisons of both within one queue, {sum(it[3] == 'different' for it in found)} are `different`, and {inside} of the "
-            f"intervals contain 0")
+    """Returns the number of runs by the present version of network.py and traffic.c, and the scenarios with earlier ones, in words."""
+    made = {(row["scenario"], row["queue"], row["block"]): version_of(row) for row in ROWS}
+    present = next(version for (name, _, _), version in made.items() if name == "four")
+    count = sum(version == present for version in made.values())
+    text = f"{count} of {len(made)} runs have one version of network.py ({present[0]}) and traffic.c ({present[1]})."
+    return text + (f" Those of {', '.join(f'`{name}`' for name in earlier())} have earlier versions, with which TCP flows did not start alike at both "
+                   "bottlenecks. The comparisons below leave these scenarios out." if earlier() else "")
 
 
 def not_run():
@@ -253,9 +251,9 @@ def split_parts(scenario):
 
 
 def pairs_of(one="stamp", other="pie"):
-    """Yields scenario and part of each comparison of two queues."""
+    """Yields scenario and part of each comparison of two queues by runs of the present version."""
     for name in SCENARIOS:
-        if RUNS.rows.get((name, one)) and RUNS.rows.get((name, other)):
+        if name not in earlier() and RUNS.rows.get((name, one)) and RUNS.rows.get((name, other)):
             for part in split_parts(name):
                 yield name, f"{part[0]:g}-{part[1]:g}", part
 
@@ -290,7 +288,7 @@ def differing(one="stamp", other="pie"):
 
 def later_differences(one="stamp", other="pie"):
     """Returns the mean differences of waits in the parts after a start."""
-    found = [test(name, one, other, "probe", part) for name, part, bounds in pairs_of(one, other) if bounds[0] > 0]
+    found = [test(name, one, other, "probe", part) for name, part, bounds in pairs_of(one, other) if bounds[0] > 0 and name not in earlier()]
     return [it[0] for it in found if it]
 
 
@@ -310,14 +308,6 @@ def pooled():
     return interval(judge(fmean(found), stdev(found) / math.sqrt(len(found)), len(found) - 1, margin("probe")), "probe")
 
 
-def without_hystart(field, digits=None):
-    """Returns the change of the difference between tail drop here and pfifo in the start of `four` if CUBIC has no HyStart, in the blocks of both."""
-    ours, theirs = ({queue: RUNS.values(scenario, queue, field, "start") for queue in ("tail", "pfifo")} for scenario in ("nohystart", "four"))
-    blocks = set.intersection(*(set(values) for it in (ours, theirs) for values in it.values()))
-    found = [ours["tail"][it] - ours["pfifo"][it] - theirs["tail"][it] + theirs["pfifo"][it] for it in blocks]
-    return f"{interval(judge(fmean(found), stdev(found) / math.sqrt(len(found)), len(found) - 1, margin(field)), field, digits)} {UNITS.get(field, 'ms')}"
-
-
 def blocks_needed(scenario, one, other, field, part, most=512):
     """Returns the number of blocks that makes a comparison `same` with a chance of 80 % if there is no difference, by the spread of the stored
     blocks; `most` if it is more."""
@@ -332,8 +322,8 @@ def blocks_needed(scenario, one, other, field, part, most=512):
 
 def print_needs():
     """Prints for each open comparison the blocks that it has, and those that it needs."""
-    pairs = [*((*it, "stamp", "pie") for it in pairs_of()), *((*it, "tail", "pfifo") for it in pairs_of("tail", "pfifo"))]
-    for name, part, _, one, other in pairs:
+    pairs = [("stamp", "pie"), ("tail", "pfifo"), *((f"{it}-again", it) for it in TWICE)]
+    for name, part, _, one, other in [(*it, *pair) for pair in pairs for it in pairs_of(*pair)]:
         for field in ("goodput", "probe"):
             found = test(name, one, other, field, part)
             if found and found[3] == "open":
@@ -342,7 +332,7 @@ def print_needs():
 
 
 # scenarios through both bottlenecks with the same algorithm
-SAME_ALGORITHM = ["full", "waves", "four", "nohystart", "reno", "short"]
+SAME_ALGORITHM = ["full", "waves", "four", "reno", "short"]
 
 
 def same_calibration_table():
@@ -359,31 +349,42 @@ def same_calibration_table():
     return table(["scenario", "seconds", "measure", "blocks", "tail drop, here", "`pfifo`", "difference"], lines)
 
 
-def fewer_probes():
-    """Returns the number of probes that pfifo dropped less than tail drop here in the later part of `full`."""
-    ours, theirs = difference_of("full", "tail", "pfifo", "lost")
-    return fmean(ours) - fmean(theirs)
-
-
-def explained():
-    """Returns the difference of waits in `full` that the dropped probes explain, in ms: a probe in the queue has the place of a packet of 1500 bytes."""
-    begin, end = RUNS.part("full", "after")
-    in_queue = fewer_probes() / (end - begin) * fmean(RUNS.values("full", "tail", "probe").values()) / 1e3
-    return in_queue * (1500 - 64) * 8 / 10e6 * 1e3
+# ms of a probe's mean wait within which the starts at both bottlenecks are alike
+NEAR = 0.15
 
 
 @functools.cache
-def halves():
-    """Returns the comparisons of each queue with itself: scenario, queue, part, measure, the numbers of blocks, and the result. The blocks with odd
-    numbers are compared with those with even numbers."""
+def starts():
+    """Returns for the start of each block of tail drop here and `pfifo` the differences of the wait in ms, of the goodput as a share, and of the
+    number of dropped probes."""
     found = []
-    for name, queue in RUNS.rows:
-        for part in split_parts(name):
+    for name in dict.fromkeys(name for name, _, _ in pairs_of("tail", "pfifo")):
+        ours, theirs = (RUNS.blocks(name, queue, "start") for queue in ("tail", "pfifo"))
+        for block in sorted(ours.keys() & theirs.keys()):
+            (wait, goodput, lost), (wait_there, goodput_there, lost_there) = ([float(row[field]) for field in ("probe", "goodput", "lost")]
+                                                                              for row in (ours[block], theirs[block]))
+            found.append((abs(wait - wait_there), abs(goodput / goodput_there - 1), abs(lost - lost_there)))
+    return found
+
+
+def alike():
+    """Returns the number of starts that are alike at both bottlenecks, in words."""
+    others = [it for it in starts() if it[0] > NEAR]
+    return (f"In {len(starts()) - len(others)} of {len(starts())} starts the waits differ by at most {NEAR} ms. In {sum(it[2] > 0 for it in others)} of the "
+            f"other {len(others)} one bottleneck dropped more probes. The goodput differs by at most {100 * max(it[1] for it in starts()):.3f} % in each start.")
+
+
+@functools.cache
+def repeats():
+    """Returns the comparisons of two runs of the same queue in the same blocks, with different random words: scenario, queue, part, measure, the
+    number of blocks, and the result."""
+    found = []
+    for queue in TWICE:
+        for name, part, bounds in pairs_of(f"{queue}-again", queue):
             for field in ("goodput", "probe"):
-                values = RUNS.values(name, queue, field, f"{part[0]:g}-{part[1]:g}")
-                odd, even = ([it for block, it in values.items() if block % 2 == left] for left in (1, 0))
-                if min(len(odd), len(even)) >= 2:
-                    found.append((name, queue, part, field, (len(odd), len(even)), compare(odd, even, margin_of(field, even))))
+                result = test(name, f"{queue}-again", queue, field, part)
+                if result:
+                    found.append((name, queue, bounds, field, len(difference_of(name, f"{queue}-again", queue, field, part)[0]), result))
     return found
 
 
@@ -391,49 +392,45 @@ def is_start(scenario, part):
     return part == RUNS.part(scenario, "start") and len(RUNS.parts(scenario)) > 1
 
 
-def halves_count():
+def repeats_count():
     """Returns the number of 90 % intervals that contain 0, and the verdicts of each queue beside itself at the start and later, in words."""
-    inside = sum(it[-1][1] <= 0 <= it[-1][2] for it in halves())
+    inside = sum(it[-1][1] <= 0 <= it[-1][2] for it in repeats())
     parts = []
     for words, start in (("At the start", True), ("Later", False)):
-        them = [it[-1][3] for it in halves() if is_start(it[0], it[2]) == start]
+        them = [it[-1][3] for it in repeats() if is_start(it[0], it[2]) == start]
         parts.append(f"{words}, {them.count('same')} are `same`, {them.count('open')} `open` and {them.count('different')} `different`.")
-    return f"{len(halves())} comparisons. The 90 % interval contains 0 in {100 * inside / len(halves()):.0f} % of them. {' '.join(parts)}"
+    return f"{len(repeats())} comparisons. The 90 % interval contains 0 in {100 * inside / len(repeats()):.0f} % of them. {' '.join(parts)}"
 
 
-def halves_different():
+def repeats_different():
     """Returns the comparisons of a queue with itself whose verdict is `different`, in words."""
-    found = [f"`{name}` (`{queue}`, {'wait' if field == 'probe' else 'goodput'} at {name_of_part(part)} s, {blocks[0]}+{blocks[1]} blocks: "
+    found = [f"`{name}` (`{queue}`, {'wait' if field == 'probe' else 'goodput'} at {name_of_part(part)} s, {blocks} blocks: "
              f"{interval(it, field, 3 if field == 'goodput' else 1)})"
-             for name, queue, part, field, blocks, it in halves() if it[3] == "different"]
+             for name, queue, part, field, blocks, it in repeats() if it[3] == "different"]
     return ", ".join(found) or "none"
 
 
-def halves_table():
+def repeats_table():
     """Each queue beside itself, in the last part of each scenario. `same` is left out."""
     found = {}
-    for name, queue, part, field, blocks, it in halves():
+    for name, queue, part, field, blocks, it in repeats():
         if part == split_parts(name)[-1]:
             ours = RUNS.values(name, queue, "goodput", f"{part[0]:g}-{part[1]:g}").values()
             digits = 3 if field == "goodput" and fmean(ours) < 3 else None
-            found.setdefault((name, queue), [f"`{name}`", f"`{queue}`", f"{blocks[0]}+{blocks[1]}"]).append(
-                plus_minus(it, field, digits).removesuffix(" same"))
+            found.setdefault((name, queue), [f"`{name}`", f"`{queue}`", str(blocks)]).append(plus_minus(it, field, digits).removesuffix(" same"))
     return table(["scenario", "queue", "blocks", "goodput", "wait"], [found[it] for it in sorted(found, key=lambda it: list(SCENARIOS).index(it[0]))])
 
 
 @functools.cache
 def comparisons():
-    """Returns the rows of docs/comparisons.csv: PIE here beside Linux's, tail drop beside pfifo, and each queue beside itself."""
+    """Returns the rows of docs/comparisons.csv: PIE here beside Linux's, tail drop beside pfifo, and both PIEs beside themselves."""
     lines = [["scenario", "from", "to", "measure", "queue", "beside", "blocks", "difference", "least", "most", "margin", "verdict"]]
-    for one, other in (("stamp", "pie"), ("tail", "pfifo")):
+    for one, other in (("stamp", "pie"), ("tail", "pfifo"), *((f"{it}-again", it) for it in TWICE)):
         for name, part, bounds in pairs_of(one, other):
             for field in ("goodput", "probe"):
                 found, theirs = test(name, one, other, field, part), difference_of(name, one, other, field, part)[1]
                 if found:
                     lines.append([name, *bounds, field, one, other, len(theirs), *found[:3], margin_of(field, theirs), found[3]])
-    for name, queue, part, field, (odd, even), found in halves():
-        theirs = [it for block, it in RUNS.values(name, queue, field, f"{part[0]:g}-{part[1]:g}").items() if block % 2 == 0]
-        lines.append([name, *part, field, f"{queue} (odd blocks)", f"{queue} (even blocks)", odd + even, *found[:3], margin_of(field, theirs), found[3]])
     measures = {"goodput": "goodput in Mbit/s", "probe": "wait in ms"}
     return "".join(",".join(measures.get(it, it) if isinstance(it, str) else f"{it:g}" if isinstance(it, int) or it == int(it) and abs(it) < 1e6
                             else shown(it, "", 4) for it in line) + "\n" for line in lines)
@@ -724,9 +721,9 @@ def own_figures():
 def elsewhere():
     """Returns sentences of other pages that rest on stored runs, as (page, sentence)."""
     waits = [value("four", queue, "wait", digits=0) for queue in ("tail", "stamp")]
-    likeness = {"same": "The goodput is equal"}.get(test("four", "stamp", "tail", "goodput")[3], "The goodput differs")
+    carried = [value("four", queue, "goodput") for queue in ("tail", "stamp")]
     return [("README.md", f"Four CUBIC flows share a link of 10 Mbit/s. On average a packet waits {waits[0]} ms with tail drop and {waits[1]} ms with PIE. "
-                          f"{likeness} ([docs/RESULTS.md]"),
+                          f"The goodput is {carried[0]} and {carried[1]} Mbit/s ([docs/RESULTS.md]"),
             ("docs/PARAMETERS.md", f"Many flows exceed it: sixteen flows settle at a probability of {percent('ecnmany', 'stamp', 'prob', digits=0)} "
                                    "per cent ([RESULTS.md]")]
 

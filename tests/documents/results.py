@@ -2,9 +2,8 @@
 """Checks docs/RESULTS.md, docs/comparisons.csv and docs/ellipses.svg: docs/results.py computes them from the stored runs. docs/RESULTS.in has no figure
 of its own, and README.md and docs/PARAMETERS.md repeat figures of the runs. A page with a changed figure fails.
 
-The stored A/A runs hold. Tail drop here and pfifo do not differ after the start. With UDP alone they agree within 0.1 ms, without the effect of
-dropped probes, and within 0.1 % of goodput. At most one in twenty comparisons of a queue's odd blocks with its even ones differs, and 84 % of their
-90 % intervals contain 0. The page contains every scenario that was run.
+The stored A/A runs hold. Tail drop here and pfifo do not differ. Three of four starts agree within 0.15 ms, and all within 0.1 % of goodput. At most
+one in twenty comparisons of a PIE with itself differs, and 84 % of their 90 % intervals contain 0. The page contains every scenario that was run.
 needs: nothing"""
 import os
 import re
@@ -38,17 +37,17 @@ for name, sentence in results.elsewhere():
     check(place >= 0 and results.differences({name: changed}), f"{name}: another figure than {sentence[begin:end]} passes")
 
 
-for name in results.SAME_ALGORITHM:
+for name, part, _ in results.pairs_of("tail", "pfifo"):
     for field in ("probe", "goodput"):
-        found = results.test(name, "tail", "pfifo", field)
-        check(found and found[3] != "different", f"{name}: tail drop here and pfifo: {field}: {found}")
-off, share = results.test("full", "tail", "pfifo", "probe")[0] - results.explained(), results.test("full", "tail", "pfifo", "goodput")[0]
-whole = sum(results.RUNS.values("full", "pfifo", "goodput").values()) / len(results.RUNS.values("full", "pfifo", "goodput"))
-check(abs(off) < 0.1 and abs(share) < 0.001 * whole, f"UDP alone: tail drop here and pfifo differ by {off} ms and {share} Mbit/s")
+        found = results.test(name, "tail", "pfifo", field, part)
+        check(found and found[3] != "different", f"{name}, {part} s: tail drop here and pfifo: {field}: {found}")
+near = sum(wait <= results.NEAR for wait, _, _ in results.starts())
+check(4 * near >= 3 * len(results.starts()), f"only {near} of {len(results.starts())} starts are alike at both bottlenecks")
+check(all(goodput < 0.001 for _, goodput, _ in results.starts()), "the goodput of a start differs at both bottlenecks")
 # (each comparison is a test at a level of 5 per cent)
-differ = [it[:4] for it in results.halves() if it[-1][3] == "different"]
-check(20 * len(differ) <= len(results.halves()), f"queues differ from themselves: {differ}")
-inside = [it[-1][1] <= 0 <= it[-1][2] for it in results.halves()]
+differ = [it[:4] for it in results.repeats() if it[-1][3] == "different"]
+check(20 * len(differ) <= len(results.repeats()), f"queues differ from themselves: {differ}")
+inside = [it[-1][1] <= 0 <= it[-1][2] for it in results.repeats()]
 check(sum(inside) >= 0.84 * len(inside), f"of {len(inside)} intervals of 90 per cent for no difference only {sum(inside)} contain 0")
 for name, it in results.SCENARIOS.items():
     shown = f"|`{name}`|{it['words']}|" in page

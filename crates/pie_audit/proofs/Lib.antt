@@ -1,5 +1,4 @@
 mod Names
-mod Examples
 pub mod LegalFacts
 pub mod AuditorFacts
 pub mod ProcessorFacts

@@ -1,6 +1,5 @@
 -- Worked selections, segments of a text and joints: each theorem computes.
-use Rattle.std.specs.Prelude.{None, Option, Some, false, refl, true, ℕ, ◌≡◌}
-use Rattle.std.proofs.Common.{ap, arith}
+use Rattle.std.specs.Prelude.{◌≡◌, ℕ, Option, Some, None, true, false, refl}
 use Rattle.pie_record.specs.Field.{number}
 use Rattle.pie_event.specs.declared.opening.Opening.{Opening}
 use Rattle.pie_units.specs.declared.when.When.{When}
@@ -12,6 +11,7 @@ use Rattle.pie_cut.specs.Excerpt.{is_past, is_reached}
 use Rattle.pie_book.specs.Core.{CoreView}
 use Rattle.pie_cut.specs.declared.joint_audit.Joint.TheVariants.{Follows, Gap, Unlike}
 use Rattle.pie_cut.specs.Joined.{EndView, JoinsBy}
+use Rattle.std.proofs.Common.{ap, arith}
 
 -- ---- spans
 

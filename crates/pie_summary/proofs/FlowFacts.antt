@@ -4,17 +4,13 @@ use Rattle.pie_summary.proofs.Names.{append-nil, length, ◌<◌, ◌+◌, Optio
 use Rattle.pie_summary.proofs.Names.{eq-eqb, map_push, filter_map-append, Explained, Flow, FlowSums, added_up, flow_sums, is_of, HasFlows}
 use Rattle.pie_summary.proofs.Names.{distinct, first_of, in_order, placed, sums_beside, digits, greatest, greatest-push, kept}
 use Rattle.pie_summary.proofs.Names.{max, min, meter_input_of, replicate, sum, sum_by_push, ◌-◌, ◌^◌}
-use Rattle.std.proofs.Common.{arith, nat_eq, take, true≢false}
+use Rattle.std.proofs.Common.{◌||◌, arith, nat_eq, take, true≢false}
 use Rattle.std.specs.Fmt.{char_count, format_spec, padded_integral}
 use Rattle.std.specs.Prelude.{slice_index_or}
-use Rattle.std.specs.List.{IsDistinct}
+use Rattle.std.specs.List.{AllByRecursion, IsDistinct, list_any}
 use Rattle.std.specs.Map.{keys_of, lookup, update}
-use Rattle.std.proofs.lemmas.Map.Entries.{lookup_from_place}
-use Rattle.std.proofs.lemmas.Option.{slice_get-get_or}
-use Rattle.std.proofs.lemmas.List.Elements.{All-head, All-tail}
-use Rattle.std.proofs.lemmas.Cmp.{nat_eq_equiv}
-use Rattle.std.proofs.Common.{get_or}
-use Rattle.std.specs.List.{All}
+use Rattle.std.specs.Prelude.{is_some}
+use Rattle.std.proofs.lemmas.Map.Made.{is_some-lookup}
 use Rattle.indexmap.specs.IndexSet.{insert_key}
 use Rattle.indexmap.proofs.SetLemmas.{keys_insert_entry}
 use Rattle.std.proofs.lemmas.List.{take-take, take_more}
@@ -160,23 +156,35 @@ nothing_taken shown one rows has is = record {
 
 -- all rows, in order
 pub rows_listed : (shown : List Explained) (rows : List (ℕ × Flow)) → HasFlows rows shown → values_of rows ≡ flows_of shown
-rows_listed shown rows has = listed rows own ∙ ap (map (flow_of shown)) has.keys
+unfolding IsDistinct
+rows_listed shown rows has =
+    listed rows has.apart (λ q row there. known q row (filter (is_of q) shown) (sym (has.found q) ∙ there)) ∙ ap (map (flow_of shown)) has.keys
   where
     known : (q : ℕ) (row : Flow) (all : List Explained) → row_of q all ≡ Some row → row ≡ (record { number = q; sums = flow_sums all })
     known q row [] is = cc
     known q row (first ∷ all) is = cc
 
-    own : All (λ (e : ℕ × Flow). e.1 ≡ flow_of shown e.0) rows
-    own = λ k d within.
-        let e : ℕ × Flow = get_or rows k d in
-        let there = lookup_from_place nat_eq_equiv rows k e.0 e.1 has.apart (slice_get-get_or rows k d within) in
-        known e.0 e.1 (filter (is_of e.0) shown) (sym (has.found e.0) ∙ there)
+    none : (p : ℕ → Bool) (xs : List ℕ) → AllByRecursion (λ x. p x ≡ false) xs → list_any p xs ≡ false
+    none p [] all = refl
+    none p (x ∷ xs) all = ap (λ b. b || list_any p xs) all.0 ∙ none p xs all.1
 
-    listed : (rows : List (ℕ × Flow)) → All (λ (e : ℕ × Flow). e.1 ≡ flow_of shown e.0) rows → values_of rows ≡ map (flow_of shown) (keys_of rows)
-    listed [] all = refl
-    listed (e ∷ rows) all = λ i.
-        All-head (λ (e : ℕ × Flow). e.1 ≡ flow_of shown e.0) e rows all i
-        ∷ listed rows (All-tail (λ (e : ℕ × Flow). e.1 ≡ flow_of shown e.0) e rows all) i
+    listed : (rows : List (ℕ × Flow)) → IsDistinct nat_eq (keys_of rows)
+        → ((q : ℕ) (row : Flow) → lookup (nat_eq q) rows ≡ Some row → row ≡ flow_of shown q) → values_of rows ≡ map (flow_of shown) (keys_of rows)
+    listed [] apart found = refl
+    listed (e ∷ rows) apart found = λ i. own i ∷ listed rows apart.1 later i
+      where
+        own : e.1 ≡ flow_of shown e.0
+        own = found e.0 e.1 (ap (λ b. cond b (Some e.1) (lookup (nat_eq e.0) rows)) (eq-eqb e.0 e.0 refl))
+
+        differs : (q : ℕ) (row : Flow) → lookup (nat_eq q) rows ≡ Some row → (b : Bool) → nat_eq q e.0 ≡ b → b ≡ false
+        differs q row there false e = refl
+        differs q row there true same =
+            absurd (true≢false (sym (sym (is_some-lookup (nat_eq q) rows) ∙ ap is_some there)
+            ∙ ap (λ k. list_any (nat_eq k) (keys_of rows)) (eqb-true q e.0 same) ∙ none (nat_eq e.0) (keys_of rows) apart.0))
+
+        later : (q : ℕ) (row : Flow) → lookup (nat_eq q) rows ≡ Some row → row ≡ flow_of shown q
+        later q row there =
+            found q row (ap (λ b. cond b (Some e.1) (lookup (nat_eq q) rows)) (differs q row there (nat_eq q e.0) refl) ∙ there)
 
 -- ---- the first of them
 

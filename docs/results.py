@@ -403,11 +403,11 @@ def repeats_count():
 
 
 def repeats_different():
-    """Returns the comparisons of a queue with itself whose verdict is `different`, in words."""
+    """Returns a sentence about the comparisons of a queue with itself whose verdict is `different`, if there are any."""
     found = [f"`{name}` (`{queue}`, {'wait' if field == 'probe' else 'goodput'} at {name_of_part(part)} s, {blocks} blocks: "
              f"{interval(it, field, 3 if field == 'goodput' else 1)})"
              for name, queue, part, field, blocks, it in repeats() if it[3] == "different"]
-    return ", ".join(found) or "none"
+    return f"The `different` ones are {', '.join(found)}; no other cause than chance is known. " if found else ""
 
 
 def repeats_table():

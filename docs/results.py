@@ -25,8 +25,8 @@ from scenarios import FIVE, SCENARIOS, TWICE, queues_of  # noqa: E402
 
 # numbers of RESULTS.in that are settings of a scenario, a test, or RFC 8033: decimal numbers, and numbers with a unit
 SETTINGS = {"0.5", "0.85", "1.85", "1.5", "3.37", "4.4", "6.1", *(f"{it} ms" for it in (5, 10, 15, 20, 30, 40, 100, 200)),
-            *(f"{it} s" for it in (1.5, 2, 4, 8, 10, 14, 40, 60)), *(f"{it} Mbit/s" for it in (0.5, 2, 10, 12)), *(f"{it} bytes" for it in (64, 1500, 1514, 16384)), "4 µs",
-            *(f"{it} %" for it in (1, 5, 10, 80, 84, 90, 100))}
+            *(f"{it} s" for it in (1.5, 2, 4, 8, 10, 14, 40, 60)), *(f"{it} Mbit/s" for it in (0.5, 2, 10, 12)), *(f"{it} bytes" for it in (64, 1500, 1514, 16384)),
+            "4 µs", *(f"{it} %" for it in (1, 5, 10, 80, 84, 90, 100))}
 UNITS = {"goodput": "Mbit/s"}
 DIGITS = {"goodput": 2, "jain": 2, "early": 0, "tail": 0, "marks": 0, "lost": 0, "probes": 0}
 NAMES = {"tail": "tail drop, here", "stamp": "PIE, here", "wide": "PIE, here, target 20 ms", "half": "PIE, here, `--decay half`",

@@ -24,7 +24,7 @@ static const char *fault_of(int answer) {
     }
 }
 
-/* Writes the text beside the file. */
+/* Writes the text to a temporary file in the same folder. */
 static int write_beside(const char *beside, struct pie_stage *stage) {
     FILE *file = fopen(beside, "w");
     if (file == NULL)

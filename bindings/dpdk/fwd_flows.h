@@ -8,18 +8,18 @@
 #include <rte_spinlock.h>
 
 struct fwd_flows {
-    rte_spinlock_t lock; /* of the lcores that receive: one of them notes at once */
+    rte_spinlock_t lock; /* serializes the receiving lcores */
     struct flows flows;
 };
 
 /* Opens the file; NULL: no file. Returns false with errno if that fails. */
 bool fwd_flows_open(struct fwd_flows *flows, const char *path);
 
-/* Returns the number of a packet's flow for a stage, which the file lists from then on; 0 without an IP header.
- * `user` is the struct fwd_flows. */
+/* Returns the number of a packet's flow, 0 without an IP header, and lists the flow in the file. `user` is the
+ * struct fwd_flows. */
 uint32_t fwd_flow_of(void *user, const struct rte_mbuf *mbuf);
 
-/* Writes the rest, and closes the file. Returns false if not all could be written. */
+/* Writes the rest, and closes the file. Returns false if a write failed. */
 bool fwd_flows_close(struct fwd_flows *flows);
 
 #endif

@@ -17,7 +17,7 @@ static bool name_segment(const struct fwd_history *history, uint64_t segment, ch
     return length < PATH_MAX;
 }
 
-/* Opens the next file, and removes the one that is too old. */
+/* Opens the next file, and removes the oldest one if there are too many. */
 static bool open_next(struct fwd_history *history) {
     char oldest[PATH_MAX];
     history->segment++;
@@ -45,7 +45,7 @@ static void say_broken(struct fwd_history *history) {
     history->is_broken = true;
 }
 
-/* Writes some of the events since the last call. Returns true if there was any. */
+/* Writes up to ROOM bytes of the pending text. Returns true if there was any. */
 static bool write_some(struct fwd_history *history, struct pie_stage *stage) {
     size_t size = history->file != NULL && !history->is_broken ? pie_stage_history(stage, history->text, ROOM) : 0;
     if (size != 0 && fwrite(history->text, 1, size, history->file) != size)

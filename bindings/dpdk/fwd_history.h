@@ -1,4 +1,4 @@
-/* Writes the history of a stage to a file, or to segments, each of which can be audited alone. */
+/* Writes the history of a stage to one file, or to segments that can be audited alone. */
 #ifndef FWD_HISTORY_H
 #define FWD_HISTORY_H
 
@@ -8,14 +8,14 @@
 #include <stdio.h>
 
 struct fwd_history {
-    FILE *file;            /* NULL if no history is written, or no longer */
+    FILE *file;            /* NULL if no history is written any more */
     char path[PATH_MAX];
-    char name[PATH_MAX];   /* of the file: the path, or PATH.<segment> */
-    uint64_t rotate;       /* bytes after which a segment ends; 0: one text */
-    uint64_t segments;     /* that are kept, the last ones; 0: all */
-    uint64_t segment;      /* the number of this one, from 1 on */
-    uint64_t bytes, lost;  /* in this segment; events lost to the history when it was begun */
-    bool is_broken;        /* not all could be written */
+    char name[PATH_MAX];   /* name of the file: PATH, or PATH.<segment> */
+    uint64_t rotate;       /* a segment ends after this number of bytes; 0: one text */
+    uint64_t segments;     /* number of last segments to keep; 0: all */
+    uint64_t segment;      /* number of the present segment, counted from 1 */
+    uint64_t bytes, lost;  /* bytes of the present segment; events that were lost when it began */
+    bool is_broken;        /* a write failed */
     unsigned char *text;
 };
 
@@ -23,12 +23,12 @@ struct fwd_history {
  * fails. */
 bool fwd_history_open(struct fwd_history *history, const char *path, uint32_t queue, uint64_t rotate, uint64_t segments);
 
-/* Writes a part of the pending text. Returns true if there was any. A segment that is long enough, or that reports
- * a gap, is the last of its file. If the file cannot be written, prints an error once and writes nothing from then
- * on: the stage counts the events that are not taken out as lost. */
+/* Writes a part of the pending text. Returns true if there was any. Ends the segment and its file if the segment is
+ * long enough or reports a gap. If a write fails, prints an error once and writes nothing more: the stage then counts
+ * the remaining events as lost. */
 bool fwd_history_write(struct fwd_history *history, struct pie_stage *stage);
 
-/* Writes the rest when no lcore calls the stage any more, and closes the file. Returns false if not all could be written. */
+/* Writes the rest and closes the file, after the last call of any lcore. Returns false if a write failed. */
 bool fwd_history_close(struct fwd_history *history, struct pie_stage *stage);
 
 #endif

@@ -5,10 +5,10 @@
 #include <stdio.h>
 #include <string.h>
 
-#define EVENTS (1u << 17) /* the most that may be pending for the history: 8 megabytes */
-#define LEAST_SEGMENT 65536 /* bytes of a segment */
+#define EVENTS (1u << 17) /* the most events that may be pending for the history: 8 megabytes */
+#define LEAST_SEGMENT 65536 /* the fewest bytes of a segment */
 #define MOST_RATE UINT64_C(1000000000000)
-#define MOST_QUEUED (1u << 20) /* packets that a queue has room for */
+#define MOST_QUEUED (1u << 20) /* the greatest capacity of a queue in packets */
 #define MOST_MBUFS (1u << 24)
 
 static const char help[] =
@@ -68,7 +68,7 @@ static const char *fault_of(const struct fwd_options *options, uint64_t flight) 
         return "--rotate";
     if (options->records != NULL && options->stage.every == 0)
         return "--every";
-    // a queue that takes all mbufs leaves the card none to receive with, and then the card drops, and not PIE
+    // if the queues could hold all mbufs, the card would have none to receive with, and would drop packets
     return options->stage.opening.packets * options->queues > options->mbufs / 2 ? "--limit" : NULL;
 }
 

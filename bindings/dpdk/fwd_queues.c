@@ -6,7 +6,7 @@
 #include <stdio.h>
 
 #define BURST 32u
-#define QUANTUM 2000 /* bytes that a turn gives */
+#define QUANTUM 2000 /* bytes that a queue may send in a turn */
 #define CLASSES 8u
 
 bool fwd_queues_create(struct fwd_queues *queues, uint32_t count, const char *name, const struct pie_stage_params *params) {
@@ -67,7 +67,8 @@ static uint64_t bytes_of(struct rte_mbuf **mbufs, uint32_t count) {
     return bytes;
 }
 
-/* Round robin by bytes: a turn gives a queue its quantum, less the excess of its last packet in the turn before; an empty queue saves nothing. */
+/* Dequeues by deficit round robin: in its turn a queue sends its quantum, less the excess of its previous turn. An
+ * empty queue saves no credit. */
 static uint32_t dequeue_in_turns(struct fwd_queues *queues, struct rte_mbuf **mbufs, uint32_t count, uint64_t bytes, uint64_t now) {
     uint32_t taken = 0, empty = 0;
     while (taken < count && bytes != 0 && empty < queues->count) {

@@ -1,5 +1,5 @@
-/* The queues of the link, a stage each, with one sender: packets go to one by the class of their IP header, and the sender takes from each in
- * turn. Queues with packets have equal shares of the rate. */
+/* The queues of a link with one sender. Each queue is a stage. The class in the IP header of a packet selects its
+ * queue, and the sender serves the queues in turn. Queues with packets have equal shares of the rate. */
 #ifndef FWD_QUEUES_H
 #define FWD_QUEUES_H
 
@@ -7,12 +7,12 @@
 
 #include <limits.h>
 
-#define FWD_QUEUES 8 /* the most of them: there are eight classes */
+#define FWD_QUEUES 8 /* the most queues: there are eight classes */
 
 struct fwd_queues {
     uint32_t count;
     struct pie_stage *stages[FWD_QUEUES];
-    int64_t credits[FWD_QUEUES]; /* of the sender alone: the bytes that a queue may still send in its turn; below 0 the excess that it sent */
+    int64_t credits[FWD_QUEUES]; /* the sender's: bytes left in the turn of a queue, negative after an excess */
     uint32_t turn;
 };
 
@@ -26,11 +26,11 @@ void fwd_queues_free(struct fwd_queues *queues);
  * on for the others. Returns false with errno if it is too long. */
 bool fwd_queue_name(char name[PATH_MAX], const char *path, uint32_t queue);
 
-/* Returns the queue of a packet among `count`: by the three highest bits of its DS field (the class selector of RFC
- * 2474, section 4.2.2), the eight classes in equal parts; the first queue without an IP header. */
+/* Returns the queue of a packet, 0 to count - 1. The three highest bits of its DS field are its class (RFC 2474,
+ * section 4.2.2), and each queue has an equal part of the eight classes. A packet without an IP header has queue 0. */
 uint32_t fwd_queue_of(const struct rte_mbuf *mbuf, uint32_t count);
 
-/* Enqueues a burst, each packet to its queue; those that are dropped are freed. At most 32 packets. */
+/* Enqueues a burst of at most 32 packets, each to its queue. Frees dropped packets. */
 void fwd_queues_enqueue(struct fwd_queues *queues, struct rte_mbuf **mbufs, uint32_t count, uint64_t now);
 
 /* Dequeues up to `count` packets while fewer than `bytes` were dequeued. Returns their number. Only the sending

@@ -8,9 +8,9 @@
 #include <stdio.h>
 
 struct fwd_records {
-    FILE *file; /* NULL if no records are written, or no longer */
+    FILE *file; /* NULL if no records are written any more */
     char name[PATH_MAX];
-    bool is_broken; /* not all could be written */
+    bool is_broken; /* a write failed */
 };
 
 /* Opens the file of a queue (fwd_queue_name); NULL: no file. Returns false with errno if that
@@ -21,7 +21,7 @@ bool fwd_records_open(struct fwd_records *records, const char *path, uint32_t qu
  * reports it once on stderr and writes no more. */
 void fwd_records_write(struct fwd_records *records, struct pie_stage *stage, bool is_over);
 
-/* Writes the last record when no lcore calls the stage any more, and closes the file. Returns false if not all could be written. */
+/* Writes the last record and closes the file, after the last call of any lcore. Returns false if a write failed. */
 bool fwd_records_close(struct fwd_records *records, struct pie_stage *stage);
 
 #endif

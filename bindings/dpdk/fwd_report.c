@@ -51,7 +51,7 @@ static unsigned __int128 wide(uint64_t high, uint64_t low) {
     return (unsigned __int128)high << 64 | low;
 }
 
-/* The statistics of a stage as metrics. */
+/* Returns the statistics of a stage as metrics. */
 static struct metrics metrics_of(const struct pie_stage_stats *stats) {
     struct metrics metrics = {
         .arrived = stats->queued + stats->early + stats->bytes + stats->full,
@@ -92,7 +92,8 @@ static bool write_stage_metrics(const struct fwd_options *options, const char *p
     return options->metrics == NULL || write_metrics(options->metrics, queues, options->queues);
 }
 
-/* alpha and beta are in sixteenths, times in microseconds, and limit in packets, as tc has them. `dropped` includes `overlimit`, as Linux's does. */
+/* Prints a queue in the units of tc: alpha and beta in sixteenths, times in microseconds, the limit in packets.
+ * `dropped` includes `overlimit`, as in Linux. */
 static void write_json(FILE *file, const struct fwd_options *options, const char *port, const struct pie_stage_stats *stats) {
     const struct pie_opening *pie = &options->stage.opening;
     uint64_t overlimit = stats->bytes + stats->full;
@@ -109,7 +110,7 @@ static void write_json(FILE *file, const struct fwd_options *options, const char
             stats->queued, overlimit, stats->early + overlimit, stats->most, stats->marked);
 }
 
-/* Writes the file beside it and renames that, so that a reader finds the old text or the new one. */
+/* Writes a temporary file and renames it, so that a reader finds the old text or the new one. */
 static bool replace_json(const struct fwd_options *options, const char *port, const struct pie_stage_stats *stats) {
     char beside[PATH_MAX];
     if (options->json == NULL)

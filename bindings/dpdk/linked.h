@@ -1,5 +1,6 @@
-/* The least of a stage over a link (include/pie_link.h), for measures of the one beside the other: a packet's tag is its mbuf, and there is no ring,
- * lock or recorder but the link's own, whose event log has as many events as the stage's flight recorder. */
+/* A minimal stage over a link (include/pie_link.h), to compare its speed with the stage's. A packet's tag is its mbuf.
+ * The link's queue, lock and event log replace the stage's ring, lock and recorder; the log has as many events as the
+ * recorder. */
 #ifndef LINKED_H
 #define LINKED_H
 
@@ -14,7 +15,7 @@
 
 #define LINKED_LCORES 8
 #define LINKED_BURST 32u
-#define LINKED_EVENTS 16384 /* in the event log */
+#define LINKED_EVENTS 16384 /* capacity of the event log */
 
 struct linked {
     struct {
@@ -22,8 +23,8 @@ struct linked {
         struct stage_words words;
     } __rte_cache_aligned lcores[LINKED_LCORES];
     uint64_t start, t_update;
-    double nanoseconds;                 /* in a cycle of the TSC */
-    uint64_t due __rte_cache_aligned;   /* a moment before which no update is due: a hint, read without a turn */
+    double nanoseconds;                 /* of a cycle of the TSC */
+    uint64_t due __rte_cache_aligned;   /* no update is due before this moment: a hint, read without a turn */
 };
 
 static inline bool linked_open(struct linked *linked, const struct pie_opening *as) {
@@ -48,7 +49,7 @@ static inline uint64_t linked_moment(const struct linked *linked, uint64_t now) 
     return (uint64_t)((double)(now - linked->start) * linked->nanoseconds);
 }
 
-/* Puts an update before a burst if one may be due. Returns the first place of the burst. */
+/* Adds an update before a burst if one may be due. Returns the index of the first packet's event. */
 static inline uint32_t linked_begin(const struct linked *linked, struct pie_event *events, uint64_t moment) {
     bool is_due = moment >= __atomic_load_n(&linked->due, __ATOMIC_RELAXED);
     if (is_due)
@@ -56,7 +57,7 @@ static inline uint32_t linked_begin(const struct linked *linked, struct pie_even
     return is_due;
 }
 
-/* After the burst: an update was made. */
+/* Sets the hint after a burst that began with an update. */
 static inline void linked_end(struct linked *linked, const struct pie_event *update) {
     if (update->answer == PIE_DONE)
         __atomic_store_n(&linked->due, update->moment + linked->t_update, __ATOMIC_RELAXED);
@@ -92,7 +93,7 @@ static inline uint32_t linked_enqueue(struct linked *linked, struct rte_mbuf **m
     return count - lost;
 }
 
-/* Up to LINKED_BURST packets. */
+/* Dequeues up to LINKED_BURST packets. Returns their number. */
 static inline uint32_t linked_dequeue(struct linked *linked, struct rte_mbuf **mbufs, uint32_t count, uint64_t now) {
     struct pie_event events[1 + LINKED_BURST];
     uint32_t lcore = (uint32_t)rte_lcore_index(-1), taken = 0;
@@ -110,7 +111,7 @@ static inline uint32_t linked_dequeue(struct linked *linked, struct rte_mbuf **m
     return taken;
 }
 
-/* Frees the queued packets, when no other lcore makes calls any more. */
+/* Frees the queued packets and closes the ports, after the last call of any other lcore. */
 static inline void linked_close(struct linked *linked) {
     struct rte_mbuf *mbufs[LINKED_BURST];
     uint32_t count;

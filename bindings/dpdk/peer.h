@@ -1,4 +1,4 @@
-/* DPDK's rte_pie behind the lock, the ring and the calls that the stage has, for tests and measures of the one beside the other. */
+/* DPDK's rte_pie behind the lock, the ring and the calls of the stage, to compare the two in tests and measurements. */
 #ifndef PEER_H
 #define PEER_H
 
@@ -7,7 +7,7 @@
 #include <rte_ring_elem.h>
 #include <rte_spinlock.h>
 
-/* (its functions are static, and not all are used) */
+/* (the functions of rte_pie.h are static, and not all are used) */
 #pragma GCC diagnostic push
 #pragma GCC diagnostic ignored "-Wunused-function"
 #include <rte_pie.h>
@@ -27,10 +27,11 @@ struct peer {
     rte_spinlock_t lock __rte_cache_aligned;
     struct rte_pie pie;
     uint32_t packets;
-    uint64_t departed, waited, dropped, early; /* waited in cycles; early: those of the dropped that early drop picked */
+    uint64_t departed, waited, dropped, early; /* waited: in cycles; early: dropped packets that early drop picked */
 };
 
-/* Target and update interval of 15 ms, a burst allowance of 150 ms, as RFC 8033 and the stage have them; `room` packets are its limit. */
+/* Opens a queue of at most `room` packets with the parameters of RFC 8033 and of the stage: a target and an update
+ * interval of 15 ms, and a burst allowance of 150 ms. */
 static inline bool peer_open(struct peer *peer, uint32_t room) {
     memset(peer, 0, sizeof *peer);
     if (rte_pie_rt_data_init(&peer->pie) != 0 || rte_pie_config_init(&peer->config, 15, 15, 150, (uint16_t)room) != 0)
@@ -62,7 +63,7 @@ static inline uint32_t peer_enqueue(struct peer *peer, struct rte_mbuf **mbufs, 
             peer->early += verdict == 2;
             if (verdict != 0)
                 continue;
-            if (peer->packets == peer->room) { // (rte_pie counts a packet that it lets through as queued)
+            if (peer->packets == peer->room) { // (rte_pie counts each accepted packet as queued)
                 peer->pie.qlen--;
                 peer->pie.qlen_bytes -= size;
                 continue;

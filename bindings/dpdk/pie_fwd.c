@@ -1,4 +1,5 @@
-/* pie-fwd: forwards between two ports through a stage that is shaped to a rate. See `pie-fwd -- --help`. */
+/* pie-fwd: forwards packets between two ports. Those to port 1 pass a PIE stage and are shaped to a rate.
+ * `pie-fwd -- --help` describes the options. */
 #include "fwd_flight.h"
 #include "fwd_flows.h"
 #include "fwd_history.h"
@@ -27,9 +28,9 @@
 
 #define BURST 32
 #define DESCRIPTORS 512
-#define DRAIN 1000 /* polls without a packet after which a port counts as empty */
+#define DRAIN 1000 /* polls of a port that is being emptied */
 
-enum { IN, OUT }; /* the ports, by their numbers */
+enum { IN, OUT }; /* the numbers of the ports */
 
 static struct {
     struct fwd_options options;
@@ -38,10 +39,10 @@ static struct {
     struct fwd_history histories[FWD_QUEUES];
     struct fwd_records records[FWD_QUEUES];
     struct fwd_flows flows;
-    uint16_t receivers; /* lcores that receive, and queues of port 0 */
-    uint64_t unsent;    /* packets that a port did not take */
+    uint16_t receivers; /* number of receiving lcores, and of queues of port 0 */
+    uint64_t unsent;    /* packets that a port did not accept */
     int is_stopped;
-    int is_asked; /* for the flight recorder's text */
+    int is_asked; /* 1 if a signal requested the flight recorder's text */
 } forward;
 
 static void stop(int number) {
@@ -70,7 +71,8 @@ static uint64_t bytes_of(struct rte_mbuf **mbufs, uint32_t count) {
     return bytes;
 }
 
-/* Receives from a queue of port 0; with --receive its share of that, a packet at a time. */
+/* Receives packets from a queue of port 0. With --receive, receives an equal share of that rate, one packet at a
+ * time. */
 static int receive(void *argument) {
     uint16_t queue = (uint16_t)(uintptr_t)argument;
     struct rte_mbuf *mbufs[BURST];
@@ -100,7 +102,7 @@ static void send_burst(uint16_t port, struct rte_mbuf **mbufs, uint16_t count) {
     }
 }
 
-/* Sends the packets that the rate allows. A link that had nothing to send does not save up time. */
+/* Sends the packets that the rate allows. Time without packets gives no credit. */
 static void serve(struct fwd_pace *pace) {
     struct rte_mbuf *mbufs[BURST];
     uint64_t now = rte_rdtsc(), bytes = fwd_pace_bytes(pace, now);
@@ -115,7 +117,7 @@ static void serve(struct fwd_pace *pace) {
     send_burst(OUT, mbufs, (uint16_t)count);
 }
 
-/* Sends on port 1, and forwards the other way. */
+/* Sends packets on port 1, and forwards those that arrive there to port 0. */
 static int send_packets(void *argument) {
     struct rte_mbuf *mbufs[BURST];
     struct fwd_pace pace = fwd_pace_of((double)forward.options.rate, (double)rte_get_tsc_hz(), rte_rdtsc());
@@ -154,7 +156,7 @@ static bool open_port(uint16_t port, uint16_t queues) {
         return fail("a port's queue to send by", -code);
     if ((code = rte_eth_dev_start(port)) != 0)
         return fail("the start of a port", -code);
-    rte_eth_promiscuous_enable(port); // (a forwarder receives packets for other addresses; not all ports support this)
+    rte_eth_promiscuous_enable(port); // to receive packets for other addresses; not all ports support this
     return true;
 }
 
@@ -201,8 +203,8 @@ static void launch(void) {
     }
 }
 
-/* Writes the text of a flight recorder if a signal requested it, or if a wait did and the last text
- * of that queue is at least a second old. */
+/* Writes the texts of all flight recorders if a signal requested them. Otherwise writes the text of each queue in which
+ * a packet waited too long, at most once a second. */
 static void write_flights(uint64_t *written) {
     bool is_asked = __atomic_exchange_n(&forward.is_asked, 0, __ATOMIC_RELAXED) != 0;
     for (uint32_t i = 0; i < forward.queues.count; i++) {
@@ -219,7 +221,8 @@ static void read_all(struct pie_stage_stats *stats) {
         pie_stage_read(forward.queues.stages[i], &stats[i]);
 }
 
-/* Writes the records of complete intervals, new flows, and some of each history. Returns true if there was anything of a history. */
+/* Writes records of complete intervals, new flows, and a part of each history. Returns true if a history had new
+ * text. */
 static bool write_texts(void) {
     bool is_any = false;
     for (uint32_t i = 0; i < forward.queues.count; i++) {
@@ -230,7 +233,8 @@ static bool write_texts(void) {
     return is_any;
 }
 
-/* A line a second, histories, records of intervals and flows, and the flight recorder's text, until the end. */
+/* Prints a line each second, and writes histories, interval records, flows and flight recorders' texts, until the
+ * end. */
 static void report(void) {
     char port[RTE_ETH_NAME_MAX_LEN];
     struct pie_stage_stats before[FWD_QUEUES] = {0}, after[FWD_QUEUES];
@@ -254,7 +258,7 @@ static void report(void) {
             told = now;
         }
         write_flights(written);
-        // (if the reader of the lines is gone, the program ends too)
+        // the program ends if the reader of its lines is gone
         if (is_over || ferror(stdout) != 0)
             return;
         if (!write_texts())
@@ -262,7 +266,8 @@ static void report(void) {
     }
 }
 
-/* Frees the packets that a port still has for us: a net_ring holds the packets sent into it. A net_null never ends, so the polls are limited. */
+/* Frees the packets that a port still has: a net_ring contains the packets sent into it. A net_null never becomes
+ * empty, so the number of polls is limited. */
 static void drain(uint16_t port, uint16_t queues) {
     struct rte_mbuf *mbufs[BURST];
     for (uint16_t queue = 0; queue < queues; queue++)
@@ -270,7 +275,7 @@ static void drain(uint16_t port, uint16_t queues) {
             rte_pktmbuf_free_bulk(mbufs, rte_eth_rx_burst(port, queue, mbufs, BURST));
 }
 
-/* Frees everything. Returns false if an mbuf is missing, or if the file of the history is not complete. */
+/* Frees all memory and closes all files. Returns false if an mbuf is missing or a file is not complete. */
 static bool close_all(void) {
     uint16_t port;
     struct pie_stage_stats all[FWD_QUEUES];
@@ -323,7 +328,7 @@ int main(int count, char **words) {
     signal(SIGTERM, stop);
     signal(SIGHUP, stop);
     signal(SIGUSR1, ask);
-    signal(SIGPIPE, SIG_IGN); // (a write fails then, and everything is freed)
+    signal(SIGPIPE, SIG_IGN); // a write to a closed pipe then fails, and everything is freed
     bool is_open = open_all();
     if (is_open) {
         launch();

@@ -13,26 +13,26 @@
 #include <rte_ring_elem.h>
 #include <rte_ring_peek_zc.h>
 
-#define BURST 32u    /* packets looked at before the lock is taken, and moved at once */
-#define SMALLEST 64u /* bytes of an Ethernet frame */
-#define AHEAD 12u /* the distance in events at which memory is prefetched */
+#define BURST 32u    /* packets whose headers are read before the lock is taken, and that are moved at once */
+#define SMALLEST 64u /* bytes of the smallest Ethernet frame */
+#define AHEAD 12u    /* memory is prefetched this number of events ahead */
 
 /* The properties of an arriving packet. */
 struct seen {
-    struct stage_packet packet; /* its ECN field for the controller: PIE_NOT_ECT if the packet cannot be marked */
+    struct stage_packet packet; /* its ECN field is PIE_NOT_ECT if the packet cannot be marked */
     uint32_t size;
 };
 
-/* The numbers of packets of a burst that cannot be marked. */
+/* The packets of a burst that cannot be marked: without an IP header, and with a shared header. */
 struct unmarkable {
     uint32_t no_ip, shared;
 };
 
-/* A turn at the lock. */
+/* A turn: the time during which a call holds the lock. */
 struct turn {
     uint64_t moment;  /* the caller's moment */
-    uint64_t reached; /* the controller's moment from here on: the greatest so far */
-    uint16_t caller;  /* of a stage that records */
+    uint64_t reached; /* the effective moment */
+    uint16_t caller;  /* the lcore, if the stage records */
 };
 
 uint64_t pie_stage_nanoseconds(const struct pie_stage *stage, uint64_t cycles) {
@@ -85,7 +85,7 @@ static int open_periods(struct pie_stage *stage, const struct pie_stage_params *
     return is_open ? 0 : EINVAL;
 }
 
-/* Allocates the memory for flows, which only events contain. Returns 0, or the value for rte_errno. */
+/* Allocates the memory for flows, if the stage keeps events. Returns 0, or the value for rte_errno. */
 static int open_flows(struct pie_stage *stage, const struct pie_stage_params *params, int socket) {
     if (params->flow == NULL || stage->memory == NULL)
         return 0;
@@ -97,8 +97,8 @@ static int open_flows(struct pie_stage *stage, const struct pie_stage_params *pa
     return stage->flows != NULL && (stage->cut.flows != NULL || !stage->is_followed) ? 0 : ENOMEM;
 }
 
-/* Opens the flight recorder. Returns 0, or the value for rte_errno. The memory for a copy is taken here, so that a text can be written when memory
- * is out. */
+/* Opens the flight recorder. Returns 0, or the value for rte_errno. Allocates the memory for a copy too, so that a text
+ * can be written when no memory is left. */
 static int open_flight(struct pie_stage *stage, const struct pie_stage_params *params, int socket) {
     uint32_t events = RTE_MAX(params->flight, params->events);
     if (events == 0)
@@ -167,7 +167,7 @@ void pie_stage_free(struct pie_stage *stage) {
     free_memory(stage);
 }
 
-/* Takes the flight recorder's snapshot of the present state, under the lock. */
+/* Takes the flight recorder's snapshot of the present state. The lock is held. */
 static __rte_noinline void take_snapshot(struct pie_stage *stage) {
     stage->flight.stats = history_stats(stage);
     stage->flight.came_so_far = stage->stats.queued;
@@ -181,8 +181,8 @@ static __rte_always_inline bool keeps_events(const struct pie_stage *stage, cons
     return record == FLIGHT || (record == MORE && stage->memory != NULL);
 }
 
-/* Under the lock, before an event: returns true if it is added to the sums of its interval. A
- * complete interval goes to the thread that writes the records. */
+/* Returns true if the next event is added to the sums of its interval. If the event ends an interval, passes that
+ * interval to the thread that writes the records. The lock is held. */
 static __rte_always_inline bool is_summed(struct pie_stage *stage, const struct turn *turn, const enum record record) {
     if (record != MORE || stage->periods == NULL)
         return false;
@@ -191,26 +191,25 @@ static __rte_always_inline bool is_summed(struct pie_stage *stage, const struct 
     return true;
 }
 
-/* Under the lock: begins a burst of events for the flight recorder, or an empty one if there is no
- * recorder. */
+/* Begins a burst of events for the flight recorder, or an empty one if there is no recorder. The lock is held. */
 static __rte_always_inline struct pie_flight_burst begin_burst(const struct pie_stage *stage, const enum record record) {
     return keeps_events(stage, record) ? pie_flight_begin(&stage->flight) : (struct pie_flight_burst){0};
 }
 
-/* Under the lock: keeps the events of a burst, whose packets are already counted. */
+/* Keeps the events of a burst, after its packets were counted. The lock is held. */
 static inline void keep(struct pie_stage *stage, const struct pie_flight_burst *burst) {
     pie_flight_end(&stage->flight, burst);
     if (unlikely(pie_flight_is_due(&stage->flight)))
         take_snapshot(stage);
 }
 
-/* Under the lock: copies the controller's numbers that determine if headers are read. */
+/* Publishes the moment of the next update, and whether packets can be picked. The lock is held. */
 static inline void show_controller(struct pie_stage *stage) {
     __atomic_store_n(&stage->due, pie_due(&stage->pie), __ATOMIC_RELAXED);
     __atomic_store_n(&stage->picks, stage->pie.prob != 0, __ATOMIC_RELAXED);
 }
 
-/* Under the lock, counts an update. */
+/* Counts an update. The lock is held. */
 static void count_update(struct pie_stage *stage, const struct pie_event *event, bool is_late) {
     struct pie_stage_stats *stats = &stage->stats;
     stats->probs[pie_prob_sort(event->prob)]++;
@@ -221,7 +220,7 @@ static void count_update(struct pie_stage *stage, const struct pie_event *event,
     stage->greatest_delay = RTE_MAX(stage->greatest_delay, event->delay);
 }
 
-/* Under the lock, makes an update that may be due. */
+/* Makes an update. Returns false if it is too soon. The lock is held. */
 static __rte_noinline bool update(struct pie_stage *stage, const struct turn *turn) {
     struct pie_event event = {.moment = turn->moment, .caller = turn->caller};
     struct pie_flight_burst burst = pie_flight_begin(&stage->flight);
@@ -239,7 +238,7 @@ static __rte_noinline bool update(struct pie_stage *stage, const struct turn *tu
     return true;
 }
 
-/* Under the lock: begins a turn with packets, with an update if one is due. */
+/* Begins a turn with packets, and makes an update if one is due. The lock is held. */
 static inline struct turn begin(struct pie_stage *stage, uint64_t moment) {
     struct turn turn = {.moment = moment, .reached = RTE_MAX(stage->pie.moment, moment)};
     if (stage->record != NOTHING)
@@ -287,9 +286,8 @@ void pie_stage_read_params(struct pie_stage *stage, struct pie_params *params) {
     rte_spinlock_unlock(&stage->lock);
 }
 
-/* Returns true if headers are read before the lock is taken. While the probability is 0 no packet
- * is picked, so there is nothing to mark and no header is read, except for a history, which has the
- * ECN field of each packet. */
+/* Returns true if headers are read before the lock is taken. While the probability is 0, no packet is picked or marked,
+ * so headers are read only for a recorder, which stores the ECN field of each packet. */
 static inline bool looks_early(const struct pie_stage *stage) {
     return stage->ecn && (keeps_events(stage, stage->record) || __atomic_load_n(&stage->picks, __ATOMIC_RELAXED));
 }
@@ -299,7 +297,7 @@ static inline void look_at_sizes(struct rte_mbuf **mbufs, uint32_t count, struct
         seen[i] = (struct seen){.packet = {0, 0, PIE_NOT_ECT}, .size = rte_pktmbuf_pkt_len(mbufs[i])};
 }
 
-/* Looks at the headers of packets that arrive. */
+/* Reads the headers of arriving packets. Returns the number of those that cannot be marked. */
 static __rte_noinline struct unmarkable look(struct rte_mbuf **mbufs, uint32_t count, struct seen *seen) {
     struct unmarkable unmarkable = {0, 0};
     for (uint32_t i = 0; i < count; i++)
@@ -316,14 +314,15 @@ static __rte_noinline struct unmarkable look(struct rte_mbuf **mbufs, uint32_t c
     return unmarkable;
 }
 
-/* Under the lock, the controller's answer to a packet, which is summed up. */
+/* Returns the verdict for a packet, and adds the event to the sums of its interval. The lock is held. */
 static __rte_noinline uint32_t decide_summed(struct pie_stage *stage, uint64_t bytes, const struct seen *seen, uint32_t room, uint64_t word,
                                              uint64_t moment) {
     struct pie_event event = {.moment = moment, .word = word, .size = seen->size, .ecn = seen->packet.ecn};
     return pie_arrive_summed(&stage->pie, bytes, room, &event, &stage->periods->current);
 }
 
-/* Returns the controller's answer to a packet of this flow, under the lock. At the probability 0 the random word has no effect. */
+/* Returns the verdict for a packet of this flow, and records it. At the probability 0 the random word has no effect.
+ * The lock is held. */
 static __rte_always_inline uint32_t decide(struct pie_stage *stage, uint64_t bytes, const struct seen *seen, uint32_t flow, uint32_t room,
                                            const struct turn *turn, struct pie_flight_burst *burst, const enum record record) {
     uint32_t verdict;
@@ -345,7 +344,7 @@ static __rte_always_inline uint32_t decide(struct pie_stage *stage, uint64_t byt
     return verdict;
 }
 
-/* Under the lock, counts a packet that is dropped. */
+/* Counts a dropped packet. The lock is held. */
 static __rte_noinline void count_drop(struct pie_stage_stats *stats, uint32_t verdict, uint32_t size) {
     stats->dropped_bytes += verdict <= PIE_PACKETS ? size : 0;
     stats->early += verdict == PIE_EARLY;
@@ -355,8 +354,8 @@ static __rte_noinline void count_drop(struct pie_stage_stats *stats, uint32_t ve
     stats->refused += verdict > PIE_PACKETS && verdict != PIE_BAD_SIZE;
 }
 
-/* Under the lock: decides up to BURST packets from the place `from` on, and moves the queued ones
- * to `mbufs + queued`. Returns their number. */
+/* Decides `count` packets from index `from` on, at most BURST, and moves the queued ones to `mbufs + queued`. Returns
+ * the number of queued packets. The lock is held. */
 static __rte_always_inline uint32_t arrive_burst(struct pie_stage *stage, struct rte_mbuf **mbufs, uint32_t queued, uint32_t from, uint32_t count,
                                                  const struct seen *seen, const uint32_t *flows, const struct turn *turn,
                                                  const enum record record) {
@@ -379,7 +378,7 @@ static __rte_always_inline uint32_t arrive_burst(struct pie_stage *stage, struct
             stage_packet_mark(mbuf, &seen[i].packet);
         }
         if (unlikely(to == end))
-            to = places.ptr2; // (the ring's first place again)
+            to = places.ptr2; // (continues at the ring's first place)
         *to++ = (struct waiting){.mbuf = mbuf, .arrived = turn->reached, .size = seen[i].size,
                                  .ecn = verdict == PIE_MARK ? PIE_CE : seen[i].packet.ecn, .tag = record != NOTHING ? stage->arrivals : 0};
         if (unlikely(queued + taken != from + i)) {
@@ -420,7 +419,7 @@ uint32_t pie_stage_enqueue(struct pie_stage *stage, struct rte_mbuf **mbufs, uin
             flows[i] = stage->flow(stage->flow_user, mbufs[from + i]);
         rte_spinlock_lock(&stage->lock);
         struct turn turn = begin(stage, moment);
-        // (an update made the probability positive meanwhile: once in a while)
+        // (rare: the update of this turn raised the probability above 0)
         if (unlikely(stage->ecn && !is_looked && stage->pie.prob != 0))
             unmarkable = look(mbufs + from, part, seen);
         stage->stats.no_ip += unmarkable.no_ip;
@@ -438,13 +437,13 @@ uint32_t pie_stage_enqueue(struct pie_stage *stage, struct rte_mbuf **mbufs, uin
     return queued;
 }
 
-/* Under the lock, a packet leaves, and is summed up. */
+/* Makes the departure of a packet, and adds it to the sums of its interval. The lock is held. */
 static __rte_noinline void depart_summed(struct pie_stage *stage, const struct waiting *oldest, uint64_t left, uint64_t moment) {
     struct pie_event event = {.moment = moment, .size = oldest->size, .ecn = oldest->ecn};
     pie_depart_summed(&stage->pie, left, oldest->arrived, &event, &stage->periods->current);
 }
 
-/* Under the lock, the oldest packet leaves, the one with this number. */
+/* Makes the departure of the oldest packet, which has this number, and records it. The lock is held. */
 static __rte_always_inline void depart(struct pie_stage *stage, const struct waiting *oldest, uint64_t number, uint64_t left,
                                        const struct turn *turn, struct pie_flight_burst *burst, const enum record record) {
     uint64_t tag = oldest->tag;
@@ -460,8 +459,8 @@ static __rte_always_inline void depart(struct pie_stage *stage, const struct wai
     pie_flight_depart(burst, turn->moment, tag, oldest->arrived, oldest->size, oldest->ecn, turn->caller);
 }
 
-/* Under the lock: dequeues the `count` oldest packets, at most BURST, while the sum of their sizes
- * is below `bytes`, which is reduced by that sum. Returns their number. */
+/* Dequeues the `count` oldest packets, at most BURST, while the sum of their sizes is below `bytes`. Reduces `bytes` by
+ * that sum. Returns the number of packets. The lock is held. */
 static __rte_always_inline uint32_t depart_burst(struct pie_stage *stage, struct rte_mbuf **mbufs, uint32_t count, uint64_t *bytes,
                                                  const struct turn *turn, const enum record record) {
     struct rte_ring_zc_data places = {0};
@@ -472,7 +471,7 @@ static __rte_always_inline uint32_t depart_burst(struct pie_stage *stage, struct
     const struct waiting *oldest = places.ptr1, *end = oldest + places.n1;
     while (taken < found && sent < most) {
         if (unlikely(oldest == end))
-            oldest = places.ptr2; // (the ring's first place again)
+            oldest = places.ptr2; // (continues at the ring's first place)
         rte_prefetch0(oldest->mbuf);
         sent += oldest->size;
         depart(stage, oldest, stats->departed + taken, stage->bytes - sent, turn, &burst, record);
@@ -525,8 +524,8 @@ uint32_t pie_stage_dequeue(struct pie_stage *stage, struct rte_mbuf **mbufs, uin
     return pie_stage_dequeue_bytes(stage, mbufs, count, UINT64_MAX, now);
 }
 
-/* Under the lock: returns the number of events that the history lacks: those that were missed, and
- * those that will be, because they are already overwritten. */
+/* Returns the number of events that the history lacks: missed events, and overwritten ones that the writer has not
+ * reached yet. The lock is held. */
 static uint64_t lost_so_far(const struct pie_stage *stage) {
     uint64_t room = stage->follower.layout.events, waiting;
     if (!stage->is_followed)

@@ -71,20 +71,20 @@ extern "C" {
 struct rte_mbuf;
 struct pie_stage;
 
-/* The number of a packet's flow. */
+/* Returns the number of a packet's flow. */
 typedef uint32_t (*pie_stage_flow)(void *user, const struct rte_mbuf *mbuf);
 
 #define PIE_STAGE_MAX_EVENTS (1u << 24) /* the most events of the flight recorder */
 #define PIE_STAGE_FLIGHT (1u << 14)     /* the default number */
 
 struct pie_stage_params {
-    struct pie_opening opening; /* of the controller; the stage's clock begins at 0, and `packets` is the queue's room */
+    struct pie_opening opening; /* the controller's opening; `moment` is 0, and `packets` is the queue's room */
     bool ecn;                   /* mark ECN-capable packets; otherwise they are dropped like others */
     bool hands_back;            /* return dropped mbufs to the caller that enqueues them; otherwise the stage frees them */
     uint32_t flight;            /* the least number of events that the flight recorder keeps, up to 2^24, each of
                                    about 100 bytes with the memory for a copy; 0: its text is never requested */
-    uint64_t flight_wait;       /* a packet that waited longer than this many nanoseconds requests the flight
-                                   recorder's text; 0: none does */
+    uint64_t flight_wait;       /* a packet that waited longer than this, in ns, requests the flight recorder's
+                                   text; 0: none does */
     uint32_t events;            /* the least number of events that may be pending for the writer of the whole
                                    history, up to 2^24, each of about 50 bytes, in the flight recorder's memory; 0:
                                    no history is written */
@@ -102,7 +102,7 @@ struct pie_stage_stats {
     uint64_t early;          /* dropped by early drop */
     uint64_t bytes;          /* dropped because the queue would exceed limit_bytes */
     uint64_t full;           /* dropped because the queue has no room for another packet */
-    uint64_t dropped_bytes;  /* bytes of the packets of these three kinds of drops */
+    uint64_t dropped_bytes;  /* bytes of these three kinds of drops */
     uint64_t oversized;      /* dropped because of a size outside 1 to 65535 bytes */
     uint64_t refused;        /* dropped because the controller refused the arrival: 0 in a correct program */
     uint64_t no_ip;          /* packets without an IP header, if the stage looked for one; they are never marked. It
@@ -115,10 +115,10 @@ struct pie_stage_stats {
     uint64_t waited;         /* the sum of their waits in nanoseconds: the low 64 bits */
     uint64_t waited_high;    /* the upper 64 bits of that sum */
     uint64_t longest;        /* the longest of these waits, in nanoseconds */
-    uint64_t waits[PIE_WAIT_SORTS]; /* packets by the sorts of their waits (pie_sorts.h) */
+    uint64_t waits[PIE_WAIT_SORTS]; /* departed packets in each bucket of waits (pie_sorts.h) */
     uint64_t updates;        /* updates made */
     uint64_t late;           /* of these, updates made more than t_update after they were due */
-    uint64_t probs[PIE_PROB_SORTS]; /* updates by the sorts of the probability after them */
+    uint64_t probs[PIE_PROB_SORTS]; /* updates in each bucket of the probability after them */
     uint64_t probs_sum;      /* the sum of these probabilities: the low 64 bits */
     uint64_t probs_high;     /* the upper 64 bits of that sum */
     uint64_t changes;        /* changes of the parameters */
@@ -140,29 +140,32 @@ struct pie_stage_stats {
  * marks are on, dropped mbufs are freed, and the flight recorder keeps PIE_STAGE_FLIGHT events. */
 void pie_stage_default_params(struct pie_stage_params *params, uint64_t rate);
 
-/* Creates a stage in DPDK's memory on `socket`, which may be SOCKET_ID_ANY. `name` is the name of
- * its rte_ring, which no other ring may have. On an error returns NULL and sets rte_errno: EINVAL
- * if a parameter is out of its range, ENOMEM if there is no memory, EEXIST if the name is in use,
- * ENAMETOOLONG, EIO if the system has no random bits. */
+/* Creates a stage in DPDK's memory on `socket`, which may be SOCKET_ID_ANY. `name` is the name of its rte_ring.
+ * On an error returns NULL and sets rte_errno:
+ *   EINVAL        a parameter is out of its range
+ *   ENOMEM        no memory
+ *   EEXIST        another ring has the name
+ *   ENAMETOOLONG  the name is too long
+ *   EIO           the system has no random bits */
 struct pie_stage *pie_stage_create(const char *name, const struct pie_stage_params *params, int socket);
 
 /* Frees a stage and its queued mbufs. NULL is accepted. */
 void pie_stage_free(struct pie_stage *stage);
 
-/* Enqueues a burst in order, after an update if one is due. Returns the number of queued packets. `mbufs` is
- * reordered: first the queued packets, which the stage now owns, then the dropped ones, which the caller owns with
- * hands_back and which are freed otherwise. */
+/* Enqueues a burst in order, after an update if one is due. Returns the number of queued packets. Reorders `mbufs`: the
+ * queued packets come first, and belong to the stage now. The dropped packets follow. With hands_back they belong to
+ * the caller, otherwise they are freed. */
 uint32_t pie_stage_enqueue(struct pie_stage *stage, struct rte_mbuf **mbufs, uint32_t count, uint64_t now);
 
 /* Dequeues up to `count` packets, oldest first. Returns their number. */
 uint32_t pie_stage_dequeue(struct pie_stage *stage, struct rte_mbuf **mbufs, uint32_t count, uint64_t now);
 
-/* Dequeues as pie_stage_dequeue does, while this call has dequeued fewer than `bytes` bytes. The
- * last packet may exceed the limit. */
+/* Dequeues as pie_stage_dequeue, while this call has dequeued fewer than `bytes` bytes. The last packet may exceed the
+ * limit. */
 uint32_t pie_stage_dequeue_bytes(struct pie_stage *stage, struct rte_mbuf **mbufs, uint32_t count, uint64_t bytes, uint64_t now);
 
-/* Makes an update if one is due. Returns true if it made one. Enqueuing and dequeuing packets also
- * make due updates; a timer is needed while there are no packets. */
+/* Makes an update if one is due. Returns true if it made one. Enqueuing and dequeuing make due updates too, so a timer
+ * is needed only while there are no packets. */
 bool pie_stage_update(struct pie_stage *stage, uint64_t now);
 
 /* Sets new parameters while the stage runs, as pie_set_params of pie.h does, after an update if one
@@ -176,33 +179,33 @@ void pie_stage_read_params(struct pie_stage *stage, struct pie_params *params);
 /* Reads the statistics, all at one moment. */
 void pie_stage_read(struct pie_stage *stage, struct pie_stage_stats *stats);
 
-/* Writes the text of the flight recorder, as pie_flight_dump: at least the last `flight` events, if at most an
- * eighth of these arrived during the copy. One thread at a time; it holds the lock for 256 packets of the queue at
- * once, and not while it writes. Returns PIE_FLIGHT_NONE if the stage has no flight recorder. */
+/* Writes the text of the flight recorder, as pie_flight_dump: at least the last `flight` events, if at most an eighth
+ * of these arrived during the copy. Returns PIE_FLIGHT_NONE if the stage has no flight recorder. Call it from one
+ * thread at a time. It releases the lock after each 256 queued packets, and does not hold it while it writes. */
 int pie_stage_flight(struct pie_stage *stage, pie_flight_write write, void *user);
 
 /* Returns true if a packet waited longer than flight_wait since the last call. */
 bool pie_stage_flight_is_asked(struct pie_stage *stage);
 
-/* Writes the history as text: the events since the last call, in whole lines, from the first record on. Returns the
- * number of bytes; 0 if there is nothing now or `events` is 0. When it returns 0 after the last call of any other
- * thread, the history is complete. `room` is at least PIE_RECORD_ROOM, after a cut PIE_RESUME_ROOM. One thread at a
- * time; it takes no lock and delays no other call. If it was called too late, a line `lost,<count>` has the number
- * of missing events, and an audit ends there; an excerpt begins with the next cut. */
+/* Writes the history as text, in whole lines: the events since the last call, and first the opening. Returns the number
+ * of bytes; 0 if there is no new event or `events` is 0. If it returns 0 after the last call of any other thread, the
+ * history is complete. `room` is at least PIE_RECORD_ROOM, after a cut PIE_RESUME_ROOM. Call it from one thread at a
+ * time. It takes no lock and delays no other call. If it is called too late, a line `lost,<count>` has the number of
+ * missing events. An audit ends there; the next cut begins an excerpt. */
 size_t pie_stage_history(struct pie_stage *stage, unsigned char *text, size_t room);
 
-/* Cuts the history: pie_stage_history writes the text up to this moment, returns 0 once when it is complete, and
- * from then on writes a new excerpt (docs/FORMATS.md). A gap stays in the text before the cut. The thread that
- * writes the history calls it. Returns false and cuts nothing if `events` is 0, if nothing was written yet, or if
- * the text before the last cut is not complete. The lock is held for 256 queued packets at once; for more only
- * while packets arrive as fast as they are copied. */
+/* Cuts the history. pie_stage_history then writes the text up to this moment, returns 0 once, and writes a new excerpt
+ * (docs/FORMATS.md). A gap stays in the text before the cut. Call it from the thread that writes the history. Returns
+ * false and cuts nothing if `events` is 0, if nothing was written yet, or if the text before the last cut is not
+ * complete. It releases the lock after each 256 queued packets, or after more if packets arrive as fast as they are
+ * copied. */
 bool pie_stage_history_cut(struct pie_stage *stage);
 
-/* Writes the header row, or the record of the next complete interval, as `pie explain --every --csv --wall` writes
- * them for the history. Returns the number of bytes; 0 if there is none now or `every` is 0. `is_over`: no other
- * thread calls the stage any more, and the last interval is complete too. `room` is at least PIE_RESUME_ROOM. One
- * thread at a time; it delays no other call except once, for the header. Eight intervals may be pending; if it was
- * called too late, a line `lost,<count>` has the number of missing intervals. */
+/* Writes the header row, or the record of the next complete interval, as `pie explain --every --csv --wall` does for
+ * the history. Returns the number of bytes; 0 if no interval is complete or `every` is 0. If no other thread calls the
+ * stage any more, `is_over` is true, and the last interval counts as complete. `room` is at least PIE_RESUME_ROOM. Call
+ * it from one thread at a time. It delays other calls only once, for the header. Eight intervals may be pending; if it
+ * is called too late, a line `lost,<count>` has the number of missing intervals. */
 size_t pie_stage_record(struct pie_stage *stage, bool is_over, unsigned char *text, size_t room);
 
 /* Converts cycles of the TSC to nanoseconds by the clock of the stage. The result is rounded down, and exact to

@@ -33,8 +33,8 @@
 
 #define MBUFS 16383u
 #define BURST 32
-#define EVENTS (1u << 17) /* pending for the history */
-#define EVERY 10000000    /* ns of an interval */
+#define EVENTS (1u << 17) /* the most events that may be pending for the history */
+#define EVERY 10000000    /* length of an interval in ns */
 #define STANDING 512
 #define ROOM 1024u
 
@@ -73,7 +73,7 @@ static void expect_all_back(void) {
 
 static unsigned char text[65536];
 
-/* Writes the present part of the history. Returns true if there was any. */
+/* Writes the pending part of the history. Returns true if there was any. */
 static bool write_history(FILE *file) {
     size_t size = pie_stage_history(stage, text, sizeof text);
     if (fwrite(text, 1, size, file) != size)
@@ -81,7 +81,7 @@ static bool write_history(FILE *file) {
     return size != 0;
 }
 
-/* Writes the next record of a complete interval; returns true if there was one. */
+/* Writes the record of the next complete interval. Returns true if there was one. */
 static bool write_record(FILE *file) {
     size_t size = pie_stage_record(stage, false, text, sizeof text);
     if (fwrite(text, 1, size, file) != size)
@@ -89,7 +89,7 @@ static bool write_record(FILE *file) {
     return size != 0;
 }
 
-/* Generates the same load for each: sizes and gaps from a seed. */
+/* Generates sizes and gaps from a seed, so that all queues receive the same load. */
 static uint64_t next_random(uint64_t *state) {
     *state ^= *state << 13;
     *state ^= *state >> 7;
@@ -106,7 +106,7 @@ static FILE *open_segment(const char *folder, int segment) {
     return file;
 }
 
-/* Ends the segment and begins the next. */
+/* Ends the segment of the history and begins the next. */
 static FILE *next_segment(FILE *history, const char *folder, int segment) {
     if (!pie_stage_history_cut(stage))
         die("a segment");
@@ -204,7 +204,7 @@ static int measure_slow(const char *folder) {
     return 0;
 }
 
-/* A frame of IPv4 in each mbuf: the null port sends its mbufs as they are. */
+/* Writes a frame of IPv4 to each mbuf: the null port sends its mbufs unchanged. */
 static void fill(struct rte_mempool *from, void *opaque, void *object, unsigned int index) {
     static const uint8_t frame[34] = {[12] = 8, [14] = 0x45, [15] = PIE_ECT0, [17] = 50, [22] = 64, [23] = 17};
     struct rte_mbuf *mbuf = object;
@@ -231,7 +231,7 @@ static void send_all(struct rte_mbuf **mbufs, uint32_t count) {
     rte_pktmbuf_free_bulk(mbufs + sent, count - sent);
 }
 
-/* The lcores that forward: all but the one that writes the history. */
+/* Returns the number of lcores that forward: all except the one that writes the history. */
 static uint32_t forwarders(void) {
     return rte_lcore_count() - 1;
 }
@@ -257,7 +257,7 @@ static int work(void *argument) {
     return 0;
 }
 
-/* One lcore does it all. */
+/* Receives, enqueues, dequeues and sends on one lcore. */
 static uint64_t forward_alone(uint64_t end) {
     struct rte_mbuf *mbufs[BURST];
     uint64_t packets = 0;
@@ -276,7 +276,7 @@ static uint64_t forward_alone(uint64_t end) {
     return packets;
 }
 
-/* The main lcore dequeues and sends, the others receive and enqueue. */
+/* Dequeues and sends on the main lcore; the others receive and enqueue. */
 static uint64_t forward_by_all(uint64_t end) {
     struct rte_mbuf *mbufs[BURST];
     struct rte_eth_stats before, after;
@@ -288,7 +288,7 @@ static uint64_t forward_by_all(uint64_t end) {
     return after.opackets - before.opackets;
 }
 
-/* Returns the lost share of the history in per cent. */
+/* Prints the lost share of the history in per cent. */
 static void tell_lost(void) {
     struct pie_stage_stats stats;
     pie_stage_read(stage, &stats);

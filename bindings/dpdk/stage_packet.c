@@ -7,7 +7,7 @@
 #define TAGS 4
 #define IPV4 STAGE_IPV4
 #define IPV6 40
-#define CHECKSUM 10 /* its place in an IPv4 header */
+#define CHECKSUM 10 /* offset of the checksum in an IPv4 header */
 #define LOOKED (ETHERNET + TAG * TAGS + IPV4)
 
 static uint16_t word_at(const uint8_t *bytes) {
@@ -37,7 +37,7 @@ struct stage_packet stage_packet_look_anywhere(const struct rte_mbuf *mbuf) {
     return packet;
 }
 
-/* Returns the segment that has this byte of the frame, and its place in the data of the segment. */
+/* Returns the segment that contains byte `at` of the frame. Changes `at` to the offset in the data of that segment. */
 static struct rte_mbuf *segment_of(const struct rte_mbuf *mbuf, uint32_t *at) {
     const struct rte_mbuf *segment = mbuf;
     while (*at >= rte_pktmbuf_data_len(segment)) {
@@ -67,8 +67,7 @@ bool stage_packet_is_shared_anywhere(const struct rte_mbuf *mbuf, const struct s
            (packet->version == 4 && (is_held_by_others(mbuf, checksum) || is_held_by_others(mbuf, checksum + 1)));
 }
 
-/* One 16-bit word of the header was changed: the new checksum is the complement of ~checksum + ~before + after, in ones' complement
- * (RFC 1624, section 3). */
+/* Returns the checksum of a header after a 16-bit word was changed from `before` to `after` (RFC 1624, section 3). */
 static uint16_t mended(uint16_t checksum, uint16_t before, uint16_t after) {
     uint32_t sum = (uint32_t)(uint16_t)~checksum + (uint16_t)~before + after;
     sum = (sum & 0xffff) + (sum >> 16);

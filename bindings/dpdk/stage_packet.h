@@ -11,14 +11,14 @@
 
 struct stage_packet {
     uint16_t header; /* the offset of the outermost IP header in the frame, in bytes */
-    uint8_t version; /* 4 or 6, 0 without such a header */
-    uint8_t ecn;     /* the field, PIE_NOT_ECT without a header */
+    uint8_t version; /* 4 or 6; 0 without an IP header */
+    uint8_t ecn;     /* the ECN field; PIE_NOT_ECT without an IP header */
 };
 
 #define STAGE_ETHERNET 14 /* bytes of the Ethernet header */
 #define STAGE_IPV4 20     /* bytes of an IPv4 header without options */
 
-/* stage_packet_look and stage_packet_is_shared for any frame, in any segments. */
+/* Do what stage_packet_look and stage_packet_is_shared do, for frames in any number of segments. */
 struct stage_packet stage_packet_look_anywhere(const struct rte_mbuf *mbuf);
 bool stage_packet_is_shared_anywhere(const struct rte_mbuf *mbuf, const struct stage_packet *packet);
 
@@ -26,7 +26,7 @@ bool stage_packet_is_shared_anywhere(const struct rte_mbuf *mbuf, const struct s
 static inline struct stage_packet stage_packet_look(const struct rte_mbuf *mbuf) {
     const uint8_t *bytes = rte_pktmbuf_mtod(mbuf, const uint8_t *);
     uint32_t word;
-    // (the usual frame: IPv4 without tags and options)
+    // the usual frame: IPv4 without VLAN tags and options
     if (unlikely(rte_pktmbuf_data_len(mbuf) < STAGE_ETHERNET + STAGE_IPV4))
         return stage_packet_look_anywhere(mbuf);
     memcpy(&word, bytes + STAGE_ETHERNET - 2, sizeof word);
@@ -36,7 +36,7 @@ static inline struct stage_packet stage_packet_look(const struct rte_mbuf *mbuf)
     return (struct stage_packet){STAGE_ETHERNET, 4, word & 3};
 }
 
-/* Returns true if others share the bytes that a mark changes. */
+/* Returns true if another mbuf shares the bytes that a mark changes. */
 static inline bool stage_packet_is_shared(const struct rte_mbuf *mbuf, const struct stage_packet *packet) {
     if (likely(mbuf->nb_segs == 1 && rte_mbuf_refcnt_read(mbuf) == 1 && RTE_MBUF_DIRECT(mbuf)))
         return false;

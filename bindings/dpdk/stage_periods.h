@@ -1,5 +1,5 @@
-/* The intervals of a stage: the deciding thread sums up the one under way, and passes complete ones to the one thread that writes their records.
- * Neither waits for the other. */
+/* The intervals of a stage: the deciding thread adds events to the present interval, and passes complete intervals to
+ * the thread that writes their records. Neither thread waits for the other. */
 #ifndef STAGE_PERIODS_H
 #define STAGE_PERIODS_H
 
@@ -12,15 +12,15 @@
 
 struct stage_periods {
     struct pie_period current;
-    uint64_t handed; /* the number of the last complete interval, which the writer received or which was lost */
-    uint64_t over;   /* the number of intervals that the writer received */
-    uint64_t written __rte_cache_aligned; /* the number of those that the writer has written .. */
-    uint64_t number;                      /* the number of the last one, with those lost before it */
-    bool is_begun;                        /* the text has its header row */
+    uint64_t handed; /* number of the last complete interval, received by the writer or lost */
+    uint64_t over;   /* count of the intervals that the writer received */
+    uint64_t written __rte_cache_aligned; /* count of the intervals that the writer wrote */
+    uint64_t number;                      /* number of the last of these; lost intervals are counted too */
+    bool is_begun;                        /* the header row was written */
     struct pie_period ended[STAGE_PERIODS];
 };
 
-/* Ends the current interval. Returns false if it is lost, because too many are pending. */
+/* Ends the current interval. Returns false if the interval is lost because too many are pending. */
 __attribute__((noinline)) static bool stage_periods_end(struct stage_periods *periods) {
     periods->handed = periods->current.begun;
     if (periods->over - __atomic_load_n(&periods->written, __ATOMIC_ACQUIRE) == STAGE_PERIODS)
@@ -30,13 +30,13 @@ __attribute__((noinline)) static bool stage_periods_end(struct stage_periods *pe
     return true;
 }
 
-/* Before an event: returns true if it ends the current interval, which is not yet complete. */
+/* Returns true if an event at `moment` ends the current interval. Call it before the event. */
 static inline bool stage_periods_is_over(const struct stage_periods *periods, uint64_t moment) {
     return moment >= periods->current.end && periods->current.begun != periods->handed;
 }
 
-/* Writes the next record, or a line with the number of records missing before it. Returns the number of bytes; 0 if
- * there is none. The writer calls it. */
+/* Writes the next record, or first a line with the number of records missing before it. Returns the number of bytes; 0
+ * if there is no record. The writer calls it. */
 static inline size_t stage_periods_write(struct stage_periods *periods, unsigned char *text, size_t room) {
     const struct pie_period *next = &periods->ended[periods->written % STAGE_PERIODS];
     if (periods->written == __atomic_load_n(&periods->over, __ATOMIC_ACQUIRE))

@@ -1,4 +1,4 @@
-/* Shared by the parts of the stage: pie_stage.c decides, and stage_texts.c writes the decisions as text. */
+/* The state of a stage. pie_stage.c decides, and stage_texts.c writes the decisions as text. */
 #ifndef STAGE_STATE_H
 #define STAGE_STATE_H
 
@@ -12,82 +12,82 @@
 #include <rte_spinlock.h>
 #include <time.h>
 
-#define SHIFT 50 /* of the factor of the clock */
+#define SHIFT 50 /* struct pie_stage's `factor` is shifted by this number of bits */
 
 /* A queued packet, in 24 bytes of the ring. */
 struct waiting {
     struct rte_mbuf *mbuf;
     uint64_t arrived;   /* the controller's moment right after the packet's arrival */
-    uint64_t size : 16; /* as it arrived: another holder of the mbuf may change its length */
-    uint64_t ecn : 2;   /* as it leaves, in the history */
-    uint64_t tag : 46;  /* the packet's number among the arrivals */
+    uint64_t size : 16; /* size on arrival: another holder of the mbuf may change its length */
+    uint64_t ecn : 2;   /* ECN field on departure, for the history */
+    uint64_t tag : 46;  /* number of the packet in the order of arrivals */
 };
 
 #define TAG_MASK ((UINT64_C(1) << 46) - 1)
 
-/* The wall-clock time beside the stage's clock. */
+/* A wall-clock time at a moment of the stage's clock. */
 struct clock {
     uint64_t moment, unix_time; /* nanoseconds since 1970 */
 };
 
 /* The place of a cut in the text of a history, and the preamble of the next text. */
 struct cut {
-    enum { NONE, AHEAD_OF_US, REACHED, BEGUN } state; /* the writer's phase: no cut; the old text continues; 0 was
-                                                         returned; the new text begins */
-    uint64_t at;                                     /* the old text ends before the event of this number */
+    /* the writer's phase: no cut; the old text is written; 0 was returned at its end; the new preamble is written */
+    enum { NONE, AHEAD_OF_US, REACHED, BEGUN } state;
+    uint64_t at; /* number of the first event of the new text */
     struct pie_state pie;
     struct pie_stats stats;
     uint64_t count, bytes;  /* number of events, bytes in the queue */
-    uint64_t first;         /* the number of the oldest queued packet */
-    uint32_t packets, told; /* queued packets, and those of them already written */
-    struct waiting *queue;  /* memory for those: number n is at the place n modulo the queue's room .. */
-    uint32_t *flows;        /* for their flows; NULL if no flows are used */
-    struct clock clock;     /* for the events from there on */
+    uint64_t first;         /* number of the oldest queued packet */
+    uint32_t packets, told; /* number of queued packets, and of those written */
+    struct waiting *queue;  /* the queued packets: packet n has the index n modulo the queue's room */
+    uint32_t *flows;        /* their flows with the same indexes; NULL without flows */
+    struct clock clock;     /* wall-clock time of the new text */
 };
 
-/* The recorder of a stage. */
+/* The records that a stage keeps. */
 enum record {
     NOTHING,
-    FLIGHT, /* the last events */
-    MORE    /* true if events, interval sums or flows are requested: checked for each packet */
+    FLIGHT, /* the flight recorder, which a history follows */
+    MORE    /* also interval sums or flows: each packet is checked for them */
 };
 
 struct pie_stage {
     struct rte_ring *ring;
     uint64_t start;  /* cycles of the TSC at moment 0 */
     uint64_t factor; /* nanoseconds in a cycle, times 2^SHIFT */
-    void *memory;            /* of the flight recorder, NULL with none */
-    void *scratch;           /* for its text; NULL if none is requested */
-    bool is_followed;        /* the history is written */
+    void *memory;            /* memory of the flight recorder; NULL without one */
+    void *scratch;           /* memory for a copy of it; NULL if its text is never requested */
+    bool is_followed;        /* true if the history is written */
     size_t memory_bytes;
     uint64_t longest; /* a wait above this many nanoseconds requests the flight recorder's text */
     enum record record;
     struct stage_periods *periods; /* NULL if no interval records are requested */
     pie_stage_flow flow;           /* NULL if flows are not requested */
     void *flow_user;
-    uint32_t *flows;               /* of the queued packets: number n is at the place n modulo the queue's room */
+    uint32_t *flows;               /* flows of the queued packets: packet n has the index n modulo `room` */
     uint32_t room;
     bool ecn, hands_back;
 
-    struct pie_flight_follower follower __rte_cache_aligned; /* of the history's writer */
-    uint64_t reached, missed;                                /* the numbers of its next event and of missed events, for all to read */
+    struct pie_flight_follower follower __rte_cache_aligned; /* for the history's writer, as the fields up to `cut` */
+    uint64_t reached, missed; /* number of its next event, count of missed events; other threads read both */
     struct pie_history text;
     struct clock clock;
-    bool is_timed; /* the text contains it */
+    bool is_timed; /* true if the text contains `clock` */
     struct pie_opening opening;
     struct cut cut;
 
-    rte_spinlock_t lock __rte_cache_aligned; /* of all that follows; `due`, `packets` and `picks` are read without it too */
-    bool picks;                              /* the probability is above 0 */
-    uint64_t due;                            /* the moment from which an update is not too soon */
-    uint32_t packets;                        /* in the ring */
-    uint64_t bytes;                          /* in the ring */
+    rte_spinlock_t lock __rte_cache_aligned; /* for the fields below; some are read without it too */
+    bool picks;                              /* true if the probability is above 0; read without the lock */
+    uint64_t due;                            /* first moment at which an update is not too soon; read without it */
+    uint32_t packets;                        /* packets in the ring; read without it */
+    uint64_t bytes;                          /* their bytes */
     struct pie_state pie;
-    uint64_t arrivals; /* that were decided on: the tag of the latest */
+    uint64_t arrivals; /* number of decided arrivals, the tag of the latest */
     struct pie_flight flight;
     struct pie_stage_stats stats;
-    uint64_t most_bytes, greatest_delay; /* the other statistics of the history */
-    bool is_asked;                                    /* a packet waited longer than `longest` */
+    uint64_t most_bytes, greatest_delay; /* statistics of the history that `stats` does not contain */
+    bool is_asked;                       /* a packet waited longer than `longest` */
     struct stage_words words;
 };
 
@@ -96,7 +96,7 @@ static inline uint64_t nanoseconds_of(const struct pie_stage *stage, uint64_t cy
     return nanoseconds < PIE_MAX_MOMENT ? (uint64_t)nanoseconds : PIE_MAX_MOMENT;
 }
 
-/* Returns the nanoseconds since the stage was created. An earlier TSC counts as the start. */
+/* Returns the nanoseconds since the stage was created, 0 for an earlier TSC. */
 static inline uint64_t moment_of(const struct pie_stage *stage, uint64_t now) {
     return now > stage->start ? nanoseconds_of(stage, now - stage->start) : 0;
 }
@@ -129,8 +129,8 @@ static inline struct pie_stats history_stats(const struct pie_stage *stage) {
     };
 }
 
-/* Returns a packet's tag: its number among the arrivals; with a flow the lower 32 bits of it, and the flow's number
- * above them. */
+/* Returns a packet's tag: its number in the order of arrivals. With flows, the upper 32 bits are the flow's number and
+ * the lower 32 bits those of the packet's number. */
 static __rte_always_inline uint64_t tag_of(const struct pie_stage *stage, uint64_t number, uint32_t flow) {
     return stage->flow == NULL ? number : (uint64_t)flow << 32 | (uint32_t)number;
 }

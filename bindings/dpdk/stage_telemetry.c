@@ -14,14 +14,14 @@
 #define WORD 64 /* bytes of a name or a number */
 
 static struct {
-    rte_spinlock_t lock; /* of all that follows, and held while a stage is read */
+    rte_spinlock_t lock; /* protects the fields below, and is held while a stage is read */
     struct {
         struct pie_stage *stage; /* NULL if the number is free */
         char name[NAME];
     } stages[STAGE_TELEMETRY_MOST];
 } shown = {.lock = RTE_SPINLOCK_INITIALIZER};
 
-/* A number of the statistics or of the parameters: its name and place, and for a parameter the function that reads a text with a unit. */
+/* A statistic or a parameter: its name and offset. For a parameter, `read` parses a text with a unit. */
 struct number {
     const char *name;
     size_t at;
@@ -64,7 +64,7 @@ void stage_telemetry_remove(const struct pie_stage *stage) {
     rte_spinlock_unlock(&shown.lock);
 }
 
-/* A number in decimal digits. */
+/* Reads a number in decimal digits. Returns false if the text is none. */
 static bool read_number(const char *text, size_t length, uint64_t *number) {
     char word[WORD] = "";
     if (length == 0 || length >= WORD || strspn(text, "0123456789") < length)
@@ -75,8 +75,8 @@ static bool read_number(const char *text, size_t length, uint64_t *number) {
     return errno == 0;
 }
 
-/* Returns the place of the stage whose number the words begin with, and the words after the number and its comma;
- * -1 if there is none. The lock is held. */
+/* Returns the number of a stage at the beginning of `words`, or -1 if no stage has it. `rest` receives the words after
+ * the number and its comma. The lock is held. */
 static int place_of(const char *words, const char **rest) {
     uint64_t place;
     size_t length = words != NULL ? strcspn(words, ",") : 0;
@@ -104,7 +104,7 @@ static void tell_sorts(struct rte_tel_data *data, const char *name, const uint64
     rte_tel_data_add_dict_container(data, name, list, 0);
 }
 
-/* Under the lock, one assignment `name=number`, `length` bytes. */
+/* Makes one assignment `name=number` of `length` bytes. The lock is held. */
 static bool set_one(struct pie_params *params, const char *text, size_t length) {
     for (size_t i = 0; i < RTE_DIM(parameters); i++) {
         size_t name = strlen(parameters[i].name);
@@ -121,7 +121,7 @@ static bool set_one(struct pie_params *params, const char *text, size_t length) 
     return false;
 }
 
-/* Under the lock, all assignments. */
+/* Makes all assignments. The lock is held. */
 static bool set_all(struct pie_stage *stage, const char *words) {
     struct pie_params params;
     pie_stage_read_params(stage, &params);
@@ -166,7 +166,7 @@ static int show_stats(const char *command, const char *words, struct rte_tel_dat
     return place >= 0 && *rest == '\0' ? 0 : -EINVAL;
 }
 
-/* The parameters in force, after those that the words set, if any. */
+/* Answers /pie/params and /pie/set: sets parameters, if the command does so, and reports those in force. */
 static int show_params(const char *command, const char *words, struct rte_tel_data *data) {
     struct pie_params params;
     const char *rest = "";

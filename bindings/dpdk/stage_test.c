@@ -61,7 +61,7 @@ static void test_clock(void) {
         before = pie_stage_nanoseconds(stage, cycles);
     }
     EXPECT(pie_stage_nanoseconds(stage, UINT64_MAX) <= PIE_MAX_MOMENT);
-    // a clock that jumps back: the latest moment so far counts, nothing waits less than no time, and it is counted
+    // a clock that jumps back: the latest moment counts, no wait is negative, and the call is counted
     struct rte_mbuf *mbufs[2] = {plain(100, PIE_NOT_ECT), plain(100, PIE_NOT_ECT)}, *out[4];
     uint64_t now = rte_rdtsc() + hz;
     struct pie_stage_stats stats;
@@ -116,7 +116,7 @@ static void test_create(void) {
     printf("stage_test: making a stage, and want of memory\n");
 }
 
-/* A queue of four packets, and one of 1000 bytes; the returned packets, and the freed ones. */
+/* Tests a queue of four packets, and one of 1000 bytes: dropped packets are returned or freed. */
 static void test_full(void) {
     for (int hands_back = 0; hands_back <= 1; hands_back++) {
         struct pie_stage_params params;
@@ -138,7 +138,7 @@ static void test_full(void) {
         rte_pktmbuf_free_bulk(out, 2);
         pie_stage_read(stage, &stats);
         EXPECT(stats.queued == 4 && stats.full == 2 && stats.most == 4 && stats.waiting == 2 && stats.waiting_bytes == 200);
-        EXPECT(stats.no_ip == (hands_back ? 1 : 0)); // (while no packet is picked, headers are looked at for the record alone)
+        EXPECT(stats.no_ip == (hands_back ? 1 : 0)); // (without picks, headers are read only for a recorder)
         EXPECT(stats.departed == 2 && stats.departed_bytes == 120);
         pie_stage_free(stage); // frees the two that wait
         expect_all_back();
@@ -229,7 +229,7 @@ static void test_decisions(uint32_t events, uint32_t flight) {
            flight != 0 ? ", with a flight recorder" : "", stats.marked, stats.early);
 }
 
-/* The burst whose packets the probability may pick makes the update that raises it above 0: the
+/* Tests a burst that makes the update that raises the probability above 0, and has packets that are then picked: the
  * packets must be marked, and not dropped because no header was read. */
 static void test_first_marks(void) {
     struct pie_stage_params params;
@@ -274,7 +274,7 @@ static void test_record(void) {
     struct rte_mbuf *mbufs[7], *out[8];
     FILE *file = open_history("odd");
     for (int i = 0; i < 7; i++)
-        mbufs[i] = i == 6 ? alloc() : plain(i == 1 ? 20 : 100, PIE_ECT0); // the last has no bytes: nothing is decided of it
+        mbufs[i] = i == 6 ? alloc() : plain(i == 1 ? 20 : 100, PIE_ECT0); // the last has no bytes and is not decided
     EXPECT(pie_stage_enqueue(stage, mbufs, 7, now) == 4 && pie_stage_dequeue(stage, out, 2, now - hz) == 2);
     rte_pktmbuf_free_bulk(out, 2);
     EXPECT(pie_stage_update(stage, now + hz));
@@ -379,7 +379,7 @@ static void test_cut(void) {
         rte_pktmbuf_free_bulk(out, pie_stage_dequeue(stage, out, 5, now));
         params.opening.params.target = 1000000 + (uint64_t)round;
         EXPECT(round % 7 != 0 || pie_stage_set_params(stage, &params.opening.params, now) == PIE_DONE);
-        if (round == 250) { // more than may wait
+        if (round == 250) { // more than may be pending
             for (int i = 0; i < 2000; i++)
                 EXPECT(pie_stage_update(stage, now += hz / 500));
             lost = told.lost;
@@ -412,7 +412,7 @@ static void test_cut(void) {
     printf("stage_test: a history that is cut\n");
 }
 
-/* The pace of pie-fwd: right on the average, and of a pause of a second it makes up for 10 ms. */
+/* Tests the pace of pie-fwd: the average rate is right, and it makes up for 10 ms of a pause of a second. */
 static void test_pace(void) {
     uint64_t now = 1000, bytes = 0;
     struct fwd_pace pace = fwd_pace_of(8e6, 1e9, now); // a byte a microsecond
@@ -432,7 +432,7 @@ static void test_pace(void) {
     printf("stage_test: the pace of pie-fwd\n");
 }
 
-/* Each packet's wait is counted once, in the first class whose bound it does not exceed. */
+/* Tests that each wait is counted once, in the first bucket with a bound of at least the wait. */
 static void test_waits(void) {
     struct pie_stage_params params;
     struct pie_stage_stats before = {0}, after;
@@ -464,7 +464,7 @@ static void test_waits(void) {
     printf("stage_test: waits by their sorts\n");
 }
 
-/* New parameters while packets are queued: they are in force from then on, history and flight
+/* Tests new parameters while packets are queued: they are in force from then on, history and flight
  * recorder contain them, and a refused call changes nothing. */
 static void test_params(uint32_t events, uint32_t flight) {
     struct pie_stage_params params;
@@ -501,7 +501,7 @@ static void test_params(uint32_t events, uint32_t flight) {
         pie_stage_read(stage, &stats);
         EXPECT(memcmp(&found, &wanted, sizeof found) == 0 && stats.target == wanted.target && stats.changes == 1 + (uint64_t)round / 40);
         uint64_t updates = stats.updates;
-        EXPECT(pie_stage_update(stage, now + wanted.t_update * hz / 500000000)); // (a second t_update behind: due by the new one)
+        EXPECT(pie_stage_update(stage, now + wanted.t_update * hz / 500000000)); // (two of the new t_update later)
         now += wanted.t_update * hz / 500000000;
         pie_stage_read(stage, &stats);
         EXPECT(stats.updates == updates + 1);
@@ -519,7 +519,7 @@ static void test_params(uint32_t events, uint32_t flight) {
     printf("stage_test: new parameters%s%s\n", events != 0 ? ", recorded" : "", flight != 0 ? ", with a flight recorder" : "");
 }
 
-/* Each update is in the first sort of probabilities whose bound it doesn't exceed. */
+/* Tests that each update is counted in the first bucket with a bound of at least its probability. */
 static void test_sorts(void) {
     struct pie_stage_params params;
     struct pie_stage_stats stats;
@@ -554,7 +554,7 @@ static void test_sorts(void) {
     printf("stage_test: probabilities by their sorts\n");
 }
 
-/* Updates are made when due, by enqueuing, dequeuing, or a timer. */
+/* Tests that updates are made when due, by enqueuing, dequeuing, or a timer. */
 static void test_updates(void) {
     struct pie_stage_params params;
     struct pie_stage_stats stats;

@@ -1,7 +1,10 @@
-/* Shared by the parts of the stage's test: stage_test.c starts them, stage_test_frames.c makes frames and tests
- * marks in them, stage_test_texts.c takes out histories and texts of the flight recorder, stage_test_records.c
- * tests interval records and flows, stage_test_queues.c several queues, and stage_test_threads.c many threads at
- * once. */
+/* Functions that the parts of the stage's test share. stage_test.c runs all tests, and has those of the decisions. The
+ * others are:
+ *   stage_test_frames.c   marks in frames
+ *   stage_test_texts.c    reading of histories and of the flight recorder's texts
+ *   stage_test_records.c  interval records and flows
+ *   stage_test_queues.c   several queues
+ *   stage_test_threads.c  many threads at once */
 #ifndef STAGE_TEST_H
 #define STAGE_TEST_H
 
@@ -30,25 +33,24 @@ void expect_all_back(void);
 /* Returns a frame of this size with this ECN field, in one segment. */
 struct rte_mbuf *plain(uint16_t size, uint8_t ecn);
 
-/* A frame of IPv6 behind this many VLAN tags. */
+/* Returns a frame of IPv6 behind `tags` VLAN tags. */
 struct rte_mbuf *ipv6(int tags);
 
-/* The default parameters for 100 Mbit/s, without a flight recorder. */
+/* Sets the default parameters for 100 Mbit/s, without a flight recorder. */
 void unrecorded(struct pie_stage_params *params);
 
 struct pie_stage *stage_of(struct pie_stage_params *params);
 
 /* The content of a history. */
 struct told {
-    uint64_t lines, lost, gaps; /* lines except clock records; events that its lines `lost` report, and the number
-                                   of these lines */
-    uint64_t clocks;            /* lines of the wall-clock time */
+    uint64_t lines, lost, gaps; /* lines except clock records; missing events; lines `lost`, which report them */
+    uint64_t clocks;            /* clock records */
 };
 
-/* Writes the present part of the history, or all of it to its end, into a file. */
+/* Writes the pending part of the history to a file, and adds its lines to `told`. */
 void take_history(struct pie_stage *stage, FILE *file, struct told *told);
 
-/* A file NAME.ENDING in the folder; a history's ending is `history`. */
+/* Opens the file NAME.ENDING in the folder. open_history opens NAME.history. */
 FILE *open_text(const char *name, const char *ending);
 
 FILE *open_history(const char *name);
@@ -73,13 +75,12 @@ void expect_told(struct pie_stage *stage, const struct told *told);
 
 /* The content of interval records. */
 struct summed {
-    uint64_t records, gaps, lost;                 /* records; lines that report a gap, and the number of missing
-                                                     intervals */
-    uint64_t arrivals, left, updates, turned_off; /* of all records together .. */
-    int places[4];                                /* their positions in a record */
+    uint64_t records, gaps, lost;                 /* records; lines `lost`; missing intervals, by these lines */
+    uint64_t arrivals, left, updates, turned_off; /* sums of these fields over all records */
+    int places[4];                                /* positions of these fields in a record */
 };
 
-/* Takes out the records that there are now, or to the last, into a file. */
+/* Writes the pending records to a file, with `is_over` also the last one, and adds them to `summed`. */
 void take_records(struct pie_stage *stage, bool is_over, FILE *file, struct summed *summed);
 
 /* Checks that the records contain the stage's counts, or report missing records. */
@@ -88,19 +89,19 @@ void expect_summed(struct pie_stage *stage, const struct summed *summed);
 void test_records(void);
 void test_flows(uint32_t events, uint32_t flight);
 
-/* The queues of pie-fwd: classes, and equal shares. */
+/* Tests the queues of pie-fwd: classes, and equal shares. */
 void test_queues(void);
 
 void test_marks(void);
 void test_no_ip(void);
 void test_shared(void);
 
-/* Cuts a history while packets arrive and depart, with a queue that is copied in many turns: each text can be
- * audited alone, and begins at the end of the one before. */
+/* Cuts a history while packets arrive and depart, with a queue that is copied in many turns. Each text can be audited
+ * alone, and begins at the end of the text before it. */
 void test_cut_beside(int cuts);
 
-/* With `events` above 0 one more thread writes the history, with `flight` one writes the text of the flight
- * recorder, and with `every` one the interval records; tags contain flows. */
+/* Tests several threads at one stage, with flows in tags. Above 0, each of `events`, `flight` and `every` adds a thread
+ * that writes the history, the flight recorder's texts or the interval records. */
 void test_threads(uint32_t rounds, uint32_t events, uint32_t flight, uint64_t every);
 
 #endif

@@ -39,7 +39,7 @@ static uint32_t write_frame(uint8_t *bytes, int tags, int version, uint8_t ecn) 
     return at + 80;
 }
 
-/* These bytes in mbufs of `first` bytes, `second` bytes and the rest. */
+/* Returns a frame of these bytes in three segments: `first` bytes, `second` bytes and the rest. */
 static struct rte_mbuf *segments(const uint8_t *bytes, uint32_t size, uint32_t first, uint32_t second) {
     uint32_t lengths[3] = {first, second, size - first - second};
     struct rte_mbuf *head = NULL;
@@ -73,7 +73,7 @@ struct rte_mbuf *plain(uint16_t size, uint8_t ecn) {
     return mbuf;
 }
 
-/* In any segments, a mark changes the ECN field and the checksum alone, and the checksum is right. */
+/* Tests that a mark changes only the ECN field and the checksum, which is right, for frames in any segments. */
 static void expect_marked(int tags, int version, uint8_t ecn, uint32_t first, uint32_t second) {
     uint8_t bytes[256], wanted[256], copy[256];
     uint32_t size = write_frame(bytes, tags, version, ecn);
@@ -108,7 +108,7 @@ void test_marks(void) {
     printf("stage_test: marks in IPv4 and IPv6, behind VLAN tags, across segments\n");
 }
 
-/* Bytes that are no IP header, or only a part of one, have no ECN field. */
+/* Tests that a frame without a complete IP header has no ECN field. */
 void test_no_ip(void) {
     uint8_t bytes[256];
     for (int version = 4; version <= 6; version += 2) {
@@ -132,7 +132,7 @@ void test_no_ip(void) {
     printf("stage_test: no IP, and headers cut short\n");
 }
 
-/* A header that others hold is not marked. */
+/* Tests that a shared header is not marked. */
 void test_shared(void) {
     struct rte_mbuf *mbuf = plain(100, PIE_ECT0);
     struct stage_packet packet = stage_packet_look(mbuf);

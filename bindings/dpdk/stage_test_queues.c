@@ -6,9 +6,9 @@
 #include <string.h>
 
 #define BURST 32
-#define SERVICE 0xb8 /* of the frames: class 5 */
+#define SERVICE 0xb8 /* the DS field of the frames: class 5 */
 
-/* A frame of this class. */
+/* Returns a frame of this class. */
 static struct rte_mbuf *of_class(uint16_t size, uint8_t class) {
     struct rte_mbuf *mbuf = plain(size, PIE_ECT0);
     rte_pktmbuf_mtod(mbuf, uint8_t *)[15] = (uint8_t)(class << 5 | PIE_ECT0);
@@ -25,7 +25,7 @@ static void test_classes(void) {
             rte_pktmbuf_free(mbuf);
         }
         EXPECT(found[7] == count - 1);
-        struct rte_mbuf *frames[] = {plain(100, PIE_NOT_ECT), ipv6(2), plain(20, PIE_NOT_ECT)}; // (the last is cut short: no IP)
+        struct rte_mbuf *frames[] = {plain(100, PIE_NOT_ECT), ipv6(2), plain(20, PIE_NOT_ECT)}; // (the last is too short for an IP header)
         EXPECT(fwd_queue_of(frames[0], count) == found[SERVICE >> 5] && fwd_queue_of(frames[1], count) == found[SERVICE >> 5]);
         EXPECT(fwd_queue_of(frames[2], count) == 0);
         rte_pktmbuf_free_bulk(frames, 3);
@@ -51,7 +51,8 @@ static void send_bytes(struct fwd_queues *queues, uint64_t bytes, const uint16_t
     }
 }
 
-/* Queues that have packets of any sizes have equal shares, to within a packet and a quantum; a queue that was empty has saved nothing. */
+/* Tests that queues with packets of any sizes have equal shares, within a packet and a quantum, and that a queue saves
+ * no credit while it is empty. */
 static void test_shares(void) {
     static const uint16_t sizes[] = {1500, 64, 577, 999};
     struct pie_stage_params params;
@@ -65,7 +66,7 @@ static void test_shares(void) {
             mbufs[i] = of_class(sizes[i % 4], (uint8_t)(i % 4 * 2));
         fwd_queues_enqueue(&queues, mbufs, BURST, now);
     }
-    send_bytes(&queues, 60000, sizes, sent, now); // (that of small packets has 20480 bytes)
+    send_bytes(&queues, 60000, sizes, sent, now); // (the queue of small packets has 20480 bytes)
     for (int i = 0; i < 4; i++)
         EXPECT(sent[i] + 3500 > 15000 && sent[i] < 15000 + 3500);
     send_bytes(&queues, 24000, sizes, sent, now);

@@ -4,9 +4,9 @@
 #include <rte_cycles.h>
 #include <string.h>
 
-#define FLOW_FACTOR UINT32_C(2654435761) /* of a packet's size, which is its flow here */
+#define FLOW_FACTOR UINT32_C(2654435761) /* a packet's flow is its size times this factor */
 
-/* The place of a field among those of the header row. */
+/* Returns the position of a field in the header row. */
 static int place_of(const char *header, const char *field) {
     char row[PIE_RESUME_ROOM], *rest = row;
     int place = 0;
@@ -56,7 +56,7 @@ void expect_summed(struct pie_stage *stage, const struct summed *summed) {
     EXPECT(summed->arrivals <= arrivals && summed->left <= stats.departed && summed->updates <= stats.updates);
 }
 
-/* Ends the history's text here, and begins that of the next file. */
+/* Cuts the history, and opens the file of the next text. */
 static FILE *next_part(struct pie_stage *stage, FILE *history, struct told *told, const char *name, int part) {
     char next[96];
     take_history(stage, history, told);
@@ -118,7 +118,7 @@ static void sum_up(const char *kind, uint64_t every, uint64_t profile, uint32_t 
     expect_all_back();
 }
 
-/* Events less than a nanosecond apart, so that some are at the very end of an interval: they are the next one's. */
+/* Tests events less than a nanosecond apart: those at the very end of an interval belong to the next one. */
 static void sum_up_closely(void) {
     struct pie_stage_params params;
     struct told told = {0};
@@ -148,7 +148,7 @@ void test_records(void) {
     struct pie_stage_params params, bad;
     unrecorded(&params);
     struct pie_stage *stage = stage_of(&params);
-    EXPECT(pie_stage_record(stage, true, text, sizeof text) == 0); // (nobody asked for records)
+    EXPECT(pie_stage_record(stage, true, text, sizeof text) == 0); // (no records were requested)
     pie_stage_free(stage);
     bad = params, bad.every = PIE_MAX_MOMENT + 1;
     EXPECT(pie_stage_create("other", &bad, SOCKET_ID_ANY) == NULL);
@@ -195,7 +195,8 @@ static uint64_t expect_flows(const char *name) {
     return lines;
 }
 
-/* Flows in the tags of a history that is cut, with `events`, and of the flight recorder's texts, of a queue that is full at times. */
+/* Tests the flows in the tags of a history with cuts (`events` above 0) and of the flight recorder's texts. The queue
+ * is full at times. */
 void test_flows(uint32_t events, uint32_t flight) {
     struct pie_stage_params params;
     struct told told = {0};
@@ -217,7 +218,7 @@ void test_flows(uint32_t events, uint32_t flight) {
     FILE *file = events != 0 ? open_history("flows-0") : NULL;
     for (int round = 1; round <= 300; round++, now += rte_get_tsc_hz() / 5000) {
         for (int i = 0; i < 40; i++)
-            mbufs[i] = i == 5 ? alloc() : plain((uint16_t)(100 + round % 7 * 100 + i), i % 3 == 0 ? PIE_ECT0 : PIE_NOT_ECT); // (one is of no size)
+            mbufs[i] = i == 5 ? alloc() : plain((uint16_t)(100 + round % 7 * 100 + i), i % 3 == 0 ? PIE_ECT0 : PIE_NOT_ECT); // (one has no bytes)
         pie_stage_enqueue(stage, mbufs, 40, now);
         rte_pktmbuf_free_bulk(out, pie_stage_dequeue(stage, out, (uint32_t)(10 + round % 23), now));
         if (flight != 0 && round % 50 == 0) {

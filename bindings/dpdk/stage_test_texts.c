@@ -72,7 +72,7 @@ struct resumed read_resumed(const char *name) {
     while (fgets(line, sizeof line, file) != NULL) {
         bool is_queued = strncmp(line, "queued,", 7) == 0, is_clock = strncmp(line, "clock,", 6) == 0;
         EXPECT(!is_queued || resumed.clocks == 0);
-        EXPECT(is_clock == (!is_queued && resumed.clocks == 0)); // (once, behind the packets that wait)
+        EXPECT(is_clock == (!is_queued && resumed.clocks == 0)); // (once, after the queued packets)
         EXPECT(!is_clock || is_now(line));
         resumed.queued += is_queued;
         resumed.clocks += is_clock;

@@ -9,7 +9,7 @@
 
 static int are_done;
 
-/* Keeps some 3000 packets waiting. */
+/* Keeps some 3000 packets queued. */
 static void *churn(void *argument) {
     struct rte_mbuf *mbufs[8], *out[16];
     struct pie_stage_stats stats;
@@ -35,7 +35,7 @@ void test_cut_beside(int cuts) {
     params.opening.packets = 4000;
     params.events = 1 << 16;
     params.opening.params.limit_bytes = 1 << 24;
-    params.opening.params.target = UINT64_C(10000000000); // (so that none is dropped early)
+    params.opening.params.target = UINT64_C(10000000000); // (so that no packet is dropped early)
     struct pie_stage *stage = stage_of(&params);
     are_done = 0;
     EXPECT(pthread_create(&other, NULL, churn, stage) == 0);
@@ -64,7 +64,8 @@ void test_cut_beside(int cuts) {
     printf("stage_test: a history that is cut while packets come and go\n");
 }
 
-/* Three threads enqueue their packets, one dequeues and returns each packet to its owner, one updates, reads, and sets parameters. */
+/* Runs three threads that enqueue packets, one that dequeues and returns each packet to its owner, and one that
+ * updates, reads, and sets parameters. */
 #define SENDERS 3
 #define OWNED 64
 
@@ -155,7 +156,7 @@ static void *write_flights(void *argument) {
     for (int i = 0; i < 8 || !__atomic_load_n(&are_done, __ATOMIC_SEQ_CST); i++) {
         snprintf(name, sizeof name, "flight-threads-%d", i % 8);
         int answer;
-        do { // (until a copy isn't overwritten, so that no file stays empty: when the others have ended, none is)
+        do { // (until a copy was not overwritten; at the latest when the other threads have ended)
             FILE *file = open_history(name);
             answer = pie_stage_flight(argument, write_to, file);
             EXPECT(fclose(file) == 0);
@@ -182,7 +183,7 @@ static void *write_records(void *argument) {
     return NULL;
 }
 
-/* A packet's flow is its sender. */
+/* Returns the sender of a packet as its flow. */
 static uint32_t sender_of(void *user, const struct rte_mbuf *mbuf) {
     (void)user;
     return mbuf->port;

@@ -3,9 +3,9 @@
 #include <rte_ring_elem.h>
 #include <rte_ring_peek_zc.h>
 
-#define HANDED_OVER 256u /* queued packets that are copied in one turn at the lock */
+#define HANDED_OVER 256u /* queued packets that are copied while the lock is held once */
 
-/* Writes a part of the preamble of a new text: the record `resume`, and those of the queued packets. */
+/* Writes a part of the preamble of a new text: the record `resume`, and a record `queued` for each packet. */
 static size_t begin_text(struct pie_stage *stage, unsigned char *text, size_t room) {
     struct cut *cut = &stage->cut;
     size_t size = 0;
@@ -29,9 +29,8 @@ static size_t begin_text(struct pie_stage *stage, unsigned char *text, size_t ro
     return size;
 }
 
-/* Copies the queued packets from the number `next` on and below `end`, at most `most`. Returns the next number.
- * They are numbered from 0 in the order in which they were queued; packets that departed are skipped. The lock is
- * held. */
+/* Passes the queued packets with the numbers `next` to `end` - 1 to `take`, at most `most`. Returns the next number.
+ * Packets are numbered from 0 in the order of the queue; packets that departed are skipped. The lock is held. */
 static uint64_t hand_turn(struct pie_stage *stage, uint64_t next, uint64_t end, uint64_t most,
                           void take(void *to, uint64_t number, const struct waiting *packet), void *to) {
     struct rte_ring_zc_data data = {0};
@@ -55,7 +54,7 @@ static void copy_packet(void *to, uint64_t number, const struct waiting *packet)
         stage->cut.flows[number % stage->room] = stage->flows[number % stage->room];
 }
 
-/* Under the lock: cuts at the place up to which the queued packets are copied. */
+/* Cuts the history after the last event, when all queued packets are copied. The lock is held. */
 static void cut_here(struct pie_stage *stage) {
     struct cut *cut = &stage->cut;
     cut->at = stage->flight.count;
@@ -71,8 +70,8 @@ static void cut_here(struct pie_stage *stage) {
         pie_period_clock(&stage->periods->current, cut->clock.moment, cut->clock.unix_time);
 }
 
-/* The queued packets are copied first, some in each turn at the lock, and the history is cut in the turn that
- * reaches the last of them. If as many packets arrived meanwhile as were copied, the next turn is twice as long. */
+/* Copies the queued packets, and cuts the history in the turn that copies the last of them. The lock is released
+ * between turns. If at least as many packets arrived as were copied, the next turn copies twice as many. */
 static void cut_history(struct pie_stage *stage) {
     uint64_t next = 0, most = HANDED_OVER, left = UINT64_MAX, before;
     do {
@@ -95,8 +94,7 @@ bool pie_stage_history_cut(struct pie_stage *stage) {
     return true;
 }
 
-/* Events after the cut were missed: the text is cut again, and the events until then are missed
- * too. */
+/* Cuts the text again, because events after the cut were missed. Counts the events up to the new cut as missed too. */
 static void miss_the_cut(struct pie_stage *stage, struct pie_event *lost) {
     struct pie_flight_follower *follower = &stage->follower;
     cut_history(stage);
@@ -151,7 +149,7 @@ size_t pie_stage_record(struct pie_stage *stage, bool is_over, unsigned char *te
     return size;
 }
 
-/* The memory through which the packets of a flight recorder are passed. */
+/* The arguments of tell_packet: the stage, and the ring of packets that a flight recorder's owner fills. */
 struct handed {
     const struct pie_stage *stage;
     PIE_WORD *queued;
@@ -165,8 +163,8 @@ static void tell_packet(void *to, uint64_t number, const struct waiting *packet)
     pie_flight_waits(handed->queued, handed->places, number, tag, packet->size, packet->ecn, packet->arrived);
 }
 
-/* Passes the queued packets to the recorder, some in each turn at the lock: packets that depart meanwhile are in
- * the events of their departures. */
+/* Passes the queued packets to the recorder. The lock is released after each HANDED_OVER packets. Packets that depart
+ * meanwhile are in the events of their departures. */
 static void hand_over(void *owner, PIE_WORD *queued, uint64_t places) {
     struct pie_stage *stage = owner;
     struct handed handed = {stage, queued, places};

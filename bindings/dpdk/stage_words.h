@@ -19,14 +19,14 @@ struct stage_words {
     uint64_t words[STAGE_WORDS];
 };
 
-/* A number of each of four blocks. */
+/* A 32-bit word of each of four blocks. */
 typedef uint32_t stage_lanes __attribute__((vector_size(16)));
 
 static inline stage_lanes stage_rotate(stage_lanes value, int bits) {
     return value << bits | value >> (32 - bits);
 }
 
-/* By 16 and by 8 bits whole bytes move, which x86-64 does at once. */
+/* Rotations by 16 and by 8 bits move whole bytes, which x86-64 does by one instruction. */
 typedef uint8_t stage_bytes __attribute__((vector_size(16)));
 
 static inline stage_lanes stage_rotate_16(stage_lanes value) {
@@ -46,8 +46,8 @@ static inline void stage_quarter(stage_lanes *x, int a, int b, int c, int d) {
     x[c] += x[d], x[b] = stage_rotate(x[b] ^ x[c], 7);
 }
 
-/* Four blocks of the key stream from this counter on (RFC 8439, section 2.3; the counter has 64 bits, and the nonce the other 64), one in
- * each lane. */
+/* Computes four blocks of the key stream from this counter on, one in each lane (RFC 8439, section 2.3, but counter and
+ * nonce have 64 bits each). */
 static inline void stage_blocks(stage_lanes x[16], const uint32_t key[8], uint64_t counter, uint64_t nonce, int rounds) {
     static const uint32_t constants[4] = {0x61707865, 0x3320646e, 0x79622d32, 0x6b206574};
     stage_lanes start[16];
@@ -72,13 +72,13 @@ static inline void stage_blocks(stage_lanes x[16], const uint32_t key[8], uint64
         x[i] += start[i];
 }
 
-/* Takes a key from the system. Returns false if the system has no random bits. */
+/* Reads a key from the system. Returns false if the system has no random bits. */
 static inline bool stage_words_seed(struct stage_words *words) {
     memset(words, 0, sizeof *words);
     return getrandom(words->key, sizeof words->key, 0) == sizeof words->key;
 }
 
-/* Computes the next words. (The order in which the bits of the stream are used does not matter.) */
+/* Computes the next words. Any order of the bits of the stream would do. */
 __attribute__((noinline)) static void stage_words_fill(struct stage_words *words) {
     stage_lanes blocks[16];
     stage_blocks(blocks, words->key, words->counter, 0, STAGE_ROUNDS);

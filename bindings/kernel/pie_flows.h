@@ -21,8 +21,8 @@ static __always_inline bool pr_has_header(const struct sk_buff *skb, size_t byte
 }
 
 /*
- * Returns the hash of a packet that has none. The flow dissector takes 600 instructions, so the
- * most common packets have a hash of this queue's own: IPv4 without options, TCP or UDP, no
+ * Computes the hash of a packet that has none. The flow dissector takes 600 instructions, so this
+ * function hashes the most common packets itself: TCP or UDP over IPv4 without options, no
  * fragment, with the ports in the linear part.
  */
 static __always_inline u32 pr_hash(struct sk_buff *skb, u64 key)
@@ -46,9 +46,8 @@ static __always_inline u32 pr_hash(struct sk_buff *skb, u64 key)
 }
 
 /*
- * Writes the addresses of a packet's flow to its place, and returns the flow. A place that was
- * written less than a second ago keeps its flow, so senders of many flows do not load the flow
- * dissector.
+ * Writes the addresses of a packet's flow to its place, and returns the flow. A place is written at
+ * most once a second, so that senders of many flows do not load the flow dissector.
  */
 static noinline u32 pr_write_flow(struct pie_recorded_flow *to, const struct sk_buff *skb,
 				  u32 flow, u64 now)
@@ -60,7 +59,7 @@ static noinline u32 pr_write_flow(struct pie_recorded_flow *to, const struct sk_
 	if (!skb_flow_dissect_flow_keys(skb, &keys, 0))
 		memset(&keys, 0, sizeof(keys));
 	WRITE_ONCE(to->flow, 0);
-	smp_wmb(); /* a reader that sees a new field below sees no flow, or the new one */
+	smp_wmb(); /* a reader of a new field below reads flow 0 or the new flow */
 	to->moment = now;
 	to->family = 0;
 	to->protocol = keys.basic.ip_proto;
@@ -75,7 +74,7 @@ static noinline u32 pr_write_flow(struct pie_recorded_flow *to, const struct sk_
 		memcpy(to->source, &keys.addrs.v6addrs.src, 16);
 		memcpy(to->destination, &keys.addrs.v6addrs.dst, 16);
 	}
-	smp_store_release(&to->flow, flow); /* a reader that sees it sees the fields above */
+	smp_store_release(&to->flow, flow); /* a reader of the new flow reads the fields above */
 	return flow;
 }
 

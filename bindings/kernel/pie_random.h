@@ -14,11 +14,10 @@ struct pr_random {
 };
 
 /*
- * Returns a random word. The generator is SipHash's permutation: two rounds absorb the moment of
- * the arrival and yield one word of the secret state. It is that of the kernel's prandom_u32 from
- * 5.10 to 6.0, which was chosen since its outputs must not tell later ones. Here a sender sees no
- * word, only if its packet was lost or marked, and each update stirs in 64 bits of the kernel's
- * own generator.
+ * Returns a random word. Two rounds of SipHash's permutation mix the moment of the arrival into the
+ * secret state and yield one word. The kernel's prandom_u32 was this generator from 5.10 to 6.0,
+ * because its outputs do not reveal later ones. A sender observes no word, only whether its packet
+ * was lost or marked. Each update mixes 64 bits of the kernel's own generator into the state.
  */
 static inline u64 pr_word(struct pr_random *random, u64 moment)
 {

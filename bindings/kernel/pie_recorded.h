@@ -1,6 +1,6 @@
 /* SPDX-License-Identifier: GPL-2.0 OR MIT */
 /*
- * The options and statistics of the queue discipline pie_recorded, as they are in netlink messages.
+ * The options and statistics of the queue discipline pie_recorded in netlink messages.
  * Options 1 to 8 are those of pie (TCA_PIE_TARGET to TCA_PIE_DQ_RATE_ESTIMATOR); each is a u32.
  */
 #ifndef PIE_RECORDED_H
@@ -12,8 +12,8 @@
 enum {
 	TCA_PIE_RECORDED_MAX_BURST = 16, /* burst allowance, in us */
 	TCA_PIE_RECORDED_MARK_ECNTH, /* packets are marked below this probability, in 10^-9 */
-	TCA_PIE_RECORDED_DECAY, /* 1: the probability decays below target / 2; 0: at no delay */
-	TCA_PIE_RECORDED_EVENTS, /* events that the record keeps at least; 0: no record */
+	TCA_PIE_RECORDED_DECAY, /* 1: decay at delays below target / 2; 0: at delays of 0 */
+	TCA_PIE_RECORDED_EVENTS, /* least number of events in the record; 0: no record */
 	TCA_PIE_RECORDED_FLOWS, /* 1: tags contain the packet's flow */
 	TCA_PIE_RECORDED_END
 };
@@ -38,8 +38,9 @@ struct tc_pie_recorded_xstats {
 };
 
 /*
- * A flow in a record. The flows follow the recorder at the next page; flow F has the place
- * F % PIE_RECORDED_FLOWS. Read `flow`, then the others, then `flow` again, which must be the same.
+ * A flow in a record. The flows begin at the page after the recorder; flow F has the place
+ * F % PIE_RECORDED_FLOWS. Read `flow`, then the other fields, then `flow` again: if it changed,
+ * ignore the fields.
  */
 struct pie_recorded_flow {
 	__u32 flow;		/* the upper half of the tags of its packets; 0: no flow */
@@ -47,8 +48,8 @@ struct pie_recorded_flow {
 	__u8 protocol;
 	__be16 ports[2];	/* source and destination; 0 if they are not known */
 	__u16 reserved;
-	__u64 moment;		/* when this place was written */
-	__u8 source[16];	/* of IPv4 the first four bytes */
+	__u64 moment;		/* moment at which this place was written */
+	__u8 source[16];	/* IPv4: the first four bytes */
 	__u8 destination[16];
 	__u64 spare;
 };

@@ -18,7 +18,7 @@
 #include <unistd.h>
 
 #define FOLDER "/proc/net/pie_recorded"
-#define CLOCK_STEP UINT64_C(1000000) /* ns: a smaller change of the time of day is not written */
+#define CLOCK_STEP UINT64_C(1000000) /* ns; a smaller change of the wall-clock time is not written */
 
 static const char usage[] =
     "Reads the records of queues of pie_recorded\n"
@@ -40,7 +40,7 @@ static const char usage[] =
     "\n"
     "QUEUE is the number of a record (tc -s qdisc show prints it), a device that has one record, or a file.\n";
 
-/* A record that is mapped. */
+/* A mapped record. */
 struct tap {
     const char *path;
     int file;
@@ -49,7 +49,7 @@ struct tap {
     void *scratch; /* memory for a copy */
 };
 
-/* A name in the folder. */
+/* A file name in the folder of records. */
 struct entry {
     unsigned index, handle[2], parent[2], serial;
     char path[sizeof FOLDER + 256];
@@ -156,7 +156,7 @@ static void list(void) {
 struct flows {
     FILE *out; /* NULL if no flows are requested */
     const struct pie_recorded_flow *places;
-    uint64_t seen[PIE_RECORDED_FLOWS]; /* when the place was written that was read last */
+    uint64_t seen[PIE_RECORDED_FLOWS]; /* for each place, the moment of the flow that was read last */
 };
 
 static void open_flows(struct flows *flows, const struct tap *tap, const char *file) {
@@ -214,7 +214,7 @@ static void write_flows(struct flows *flows) {
         memcpy(&flow, from, sizeof flow);
         __atomic_thread_fence(__ATOMIC_ACQUIRE);
         if (flow.flow != number || __atomic_load_n(&from->flow, __ATOMIC_RELAXED) != number)
-            continue; /* it is being written: the next call reads it */
+            continue; /* the place is being written: the next call reads it */
         flows->seen[i] = flow.moment;
         if (flow.family != 0)
             write_flow(flows->out, &flow);
@@ -257,7 +257,7 @@ static int pause_for(const struct tap *tap, unsigned *turns) {
     return !is_ended && (++*turns % 50 != 0 || lseek(tap->file, 0, SEEK_CUR) == 0);
 }
 
-/* Copies the memory, and returns its latest snapshot. */
+/* Copies the memory. Returns the latest snapshot in the copy. */
 static PIE_WORD *latest(struct tap *tap, const struct pie_flight_layout *layout) {
     PIE_WORD *snapshot, *later;
     uint64_t begun;
@@ -272,7 +272,7 @@ static PIE_WORD *latest(struct tap *tap, const struct pie_flight_layout *layout)
     return snapshot;
 }
 
-/* Writes the time of day again if it was set. */
+/* Writes the wall-clock time again if the clock was set. */
 static void follow_clock(const struct tap *tap, uint64_t *told) {
     uint64_t now = PIE_LOAD(((PIE_WORD *)tap->memory)[PIE_FLIGHT_CLOCK]);
     unsigned char out[PIE_RECORD_ROOM];
@@ -294,7 +294,7 @@ static int follow(struct tap *tap, struct flows *flows) {
     snapshot = latest(tap, &follower.layout);
     told = PIE_LOAD(((PIE_WORD *)tap->scratch)[PIE_FLIGHT_CLOCK]);
     follower.next = PIE_LOAD(snapshot[PIE_FLIGHT_COUNT]);
-    if (follower.next != 0) { /* else the text begins with the opening */
+    if (follower.next != 0) { /* otherwise the text begins with the opening */
         pie_flight_text_to(&text, write_out, NULL);
         pie_flight_text_begin(&text, (PIE_WORD *)tap->scratch, &follower.layout, snapshot);
         pie_flight_flush(&text);
@@ -315,7 +315,7 @@ static int follow(struct tap *tap, struct flows *flows) {
 
 /* ---- interval records: each event is decided again */
 
-/* A packet that waits. */
+/* A queued packet. */
 struct waiting {
     uint64_t tag, since;
     uint32_t size;
@@ -337,7 +337,7 @@ static void push(struct again *it, uint64_t tag, uint64_t since, uint32_t size) 
     to->size = size;
 }
 
-/* Begins at a snapshot of the copy: its state, and the packets that waited. */
+/* Begins at a snapshot of the copy, with its state and its queued packets. */
 static void again_begin(struct again *it, struct tap *tap, const struct pie_flight_layout *layout, PIE_WORD *snapshot, uint64_t every) {
     PIE_WORD *words = (PIE_WORD *)tap->scratch;
     uint64_t came = PIE_LOAD(snapshot[PIE_FLIGHT_CAME]), left = PIE_LOAD(snapshot[PIE_FLIGHT_LEFT]);
@@ -394,7 +394,7 @@ static void again_step(struct again *it, struct pie_event *event, const struct p
     }
 }
 
-/* Writes the record of the period that a step ended, and compares what it decided. */
+/* Writes the record of the interval that a step ended, and compares the decision with the recorded one. */
 static void record_event(struct again *it, const struct pie_event *event, const struct pie_params *params, uint64_t number) {
     unsigned char out[PIE_RESUME_ROOM];
     struct pie_event decided = *event;

@@ -2,7 +2,7 @@
 /*
  * The plugin of tc for pie_recorded: tc loads q_pie_recorded.so from its folder of plugins, or from
  * $TC_LIB_DIR, and looks for pie_recorded_qdisc_util. Options and statistics of pie have the names,
- * units and order of tc's own q_pie.c; ours follow. No package of Debian has tc's headers, so the
+ * units and order of tc's own q_pie.c; those of pie_recorded follow. No package of Debian has tc's headers, so the
  * declarations of iproute2 6.1 are here.
  */
 #include <linux/rtnetlink.h>

@@ -1,8 +1,8 @@
 // SPDX-License-Identifier: GPL-2.0 OR MIT
 /*
- * The queue discipline pie_recorded: PIE (RFC 8033), decided by the calls of pie.h, which are
- * proved. This file contains no rule of PIE. It has the packets, the clock, the random words and
- * the timer, and writes each event to a flight recorder (pie_flight.h), which user space maps.
+ * The queue discipline pie_recorded: PIE (RFC 8033), decided by the proved calls of pie.h. This
+ * file handles the packets, the clock, the random words and the timer, and contains no rule of
+ * PIE. It writes each event to a flight recorder (pie_flight.h), whose memory user space can map.
  */
 
 #include <linux/atomic.h>
@@ -33,7 +33,7 @@
 /* The callers of the events. */
 enum { PR_ENQUEUE = 1, PR_DEQUEUE = 2, PR_TIMER = 3, PR_PURGE = 4, PR_CHANGE = 5 };
 
-#define PR_TUPDATE_MIN 100 /* us; a shorter period would only load the timer */
+#define PR_TUPDATE_MIN 100 /* us; a shorter t_update would only load the timer */
 #define PR_EVENTS_MAX BIT(24)
 #define PR_BILLIONTH (PIE_ONE / NSEC_PER_SEC) /* a probability of 10^-9 */
 
@@ -52,14 +52,14 @@ MODULE_PARM_DESC(memory, "MiB that all records may take together");
 static atomic_long_t pr_pages = ATOMIC_LONG_INIT(0);
 static atomic_t pr_serial = ATOMIC_INIT(0);
 
-/* The folder /proc/net/pie_recorded of each network namespace. */
+/* The state of a network namespace: its folder /proc/net/pie_recorded. */
 static unsigned int pr_net_id __read_mostly;
 
 struct pr_net {
 	struct proc_dir_entry *folder;
 };
 
-/* The memory of a record, which user space maps: the recorder, and the flows. And its file. */
+/* A record: its memory with the recorder and the flows, which user space maps, and its file. */
 struct pr_record {
 	void *words;
 	size_t bytes;
@@ -67,32 +67,32 @@ struct pr_record {
 };
 
 /*
- * The private part of a queue. The packets and bytes that wait are flight.packets and
- * flight.bytes: qstats.backlog also counts a packet that a parent peeked at, which has departed.
- * The statistics are flight.stats. Both are used without a record too.
+ * The private part of a queue. flight.packets and flight.bytes count the queued packets.
+ * qstats.backlog does not: it also counts a packet that a parent peeked at, which has departed.
+ * flight.stats has the statistics. These fields are used without a record too.
  */
 struct pr_sched {
-	/* not `pie`, whose address would be the queue's, and stay in a register between calls */
+	/* `pie` is not first: its address, in a register between calls, would be that of the queue */
 	struct pr_random random;
 	struct pie_state pie;
 	struct pie_flight flight;
-	/* the events of the call under way: on the stack they would be zeroed first */
+	/* the events of the present call; on the stack they would have to be zeroed */
 	struct pie_event arrival;
 	struct pie_event departure;
 	struct pie_event other;
 	u64 hash_key;
-	u32 room;		/* the most packets */
+	u32 room;		/* capacity in packets */
 	u32 next_tag;
 	bool ecn;
 	bool flows;
 	u64 purged;
 	u64 maxq;
-	u32 refused;	/* packets that a call refused */
+	u32 refused;	/* packets that a call of pie.h refused */
 	struct hrtimer timer;
-	spinlock_t lock; /* the timer against a reset without the tree's lock, before destroy */
+	spinlock_t lock; /* for the timer and a reset before destroy, without the tree's lock */
 	struct Qdisc *sch;
 	struct pr_record *record;
-	struct pie_recorded_flow *places; /* of flows in the record */
+	struct pie_recorded_flow *places; /* the flows in the record */
 	u32 events;	/* the options as tc gave them */
 	u32 serial;
 	u32 alpha;
@@ -100,7 +100,7 @@ struct pr_sched {
 	bool is_open;
 };
 
-/* What a packet carries while it is queued. Of a queue without a record, `since` alone. */
+/* The private data of a queued packet. Without a record only `since` is used. */
 struct pr_cb {
 	u64 since;	/* the moment of its arrival */
 	u64 tag;
@@ -131,7 +131,7 @@ static __always_inline void pr_kept(struct pr_sched *q, const struct pie_flight_
 		pr_snapshot(q);
 }
 
-/* Records q->arrival, of a packet with the tag `tag`. */
+/* Records q->arrival, the arrival of a packet with this tag. */
 static __always_inline void pr_keep_arrival(struct pr_sched *q, u64 tag, u32 size, u32 ecn,
 					    u32 verdict)
 {
@@ -142,7 +142,7 @@ static __always_inline void pr_keep_arrival(struct pr_sched *q, u64 tag, u32 siz
 	pr_kept(q, &burst);
 }
 
-/* Records q->departure, of a packet that carried `cb`. */
+/* Records q->departure, the departure of the packet with this private data. */
 static __always_inline void pr_keep_departure(struct pr_sched *q, const struct pr_cb *cb,
 					      u32 caller)
 {
@@ -160,7 +160,7 @@ static __always_inline void pr_keep_departure(struct pr_sched *q, const struct p
 	pr_kept(q, &burst);
 }
 
-/* Counts and records q->other, which is no packet's: an update, a reset or new parameters. */
+/* Counts and records q->other: an update, a reset or new parameters. */
 static noinline void pr_keep_other(struct pr_sched *q)
 {
 	struct pie_flight_burst burst;
@@ -175,7 +175,7 @@ static noinline void pr_keep_other(struct pr_sched *q)
 	pr_kept(q, &burst);
 }
 
-/* Returns the ECN field of any packet as pr_ecn. */
+/* Returns what pr_ecn returns, for packets of any form. */
 static noinline u32 pr_ecn_of_any(struct sk_buff *skb)
 {
 	unsigned int end = skb_network_offset(skb);
@@ -200,7 +200,7 @@ static noinline u32 pr_ecn_of_any(struct sk_buff *skb)
 	return ecn != PIE_NOT_ECT && skb_try_make_writable(skb, end) ? PIE_NOT_ECT : ecn;
 }
 
-/* Returns the packet's ECN field; not-ECT if it has none or could not be marked. */
+/* Returns the packet's ECN field; Not-ECT if it has none or the packet cannot be marked. */
 static __always_inline u32 pr_ecn(struct sk_buff *skb)
 {
 	/* most packets: IPv4, with a header that no other packet shares */
@@ -210,7 +210,7 @@ static __always_inline u32 pr_ecn(struct sk_buff *skb)
 	return pr_ecn_of_any(skb);
 }
 
-/* Returns a packet's flow, whose addresses are in the record if there was a place. */
+/* Returns a packet's flow. Writes its addresses to the record, unless its place is taken. */
 static __always_inline u32 pr_flow(struct pr_sched *q, struct sk_buff *skb)
 {
 	bool is_hashed = skb->l4_hash || skb->sw_hash;
@@ -240,7 +240,7 @@ static noinline int pr_drop(struct sk_buff *skb, struct Qdisc *sch, struct sk_bu
 		stats->over_packets++;
 		break;
 	default:
-		/* nothing was decided: a size above 65535, as a stab can make */
+		/* refused, for example for a size above 65535, which a stab can compute */
 		q->refused++;
 		return qdisc_drop(skb, sch, to_free);
 	}
@@ -250,7 +250,7 @@ static noinline int pr_drop(struct sk_buff *skb, struct Qdisc *sch, struct sk_bu
 	return qdisc_drop(skb, sch, to_free);
 }
 
-/* Enqueues the packet of q->arrival, and records the arrival. */
+/* Enqueues a packet, and records its arrival, q->arrival. */
 static __always_inline int pr_queue(struct sk_buff *skb, struct Qdisc *sch, u64 tag, u32 verdict,
 				    const bool is_recorded)
 {
@@ -261,7 +261,7 @@ static __always_inline int pr_queue(struct sk_buff *skb, struct Qdisc *sch, u64 
 
 	pr_cb(skb)->since = since;
 	if (is_recorded) {
-		/* in registers: after a barrier, q->arrival would be read again */
+		/* a copy in registers: the compiler would read q->arrival again after a barrier */
 		const struct pie_event event = { .tag = tag, .size = size };
 		u32 leaving = verdict == PIE_MARK ? (u32)PIE_CE : ecn;
 
@@ -283,7 +283,7 @@ static __always_inline int pr_queue(struct sk_buff *skb, struct Qdisc *sch, u64 
 	return NET_XMIT_SUCCESS;
 }
 
-/* Marks a packet, which can be marked, and enqueues it. */
+/* Marks and enqueues a packet that can be marked. */
 static noinline int pr_queue_marked(struct sk_buff *skb, struct Qdisc *sch, u64 tag)
 {
 	struct pr_sched *q = qdisc_priv(sch);
@@ -293,7 +293,7 @@ static noinline int pr_queue_marked(struct sk_buff *skb, struct Qdisc *sch, u64 
 	return pr_queue(skb, sch, tag, PIE_MARK, q->record);
 }
 
-/* Enqueues or drops a packet that needs no segmentation. A tag is only for the record. */
+/* Enqueues or drops a packet that needs no segmentation. Only recorded packets need a tag. */
 static __always_inline int pr_enqueue_one(struct sk_buff *skb, struct Qdisc *sch,
 					  struct sk_buff **to_free, const bool is_recorded)
 {
@@ -323,7 +323,7 @@ static __always_inline int pr_enqueue_one(struct sk_buff *skb, struct Qdisc *sch
 
 static int pr_enqueue(struct sk_buff *skb, struct Qdisc *sch, struct sk_buff **to_free);
 
-/* Enqueues the segments of a GSO packet, each decided by itself. */
+/* Segments a GSO packet, and decides each segment. */
 static noinline int pr_enqueue_gso(struct sk_buff *skb, struct Qdisc *sch, struct sk_buff **to_free)
 {
 	netdev_features_t features = netif_skb_features(skb);
@@ -350,7 +350,7 @@ static noinline int pr_enqueue_gso(struct sk_buff *skb, struct Qdisc *sch, struc
 	consume_skb(skb);
 	if (!count)
 		return NET_XMIT_DROP;
-	/* the parents count the one packet that they handed over */
+	/* the parents counted one packet */
 	qdisc_tree_reduce_backlog(sch, 1 - count, before - after);
 	return NET_XMIT_SUCCESS;
 }
@@ -378,7 +378,7 @@ static int pr_enqueue(struct sk_buff *skb, struct Qdisc *sch, struct sk_buff **t
 	return pr_enqueue_unrecorded(skb, sch, to_free);
 }
 
-/* Decides and records the departure of a packet, which is no longer in the queue. */
+/* Makes and records the departure of a packet that was removed from the queue. */
 static __always_inline void pr_left(struct pr_sched *q, const struct sk_buff *skb, u32 caller)
 {
 	const struct pr_cb *cb = pr_cb(skb);
@@ -404,7 +404,7 @@ static struct sk_buff *pr_dequeue(struct Qdisc *sch)
 	return skb;
 }
 
-/* Arms the timer for the next update. No t_update is above ten seconds. */
+/* Arms the timer for the next update, at most ten seconds from now, the greatest t_update. */
 static void pr_arm(struct pr_sched *q)
 {
 	u64 most = ktime_get_ns() + 10 * (u64)NSEC_PER_SEC;
@@ -413,18 +413,18 @@ static void pr_arm(struct pr_sched *q)
 	hrtimer_start(&q->timer, ns_to_ktime(min(due, most)), HRTIMER_MODE_ABS_SOFT);
 }
 
-/* `change` may have armed the timer meanwhile: the callback starts it anew and restarts nothing. */
+/* Makes an update. Arms the timer by pr_arm, not by its return value: `change` may have armed it. */
 static enum hrtimer_restart pr_timer(struct hrtimer *timer)
 {
 	struct pr_sched *q = container_of(timer, struct pr_sched, timer);
 	struct pie_event *event = &q->other;
 	u64 fresh = get_random_u64();
-	spinlock_t *root_lock; /* of the tree of queues */
+	spinlock_t *root_lock; /* the lock of the tree of queues */
 
 	rcu_read_lock();
 	root_lock = qdisc_lock(qdisc_root_sleeping(q->sch));
 	spin_lock(root_lock);
-	/* the root may have been replaced, by this queue too, before its lock was taken */
+	/* the root may have been replaced before its lock was taken, also by this queue */
 	while (unlikely(root_lock != qdisc_lock(qdisc_root_sleeping(q->sch)))) {
 		spin_unlock(root_lock);
 		root_lock = qdisc_lock(qdisc_root_sleeping(q->sch));
@@ -461,7 +461,7 @@ static const struct nla_policy pr_policy[TCA_PIE_RECORDED_MAX + 1] = {
 	[TCA_PIE_RECORDED_FLOWS] = { .type = NLA_U32 },
 };
 
-/* Reads the options that may change at any time. tc's alpha and beta are sixteenths per second. */
+/* Reads the options that may change at any time. alpha and beta of tc are in sixteenths per second. */
 static int pr_params(struct nlattr **tb, struct pie_params *params, u32 *alpha, u32 *beta,
 		     struct netlink_ext_ack *extack)
 {
@@ -525,7 +525,7 @@ static bool pr_flag(const struct nlattr *attr, bool otherwise)
 
 #define PR_FIXED(option) option " is fixed when the qdisc is added: delete it and add it again"
 
-/* Refuses a change of what belongs to the opening. Its present value is no change. */
+/* Refuses a change of an option that is fixed at the opening. */
 static int pr_check_opening(const struct pr_sched *q, struct nlattr **tb,
 			    struct netlink_ext_ack *extack)
 {
@@ -589,7 +589,7 @@ static int pr_change(struct Qdisc *sch, struct nlattr *opt, struct netlink_ext_a
 	return err;
 }
 
-/* Maps a record. Its pages stay as long as a mapping has them, also when the queue is gone. */
+/* Maps a record. A mapping keeps the pages, also after the queue was removed. */
 static int pr_mmap(struct file *file, struct vm_area_struct *vma)
 {
 	struct pr_record *record = pde_data(file_inode(file));
@@ -627,7 +627,7 @@ static void pr_record_free(struct pr_record *record)
 	kfree(record);
 }
 
-/* Gives the queue a record, if events are asked for. */
+/* Opens the record of a queue, unless the option `events` is 0. */
 static int pr_record_open(struct pr_sched *q, const struct pie_opening *opening,
 			  struct netlink_ext_ack *extack)
 {
@@ -655,7 +655,7 @@ static int pr_record_open(struct pr_sched *q, const struct pie_opening *opening,
 		pr_record_free(record);
 		return -ENOMEM;
 	}
-	/* vmalloc_user, charged to the cgroup of the process: a mapping may outlive the queue */
+	/* as vmalloc_user, but charged to the process's cgroup: a mapping may outlive the queue */
 	record->words = __vmalloc(record->bytes, GFP_KERNEL_ACCOUNT | __GFP_ZERO |
 				  __GFP_RETRY_MAYFAIL | __GFP_NOWARN);
 	if (!record->words ||
@@ -686,7 +686,7 @@ static int pr_init(struct Qdisc *sch, struct nlattr *opt, struct netlink_ext_ack
 	struct pie_opening opening;
 	int err;
 
-	/* first of all: destroy follows a failure too */
+	/* first, because destroy is called after a failure too */
 	q->sch = sch;
 	spin_lock_init(&q->lock);
 #if LINUX_VERSION_CODE >= KERNEL_VERSION(6, 13, 0)
@@ -705,7 +705,7 @@ static int pr_init(struct Qdisc *sch, struct nlattr *opt, struct netlink_ext_ack
 	opening.moment = ktime_get_ns();
 	opening.packets = pr_number(tb[TCA_PIE_LIMIT], 1000);
 	opening.params.mean_pkt = clamp_t(u32, psched_mtu(qdisc_dev(sch)), 1, PIE_MAX_SIZE);
-	/* no limit in bytes below the one in packets */
+	/* so large that only the limit in packets applies */
 	opening.params.limit_bytes = min_t(u64, opening.packets * PIE_MAX_SIZE, PIE_MAX_BYTES);
 	opening.tail = 1 << 20;
 	if (pr_flag(tb[TCA_PIE_DQ_RATE_ESTIMATOR], false))
@@ -743,9 +743,8 @@ static int pr_init(struct Qdisc *sch, struct nlattr *opt, struct netlink_ext_ack
 }
 
 /*
- * Drops all packets. The history has their departures, by a caller of their own, and then a reset.
- * A queue that is no longer in a tree is reset without the tree's lock before it is destroyed, and
- * its timer may run meanwhile.
+ * Drops all packets. Records their departures with the caller PR_PURGE, and then a reset. Before a
+ * queue is destroyed, it is reset without the tree's lock, and its timer may run meanwhile.
  */
 static void pr_reset(struct Qdisc *sch)
 {

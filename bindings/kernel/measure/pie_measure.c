@@ -49,7 +49,7 @@ struct counts {
 	u32 departures;
 };
 
-static u64 empty; /* instructions from one reading of the counter to the next */
+static u64 empty; /* instructions between two readings of the counter without other work */
 
 static struct sk_buff *make_packet(struct net_device *at, u32 number)
 {
@@ -116,7 +116,7 @@ static void take(struct Qdisc *sch, struct counts *counts)
 	kfree_skb(skb);
 }
 
-/* The instructions of one call of each generator. */
+/* Counts the instructions of one call of each generator. */
 static void measure_words(void)
 {
 	struct pr_random random;
@@ -164,7 +164,7 @@ static void measure(struct net_device *at, struct Qdisc *sch)
 	struct sk_buff *skb;
 	int i;
 
-	/* a new queue: the burst allowance is not used up */
+	/* a new queue has burst allowance */
 	for (i = 0; i < PACKETS; i++) {
 		skb = make_packet(at, i);
 		if (skb)
@@ -173,7 +173,7 @@ static void measure(struct net_device *at, struct Qdisc *sch)
 			take(sch, &counts);
 	}
 	print_counts("burst", &counts);
-	/* packets wait above the target, and updates raise the probability, until some drop */
+	/* let packets wait longer than the target until updates have raised the probability */
 	for (i = 0; i < 2000 && aside.drops < 3; i++) {
 		skb = make_packet(at, i);
 		if (skb)

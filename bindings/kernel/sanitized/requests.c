@@ -83,7 +83,7 @@ static int ask(struct request *it) {
     }
 }
 
-/* Sends a request with the N-th fault of its allocations. Returns its error; `is_hit` says if there was such an allocation. */
+/* Sends a request whose N-th allocation fails. Returns its error. `is_hit` is true if it made that many allocations. */
 static int ask_failing(struct request *it, int n, int *is_hit) {
     char text[16] = "";
     int file = open("/proc/thread-self/fail-nth", O_RDWR), error;
@@ -127,7 +127,7 @@ static void remove_queue(void) {
     ask(&it);
 }
 
-/* Each allocation of each request fails once. */
+/* Lets each allocation of each request fail once. */
 static void fail_each(void) {
     static const char *const names[] = {"add", "change", "print", "delete"};
     static const int types[] = {RTM_NEWQDISC, RTM_NEWQDISC, RTM_GETQDISC, RTM_DELQDISC};
@@ -217,8 +217,8 @@ static PIE_WORD *map_only_record(size_t bytes) {
     return at != MAP_FAILED ? (PIE_WORD *)at : NULL;
 }
 
-/* Returns the number of resets in a record whose events are in the order of time and have their callers, 0 if they are not, and -1 if its first events
- * were overwritten, because the guest paused for long. */
+/* Returns the number of resets in a record. Returns 0 if an event has an earlier moment than the one before it or a
+ * wrong caller, and -1 if the first events were overwritten, because the guest paused for long. */
 static int resets_in_order(PIE_WORD *words, size_t bytes, unsigned long *updates) {
     static const uint64_t callers[] = {[PIE_EVENT_ARRIVE] = 1, [PIE_EVENT_DEPART] = 2, [PIE_EVENT_UPDATE] = 3, [PIE_EVENT_RESET] = 4};
     struct pie_flight_layout layout;
@@ -246,7 +246,7 @@ static void remove_each(unsigned count) {
     const size_t bytes = (pie_flight_bytes(EVENTS, 1000) + 4095) / 4096 * 4096;
     unsigned number, wrong = 0;
     unsigned long updates = 0;
-    int wanted = 0, found; /* resets: one when the device stops, and one before the queue is destroyed */
+    int wanted = 0, found; /* two resets: when the device stops, and before the queue is destroyed */
     for (number = 0; number < count; number++) {
         uint32_t period = 100, events = EVENTS;
         struct rtattr *nest;
@@ -273,7 +273,8 @@ static void remove_each(unsigned count) {
     printf("%s remove: %u queues with %lu updates and %d resets each, %u records out of order\n", wrong != 0 ? "FAILED" : "TOLD", count, updates, wanted, wrong);
 }
 
-/* Returns 0 if a record can be mapped to be read, and neither written nor executed, at once or later. */
+/* Returns 0 if a record can be mapped for reading only: a mapping for writing or execution, also a later change to it,
+ * fails. */
 static int map_record(const char *path) {
     int file = open(path, O_RDWR), is_refused;
     void *at;

@@ -22,7 +22,7 @@
 
 extern int pie_init_module(void), recorded_init_module(void);
 
-static uint64_t ticks_per_second, later; /* `later`: the ns by which the clock was advanced */
+static uint64_t ticks_per_second, later; /* `later`: ns that the clock was advanced */
 static uint64_t multiplier;              /* ns of a tick, times 2^24 */
 unsigned long words_drawn;
 
@@ -33,7 +33,7 @@ void *user_memory(unsigned long bytes) {
     return memset(memory, 0, (bytes + 4095) / 4096 * 4096);
 }
 
-/* The same steps as ktime_get of a kernel whose clock source is the time stamp counter. */
+/* Reads the clock by the steps of ktime_get with the time stamp counter as clock source. */
 long long user_clock(void) {
     uint64_t ticks;
     _mm_lfence();
@@ -70,7 +70,7 @@ unsigned jiffies_to_usecs(unsigned long jiffies_at_250_hertz) {
     return (unsigned)(jiffies_at_250_hertz * 4000);
 }
 
-/* Kernel functions that are called and need do nothing here. */
+/* Kernel functions that do nothing here. */
 #define NOTHING(name)                                                                                                                                  \
     long name(void) {                                                                                                                                  \
         return 0;                                                                                                                                      \
@@ -86,7 +86,7 @@ NOTHING(__rcu_read_unlock)
 char kmalloc_caches[4096];
 unsigned long jiffies, phys_base;
 
-/* Calls through these in a kernel without mitigations, which are its alternatives for `ret` and `jmp *register`. */
+/* The thunks of a kernel without mitigations: they only return, or jump to the register. */
 __asm__(".globl __x86_return_thunk\n__x86_return_thunk: ret\n"
         ".irp name, rax, rbx, rcx, rdx, rsi, rdi, rbp, r8, r9, r10, r11, r12, r13, r14, r15\n"
         ".globl __x86_indirect_thunk_\\name\n__x86_indirect_thunk_\\name: jmp *%\\name\n"
@@ -110,7 +110,7 @@ static double passed(uint64_t ticks) {
     return (double)ticks * 1e9 / (double)ticks_per_second / BATCH;
 }
 
-/* A batch of arrivals, and as many departures as packets were enqueued. */
+/* Makes a batch of arrivals, and a departure for each enqueued packet. */
 static void batch(struct kind *it, int is_considered) {
     uint64_t begun, enqueued, dequeued;
     unsigned drops, came;

@@ -12,7 +12,7 @@
 #include <net/netns/generic.h>
 #include <net/pkt_sched.h>
 
-/* Linux's structures of these names are not those of pie.h. */
+/* Linux and pie.h have different structures of these names. */
 #define pie_params linux_pie_params
 #define pie_stats linux_pie_stats
 #include <net/pie.h>
@@ -180,7 +180,7 @@ void queue_consider(void *queue, int is_considered)
 		vars->burst_time = is_considered ? 0 : PSCHED_NS2TICKS(150 * NSEC_PER_MSEC);
 		vars->prob = is_considered ? MAX_PROB / 100 : 0;
 	} else if (!strcmp(sch->ops->id, "pie_recorded")) {
-		/* after the generator of random words (struct pr_sched) */
+		/* the state follows the generator of random words in struct pr_sched */
 		struct pie_state *pie = qdisc_priv(sch) + sizeof(struct pr_random);
 
 		if (pie->params.target != 15 * NSEC_PER_MSEC)
@@ -191,7 +191,7 @@ void queue_consider(void *queue, int is_considered)
 	}
 }
 
-/* Enqueues up to `count` packets. Returns the number of packets that were dropped. */
+/* Enqueues up to `count` packets. Returns the number of dropped packets. */
 unsigned int queue_put(void *queue, unsigned int count)
 {
 	struct Qdisc *sch = queue;
@@ -207,7 +207,7 @@ unsigned int queue_put(void *queue, unsigned int count)
 	return drops;
 }
 
-/* Dequeues up to `count` packets. Returns the number of packets that came. */
+/* Dequeues up to `count` packets. Returns their number. */
 unsigned int queue_take(void *queue, unsigned int count)
 {
 	struct Qdisc *sch = queue;

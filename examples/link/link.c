@@ -1,5 +1,5 @@
-/* A bottleneck in user space: two TUN devices, joined by a link of a given rate whose queue PIE manages. One thread; it waits in
- * ppoll for packets, for the end of a transmission, for the delay on the way back, and for the moment when an update is due. Another
+/* A bottleneck in user space: two TUN devices, joined by a link of a given rate with a PIE queue. The main thread waits
+ * in ppoll for packets, for the end of a transmission, for the delay on the way back, and for the next update. Another
  * thread follows the flight recorder and writes the history, so that no packet waits for a file.
  *
  * Nothing here touches another device: a packet from one TUN device goes out by the other. */
@@ -30,42 +30,42 @@
 #include <time.h>
 #include <unistd.h>
 
-#define LARGEST 65535      /* bytes of a packet */
-#define AT_ONCE 64         /* packets read from one device before the link is looked at again */
-#define BACK_PACKETS 65536 /* that may be on the way back */
-#define WORDS 128          /* random words taken at once */
-#define LOOK_TIME 10000000 /* ns between two looks of the history's thread */
+#define LARGEST 65535      /* the most bytes of a packet */
+#define AT_ONCE 64         /* the most packets read from a device before the link is served again */
+#define BACK_PACKETS 65536 /* the most packets on the way back */
+#define WORDS 128          /* random words that are requested at once */
+#define LOOK_TIME 10000000 /* ns for which the history's thread sleeps */
 
 struct bottleneck {
     const struct options *options;
     int from, to;          /* the devices */
-    bool from_has, to_has; /* true if there is something to read */
-    struct pie_state pie;  /* the controller in front of the queue */
-    struct packets queue;  /* queued for the link */
+    bool from_has, to_has; /* true if the device has a packet to read */
+    struct pie_state pie;  /* the controller of the queue */
+    struct packets queue;  /* packets queued for the link */
     struct packets there;  /* packets on the link, until the end of their transmission */
     struct packets back;   /* packets on the way back, until the delay has passed */
-    uint64_t start;        /* of the run, by CLOCK_MONOTONIC */
-    uint64_t free_at;      /* the moment from which the link is free; with grants the moment of the next grant */
-    uint64_t granted;      /* bits that a grant's last packet had beyond it */
-    size_t step;           /* of the rate, the one in force */
-    uint64_t next_update;  /* the moment from which an update is not too soon */
+    uint64_t start;        /* start of the run, by CLOCK_MONOTONIC */
+    uint64_t free_at;      /* moment at which the link becomes free; with grants the moment of the next grant */
+    uint64_t granted;      /* bits by which the last packet exceeded its grant */
+    size_t step;           /* index of the rate in force */
+    uint64_t next_update;  /* first moment at which an update is not too soon */
     struct flight_file flight;
     struct pie_flight_follower follower;
     FILE *history;         /* NULL if none is written */
-    _Atomic uint64_t missed; /* missing events so far */
+    _Atomic uint64_t missed; /* number of missing events */
     struct records records;
     struct flows flows;
     struct flow_top top;   /* the last complete interval with packets, until it is reported; protected by `telling` */
     pthread_mutex_t telling;
-    pthread_t writer;      /* of the history, of flows, of the metrics, and of the flight recorder's text */
-    atomic_bool is_closed; /* the writer has to end */
+    pthread_t writer;      /* the thread that writes history, flows, metrics and the flight recorder's text */
+    atomic_bool is_closed; /* true if the writer must end */
     struct metrics counted;
     struct metrics_file metrics;
-    uint64_t lost;         /* packets, at the devices */
+    uint64_t lost;         /* packets that a device did not accept */
 };
 
 static volatile sig_atomic_t is_stopped;
-static atomic_bool is_asked; /* the flight recorder's text is to be written */
+static atomic_bool is_asked; /* true if the flight recorder's text was requested */
 
 static void stop(int number) {
     if (number == SIGUSR1)
@@ -80,7 +80,7 @@ static void die(const char *what) {
     exit(1);
 }
 
-/* A refusal that no caller of this program can cause. */
+/* Ends the program after a refusal that no input of it can cause. */
 static void die_refused(const char *call, uint64_t code) {
     fprintf(stderr, "link: %s: %s (%" PRIu64 ")\n", call, pie_text(code), code);
     exit(1);
@@ -93,7 +93,7 @@ static uint64_t clock_now(clockid_t clock) {
     return (uint64_t)now.tv_sec * 1000000000u + (uint64_t)now.tv_nsec;
 }
 
-/* Nanoseconds since the start of the run. */
+/* Returns the nanoseconds since the start of the run. */
 static uint64_t moment_of(const struct bottleneck *link) {
     return clock_now(CLOCK_MONOTONIC) - link->start;
 }
@@ -137,8 +137,8 @@ static void release(struct bottleneck *link, struct packets *packets, int device
         send_packet(link, device, pop(packets));
 }
 
-/* Returns the packet's tag: its number among the arrivals, and with --flows its flow's number above it. A
- * complete interval is passed to the writer. */
+/* Returns the packet's tag: its number in the order of arrivals. With --flows, the upper 32 bits are its flow's number.
+ * If the packet ends an interval, passes the interval to the writer. */
 static uint64_t tag_of(struct bottleneck *link, const struct packet *packet, uint64_t now) {
     struct flow_top ended;
     uint64_t tag = note_flow(&link->flows, packet->bytes, packet->length, packet->size, now, link->counted.arrived + 1, &ended);
@@ -207,7 +207,7 @@ static void receive(struct bottleneck *link, int device, void (*take)(struct bot
     }
 }
 
-/* Bits a second at this moment, which is no earlier than at the call before. */
+/* Returns the rate in bits per second at this moment. The moments of successive calls must not decrease. */
 static uint64_t rate_at(struct bottleneck *link, uint64_t moment) {
     const struct options *options = link->options;
     while (link->step + 1 < options->steps && options->rates[link->step + 1].moment <= moment)
@@ -215,7 +215,7 @@ static uint64_t rate_at(struct bottleneck *link, uint64_t moment) {
     return options->rates[link->step].rate;
 }
 
-/* The oldest packet leaves the queue, and is on the link until this moment. */
+/* Removes the oldest packet from the queue, and puts it on the link until the moment `until`. */
 static void depart(struct bottleneck *link, uint64_t now, uint64_t until) {
     struct packet *packet = pop(&link->queue);
     struct pie_event event = {.moment = now, .tag = packet->tag, .size = packet->size, .caller = LINK, .ecn = (uint8_t)packet->ecn};
@@ -228,8 +228,8 @@ static void depart(struct bottleneck *link, uint64_t now, uint64_t until) {
     push(&link->there, packet);
 }
 
-/* Processes the grants that are due: at each, queued packets leave at once, within the bytes that the rate allows in
- * the time between two grants. A packet may exceed the grant; the next grant is reduced by the excess. An unused rest is
+/* Processes the grants that are due. At each grant queued packets leave at once, up to the bytes that the rate allows
+ * between two grants. If the last packet exceeds the grant, the next grant is reduced by the excess. An unused rest is
  * lost. */
 static void serve_grants(struct bottleneck *link, uint64_t now) {
     const uint64_t period = link->options->grant;
@@ -243,8 +243,8 @@ static void serve_grants(struct bottleneck *link, uint64_t now) {
     }
 }
 
-/* Sends each packet that is due. If this program was late, it catches up: a transmission begins when the one before
- * it ended, or when the packet arrived if that is later. */
+/* Sends each packet that is due. A transmission begins when the one before it ended, or when the packet arrived if that
+ * is later, so the link catches up if this program was late. */
 static void serve(struct bottleneck *link, uint64_t now) {
     if (link->options->grant != 0) {
         serve_grants(link, now);
@@ -276,7 +276,7 @@ static uint64_t earlier(uint64_t moment, const struct packets *packets) {
     return packets->first != NULL && packets->first->moment < moment ? packets->first->moment : moment;
 }
 
-/* Waits for a packet, or for the next thing that is to be done without one. */
+/* Waits for a packet, or for the next moment at which work is due. */
 static void wait_for_work(struct bottleneck *link, const sigset_t *signals) {
     struct pollfd devices[2] = {{.fd = link->from, .events = POLLIN}, {.fd = link->to, .events = POLLIN}};
     uint64_t next = link->next_update < link->options->lasts ? link->next_update : link->options->lasts;
@@ -324,7 +324,7 @@ static void step(struct bottleneck *link) {
     tell(link, now);
 }
 
-/* Writes the contents of the flight recorder, if they were requested. */
+/* Writes the text of the flight recorder, if it was requested. */
 static void write_if_asked(const struct bottleneck *link) {
     const struct flight_file *flight = &link->flight;
     if (!atomic_exchange(&is_asked, false) || flight->name == NULL)
@@ -355,7 +355,7 @@ static int write_to(void *user, const unsigned char *bytes, size_t count) {
     return fwrite(bytes, 1, count, (FILE *)user) == count ? 0 : 1;
 }
 
-/* Writes the events since the last look. */
+/* Writes the events since the last call. */
 static void follow(struct bottleneck *link) {
     if (link->history == NULL)
         return;
@@ -365,7 +365,7 @@ static void follow(struct bottleneck *link) {
     atomic_store(&link->missed, link->follower.missed);
 }
 
-/* The thread that writes the history, flows, the metrics, and the flight recorder's text. */
+/* Runs the thread that writes history, flows, metrics and the flight recorder's text. */
 static void *write_history(void *argument) {
     struct bottleneck *link = argument;
     const struct timespec pause = {.tv_nsec = LOOK_TIME};
@@ -381,7 +381,7 @@ static void *write_history(void *argument) {
     return NULL;
 }
 
-/* Signals are received only while the program waits. */
+/* Blocks signals except while the program waits. */
 static void hold_signals(sigset_t *before) {
     struct sigaction action = {.sa_handler = stop};
     sigset_t held;

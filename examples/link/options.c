@@ -39,7 +39,7 @@ static const char help_of_link[] =
     "\n"
     "run.sh in the same folder creates network namespaces, moves the devices into them, and sends TCP through the link.\n";
 
-/* One step of a rate, `length` bytes: as 10mbit, or behind the first as 20s:2mbit. */
+/* Reads one step of the rate from `length` bytes: first a rate such as 10mbit, then steps such as 20s:2mbit. */
 static const char *read_step(const char *text, size_t length, struct options *options) {
     struct rate_step *step = &options->rates[options->steps];
     const char *colon = memchr(text, ':', length);

@@ -7,28 +7,28 @@
 
 #include <stdint.h>
 
-#define MOST_STEPS 64 /* of the rate */
+#define MOST_STEPS 64 /* the most changes of the rate */
 
-/* From this moment on the link has this rate. */
+/* A rate, and the moment from which the link has it. */
 struct rate_step {
     uint64_t moment, rate;
 };
 
 struct options {
     const char *from, *to;  /* the names of the two devices */
-    const char *history;    /* the file for the history; NULL with none */
-    const char *flight;     /* the file of the flight recorder; NULL with none */
-    const char *metrics;    /* the file of the metrics; NULL with none */
-    const char *flows;      /* the file that lists flows; NULL if there is none */
-    const char *records;    /* the file for the records of intervals, or NULL */
+    const char *history;    /* file of the history, or NULL */
+    const char *flight;     /* file of the flight recorder, or NULL */
+    const char *metrics;    /* file of the metrics, or NULL */
+    const char *flows;      /* file that lists flows, or NULL */
+    const char *records;    /* file of the interval records, or NULL */
     uint64_t every;         /* the length of an interval in ns */
-    uint64_t rtt;           /* ns on the way back */
+    uint64_t rtt;           /* delay on the way back in ns */
     uint64_t grant;         /* ns from one grant to the next; 0: the link sends whenever it is free */
     bool at_start;          /* a packet leaves when its transmission begins, not when it ends */
     struct layer layer;     /* the overhead of a packet on the link */
-    struct rate_step rates[MOST_STEPS]; /* by their moments; the first is 0 */
+    struct rate_step rates[MOST_STEPS]; /* in the order of their moments; the first moment is 0 */
     size_t steps;
-    uint64_t lasts;         /* ns until the program ends by itself */
+    uint64_t lasts;         /* duration of the run in ns */
     struct control control; /* the link and its queue */
 };
 

@@ -5,7 +5,7 @@
 
 #define IPV4_HEADER 20 /* bytes, without options */
 #define IPV6_HEADER 40
-#define CHECKSUM 10 /* its place in an IPv4 header */
+#define CHECKSUM 10 /* offset of the checksum in an IPv4 header */
 #define CE 3u
 
 struct packet *packet_of(const uint8_t *bytes, uint32_t length) {

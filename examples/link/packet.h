@@ -7,16 +7,16 @@
 
 struct packet {
     struct packet *next;
-    uint64_t tag;    /* its number among the arrivals, and above it its flow's */
-    uint64_t moment; /* moment of the arrival, later the moment of its departure; ns */
-    uint64_t arrived; /* the controller's moment right after its arrival */
-    uint32_t length; /* bytes that it has */
-    uint32_t size;   /* bytes that it takes on the link */
-    uint32_t ecn; /* size that was passed to the controller */
+    uint64_t tag;     /* number in the order of arrivals; with flows, the flow's number in the upper 32 bits */
+    uint64_t moment;  /* moment of the arrival, later of the departure, in ns */
+    uint64_t arrived; /* the controller's moment right after the arrival */
+    uint32_t length;  /* number of `bytes` */
+    uint32_t size;    /* bytes on the link */
+    uint32_t ecn;     /* ECN field; PIE_CE after a mark */
     uint8_t bytes[];
 };
 
-/* Packets in their order, the oldest first. */
+/* A list of packets, the oldest first. */
 struct packets {
     struct packet *first, *last;
     uint32_t count;
@@ -29,7 +29,7 @@ struct packet *packet_of(const uint8_t *bytes, uint32_t length);
 
 void push(struct packets *packets, struct packet *packet);
 
-/* Takes the oldest packet; NULL with none. */
+/* Removes the oldest packet and returns it; NULL if there is none. */
 struct packet *pop(struct packets *packets);
 
 void free_all(struct packets *packets);
@@ -38,7 +38,7 @@ void free_all(struct packets *packets);
  * bytes. */
 uint32_t ecn_of(const uint8_t *bytes, size_t size);
 
-/* Sets the ECN field of an IPv4 or IPv6 packet to CE; of IPv4 the header's checksum is mended (RFC 1624). */
+/* Sets the ECN field of an IPv4 or IPv6 packet to CE. Corrects the checksum of an IPv4 header (RFC 1624). */
 void set_ce(uint8_t *bytes, size_t size);
 
 #endif

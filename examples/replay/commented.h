@@ -13,7 +13,7 @@
  * nanoseconds. */
 bool write_interface(FILE *file, int link, uint32_t longest);
 
-/* Writes a frame of this moment, in ns since 1970, with a comment; empty: with none. */
+/* Writes a frame of this moment, in ns since 1970, with a comment unless that is empty. */
 bool write_frame(FILE *file, const struct pcap_pkthdr *header, uint64_t moment, const uint8_t *bytes, const char *comment);
 
 #endif

@@ -34,7 +34,8 @@ static bool is_vlan(uint32_t type) {
     return type == TYPE_VLAN || type == TYPE_SERVICE_VLAN || type == TYPE_OLD_VLAN;
 }
 
-/* Returns the bytes of the header after the IP header; for TCP by its length field, if that was captured. */
+/* Returns the size of the header after the IP header. For TCP it is in the header's length field, if that was
+ * captured. */
 static uint32_t transport_header(uint32_t protocol, const uint8_t *bytes, size_t caught) {
     if (protocol == PROTOCOL_UDP)
         return UDP_HEADER;

@@ -7,10 +7,10 @@
 #include <stdint.h>
 
 struct ip_packet {
-    const uint8_t *bytes; /* bytes from its header on, and the number of captured bytes */
-    size_t caught;
-    uint32_t size;    /* bytes, by its header; of a super-packet whose header has no length, by the frame */
-    uint32_t headers; /* bytes of the IP and TCP or UDP header, which each segment of it has */
+    const uint8_t *bytes; /* the packet, from its IP header on */
+    size_t caught;        /* number of captured bytes */
+    uint32_t size;    /* size by the IP header; by the frame if the header of a super-packet has no length */
+    uint32_t headers; /* bytes of the IP and the TCP or UDP header */
     uint32_t ecn;     /* the ECN field (RFC 3168, section 5) */
 };
 
@@ -20,8 +20,9 @@ enum { FRAME_IP, FRAME_OTHER, FRAME_CUT, FRAME_WRONG };
 /* Returns true if frames of this link type (DLT_ of libpcap) can be read. */
 bool is_known_link(int link);
 
-/* Reads a frame with `caught` of `length` bytes. Returns FRAME_OTHER if it contains no IP packet, FRAME_CUT if the
- * capture ends before its length and ECN field, FRAME_WRONG if the lengths in its header are impossible. */
+/* Reads a frame of `length` bytes, of which `caught` were captured. Returns FRAME_IP. Errors: FRAME_OTHER if the frame
+ * contains no IP packet, FRAME_CUT if length and ECN field were not captured, FRAME_WRONG if the lengths in the header
+ * are impossible. */
 int read_frame(int link, const uint8_t *bytes, size_t caught, size_t length, struct ip_packet *packet);
 
 #endif

@@ -5,13 +5,13 @@
 #include "control.h"
 
 struct options {
-    const char *capture;    /* the file that is replayed; "-": standard input */
+    const char *capture;    /* the capture; "-": standard input */
     char *filter;           /* in libpcap's language; empty: every packet */
     const char *history;    /* the file for the history; "-": standard output */
-    const char *commented;  /* the file for the capture with comments; NULL with none */
-    const char *flows;      /* the file that lists flows; NULL if there is none */
-    uint64_t seed;          /* of the random words */
-    uint64_t split;         /* super-packets are split into packets of at most this many bytes; 0: they are not split */
+    const char *commented;  /* file of the capture with comments, or NULL */
+    const char *flows;      /* file that lists flows, or NULL */
+    uint64_t seed;          /* seed of the random words */
+    uint64_t split;         /* super-packets are split into packets of at most this many bytes; 0: never */
     struct control control; /* the link and its queue */
 };
 

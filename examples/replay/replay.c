@@ -13,7 +13,7 @@
 
 #define SECOND UINT64_C(1000000000)
 #define LONGEST_GAP (86400 * SECOND) /* between two frames: a day; more is a time stamp that is broken */
-#define USUAL_MTU 1500               /* bytes: larger packets are reported */
+#define USUAL_MTU 1500               /* bytes; the program reports larger packets */
 
 struct waiting {
     uint64_t tag, arrived; /* the frame's number, and above it the flow's; the controller's moment right after the arrival */
@@ -23,7 +23,7 @@ struct waiting {
 struct counts {
     struct pie_stats stats;                       /* of the events */
     uint64_t frames, refused;
-    uint64_t passed_over, others, cut, wrong; /* frames that the filter passed over, of other protocols, cut, of a wrong length */
+    uint64_t passed_over, others, cut, wrong; /* excluded by the filter, of other protocols, cut, of a wrong length */
     uint64_t large, backwards;                /* packets above USUAL_MTU; frames earlier than one before them */
 };
 
@@ -33,21 +33,20 @@ struct replay {
     struct history history;
     struct flows flows;
     struct waiting queue[MOST_PACKETS];
-    uint64_t first, packets, bytes; /* of the queue: the place of its first packet, and the numbers of queued packets
-                                       and bytes */
+    uint64_t first, packets, bytes; /* index of the oldest queued packet; numbers of queued packets and bytes */
     uint64_t now;                   /* the greatest moment of an arrival */
-    uint64_t free_at, rest;         /* the moment at which the link is free; and the rest of its last transmission
-                                       below a ns, times the rate */
-    uint64_t word;                  /* the random generator's state */
+    uint64_t free_at, rest;         /* moment at which the link becomes free; fraction of a ns of its last
+                                       transmission, times the rate */
+    uint64_t word;                  /* state of the random generator */
     struct counts counts;
 };
 
-/* The capture that is read, and that which is written. */
+/* The capture that is read, and the one that is written. */
 struct capture {
     pcap_t *file;
     struct bpf_program filter;
     int link;
-    uint64_t start, last; /* of the first frame and of the one before, in ns since 1970 */
+    uint64_t start, last; /* times of the first and of the previous frame, in ns since 1970 */
     FILE *commented;      /* NULL with none */
 };
 
@@ -61,7 +60,7 @@ static void die_refused(const char *call, uint64_t code) {
     exit(1);
 }
 
-/* The next random word: splitmix64, so that a seed gives the same words everywhere. */
+/* Returns the next random word by splitmix64, so that a seed gives the same words on each machine. */
 static uint64_t random_word(uint64_t *state) {
     uint64_t word = *state += UINT64_C(0x9e3779b97f4a7c15);
     word = (word ^ word >> 30) * UINT64_C(0xbf58476d1ce4e5b9);
@@ -69,7 +68,7 @@ static uint64_t random_word(uint64_t *state) {
     return word ^ word >> 31;
 }
 
-/* The link takes the oldest packet; it is free again at the end of its transmission. */
+/* Sends the oldest packet. The link is busy until the end of its transmission. */
 static void depart(struct replay *replay) {
     const struct waiting *packet = &replay->queue[replay->first];
     struct pie_event event = {.moment = replay->free_at, .tag = packet->tag, .size = packet->size, .caller = LINK, .ecn = (uint8_t)packet->ecn};

@@ -23,7 +23,7 @@ const char control_help[] =
     "  --max_burst 150ms, --mean_pkt 1024b, --mark_ecnth 10%, --dq_threshold 16kb\n"
     "                       parameters of pie.h that tc does not have\n";
 
-/* The options that were given, in addition to those in the control. */
+/* The given options that struct control does not contain. */
 struct said {
     uint64_t alpha, beta, mtu, mean_pkt, packets, bytes, mark_ecnth;
     bool is_rate, bytemode, no_derandomization, no_cap, is_half, is_tail;
@@ -79,7 +79,7 @@ static const char *read_limit(const char *text, void *to) {
     return option_size(text, &said->bytes);
 }
 
-/* A probability, as 0.1 or 10%, into units of 10^-12. */
+/* Reads a probability such as 0.1 or 10% into units of 10^-12. */
 static const char *read_probability(const char *text, void *to) {
     char *end;
     double number = strtod(text, &end), unit = strcmp(end, "%") == 0 ? 1e10 : 1e12;
@@ -139,7 +139,7 @@ static const char *finish(const struct command *command, struct control *control
     return opening->packets > command->most_packets ? "--limit" : NULL;
 }
 
-/* A limit that is reached before the target is. */
+/* Warns if the queue is full before a packet can wait for the target delay. */
 static void warn(const struct command *command, const struct control *control) {
     const struct pie_opening *opening = &control->opening;
     double wanted = (double)control->rate / 8e9 * (double)opening->params.target;

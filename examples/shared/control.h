@@ -1,5 +1,6 @@
-/* The options of the programs in C that have a link with PIE in front of it. A keyword has its meaning in `pie params`, which has the
- * keywords of tc; an option without a keyword in tc has its name in pie.h. The library reads the values, as `pie params` does. */
+/* The options of the programs in C that have a link with a PIE queue. An option has the name and meaning of that of
+ * `pie params`, which has the keywords of tc, or otherwise its name in pie.h. The library parses the values, as for
+ * `pie params`. */
 #ifndef SHARED_CONTROL_H
 #define SHARED_CONTROL_H
 
@@ -9,34 +10,34 @@
 #include <stddef.h>
 #include <stdint.h>
 
-#define MOST_PACKETS 65536 /* that a queue of the examples may have room for */
+#define MOST_PACKETS 65536 /* the greatest capacity of a queue of the examples */
 
 enum { SENDER = 1, LINK = 2, TIMER = 3 }; /* the callers in a history */
 
 struct control {
-    uint64_t rate;              /* bits a second of the link */
-    bool use_ecn;               /* packets are marked */
-    struct pie_opening opening; /* of its controller, at the moment 0 */
+    uint64_t rate;              /* rate of the link in bits per second */
+    bool use_ecn;               /* true if ECN-capable packets are marked */
+    struct pie_opening opening; /* the controller's opening, at moment 0 */
 };
 
-/* Reads an option's text, which isn't empty, into the value at `to`. Returns the error in it, or NULL. */
+/* Reads an option's text, which is not empty, into the value at `to`. Returns the error, or NULL. */
 typedef const char *option_reader(const char *text, void *to);
 
-/* Into a uint64_t: nanoseconds, bits a second, bytes, packets, a whole number. */
+/* Read into a uint64_t: nanoseconds, bits per second, bytes, packets, a whole number. */
 option_reader option_time, option_rate, option_size, option_packets, option_number;
 
-/* Into a const char *: the text itself. */
+/* Stores the text itself in a const char *. */
 option_reader option_text;
 
-/* An option; one without a reader has no text, and sets the bool that `to` points to. */
+/* An option. Without a reader it has no text, and sets the bool at `to`. */
 struct option {
     const char *name;
     option_reader *read;
     void *to;
 };
 
-/* A program: its name in messages; its help, in parts around control_help; and its options in addition to those of
- * the link, which take precedence over the link's with the same name. */
+/* A program: its name in messages, its help before and after control_help, and its own options. An own option takes
+ * precedence over an option of the link with the same name. */
 struct command {
     const char *program;
     const char *help[2];
@@ -45,7 +46,7 @@ struct command {
     uint64_t most_packets; /* the greatest limit in packets */
 };
 
-/* The help of the link's options, a line each. */
+/* The help of the link's options, one line each. */
 extern const char control_help[];
 
 /* The results of read_words other than the position of a word. */

@@ -1,4 +1,5 @@
-/* A flight recorder (include/pie_flight.h) in a file under mmap, whose contents outlive the process, or in memory of its own; its text. */
+/* A flight recorder (include/pie_flight.h) in allocated memory, or in a mapped file that outlives the process; and its
+ * text. */
 #ifndef SHARED_FLIGHT_FILE_H
 #define SHARED_FLIGHT_FILE_H
 
@@ -7,13 +8,13 @@
 #include <stdbool.h>
 #include <stdio.h>
 
-#define FLIGHT_EVENTS 100000 /* the least number of events that it keeps */
+#define FLIGHT_EVENTS 100000 /* the least number of kept events */
 
 struct flight_file {
-    const char *name; /* NULL if it is in no file */
+    const char *name; /* name of the file, or NULL */
     struct pie_flight flight;
-    void *memory;     /* NULL if none is kept */
-    void *scratch;    /* for a dump while the recorder continues */
+    void *memory;     /* the recorder's memory; NULL without a recorder */
+    void *scratch;    /* memory for a copy, so that the recorder continues during a dump */
     size_t bytes;
 };
 
@@ -35,7 +36,8 @@ static inline void tell_flight(const struct flight_file *file, uint64_t moment, 
         pie_flight_clock(file->memory, moment, unix_time);
 }
 
-/* Writes the recorder's text to NAME.history, while other threads may keep events; one thread at a time. Returns the result of pie_flight_dump. */
+/* Writes the recorder's text to NAME.history, also while other threads keep events. Call it from one thread at a time.
+ * Returns the result of pie_flight_dump. */
 int write_flight(const struct flight_file *file);
 
 /* Writes the text of a file that an earlier run left to this stream. Returns the status of

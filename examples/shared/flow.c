@@ -12,7 +12,7 @@ static bool begins_with_ports(uint8_t protocol) {
     return protocol == TCP || protocol == UDP || protocol == SCTP || protocol == DCCP || protocol == UDPLITE;
 }
 
-/* Reads the ports of a packet that is no fragment, if they are there. */
+/* Reads the ports of a packet that is no fragment, if they were captured. */
 static void read_ports(const uint8_t *bytes, size_t size, size_t at, struct flow *flow) {
     if (!begins_with_ports(flow->protocol) || size < at + PORTS)
         return;
@@ -34,7 +34,7 @@ static bool read_ipv4(const uint8_t *bytes, size_t size, struct flow *flow) {
     return true;
 }
 
-/* Goes over the extension headers (RFC 8200, section 4) that lie before the packet's own protocol. */
+/* Skips the extension headers (RFC 8200, section 4) before the header of the packet's protocol. */
 static bool read_ipv6(const uint8_t *bytes, size_t size, struct flow *flow) {
     size_t at = IPV6_HEADER;
     if (size < IPV6_HEADER)

@@ -14,16 +14,16 @@ extern "C" {
 #endif
 
 #define MOST_FLOWS 262144         /* the most flows in the file */
-#define FLOW_PLACES 524288        /* of their table: a power of two */
-#define FLOW_PERIOD 500000000     /* ns after which the flow with the most bytes is reported */
+#define FLOW_PLACES 524288        /* size of the hash table: a power of two */
+#define FLOW_PERIOD 500000000     /* length of an interval in ns; its flow with the most bytes is reported */
 #define FLOW_BYTES 256            /* bytes of a packet that are enough to identify its flow, except with rare long
                                      extension headers */
-#define LONGEST_FLOW 128          /* bytes of its words, with the end */
+#define LONGEST_FLOW 128          /* bytes of a flow in words, with the terminating 0 */
 
 struct flow {
-    uint8_t source[16], destination[16]; /* addresses as in the packet; of IPv4 the first four bytes */
+    uint8_t source[16], destination[16]; /* addresses as in the packet; IPv4: the first four bytes */
     uint16_t source_port, destination_port;
-    uint8_t version, protocol; /* 4 or 6; of IPv6 that behind its extension headers */
+    uint8_t version, protocol; /* version 4 or 6; for IPv6 the protocol after the extension headers */
     bool has_ports;
 };
 
@@ -33,31 +33,31 @@ bool read_flow(const uint8_t *bytes, size_t size, struct flow *flow);
 /* Returns a flow's number: a hash of its identification. Two flows may have the same number. */
 uint32_t flow_number(const struct flow *flow);
 
-/* The flow in words, as udp 192.0.2.1:53 > 198.51.100.7:4242. */
+/* Writes the flow in words, such as udp 192.0.2.1:53 > 198.51.100.7:4242. */
 void flow_words(const struct flow *flow, char words[LONGEST_FLOW]);
 
-/* The arrivals of a flow in one interval. */
+/* The flow with the most bytes of an interval. */
 struct flow_top {
-    uint64_t period;       /* its number, from 0 on */
-    uint32_t place;        /* of the flow with the most bytes */
-    uint64_t bytes, total; /* of that flow, and of all */
+    uint64_t period;       /* number of the interval, counted from 0 */
+    uint32_t place;        /* row of the flow */
+    uint64_t bytes, total; /* arrived bytes of the flow, and of all flows */
 };
 
 struct flow_row {
     struct flow flow;
     uint32_t number;
-    uint64_t period, bytes; /* the last interval with a packet of it, and the bytes since its beginning */
+    uint64_t period, bytes; /* the last interval with a packet of the flow, and its bytes in that interval */
 };
 
-/* All flows that were seen. One thread notes them, and the same or another one writes them. */
+/* All flows. One thread adds flows, and the same or another thread writes them. */
 struct flows {
     FILE *file;           /* NULL if flows are not requested */
-    uint32_t *places;     /* the index in `rows`, from 1 on, by the number; 0 if there is none */
+    uint32_t *places;     /* hash table of row numbers, counted from 1; 0: free */
     struct flow_row *rows;
-    uint32_t count;       /* of the rows: stored last by the thread that notes, and loaded first by that which writes */
+    uint32_t count;       /* number of rows: stored after a row was added, loaded before rows are written */
     uint32_t written;
-    uint64_t missing;     /* packets of flows without a row, because there are too many flows */
-    struct flow_top top;  /* of this interval */
+    uint64_t missing;     /* packets of flows without a row, after MOST_FLOWS flows */
+    struct flow_top top;  /* of the present interval */
 };
 
 /* Opens the file (NULL: none), and writes its header. Returns false if that fails. */
@@ -73,7 +73,7 @@ uint64_t note_flow(struct flows *flows, const uint8_t *bytes, size_t caught, uin
 /* Writes the flows that are new since the last call. */
 void write_flows(struct flows *flows);
 
-/* Writes the rest, and closes the file. Returns false if anything could not be written. */
+/* Writes the rest, and closes the file. Returns false if a write failed. */
 bool close_flows(struct flows *flows);
 
 #ifdef __cplusplus

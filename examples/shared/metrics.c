@@ -9,7 +9,7 @@
 #include <stdlib.h>
 #include <string.h>
 
-/* A counter or gauge: its name after pie_, its help, its field, and the parts of its unit in that field. */
+/* A counter or a gauge: its name without `pie_`, its help text, its field, and the field's parts of a unit. */
 struct family {
     const char *name, *what;
     size_t at;
@@ -151,7 +151,7 @@ static void write_text(FILE *file, const struct metrics_queue *queues, size_t co
     write_families(file, "gauge", gauges, sizeof gauges / sizeof gauges[0], queues, count);
 }
 
-/* The file, and the neighbour to which a text is written; once the file was removed it is not written again. */
+/* The file, and the temporary file that replaces it. After the file was removed, it is not written again. */
 static struct {
     pthread_mutex_t lock;
     char path[PATH_MAX], beside[PATH_MAX];

@@ -1,5 +1,5 @@
-/* The numbers of a queue as metrics, in the text format of Prometheus, for node_exporter's textfile collector. Their names and labels are defined
- * in metrics.c and docs/FORMATS.md; report/pie-metrics writes the same metrics from records. */
+/* Metrics of queues in the text format of Prometheus, for node_exporter's textfile collector. metrics.c and
+ * docs/FORMATS.md define their names and labels; report/pie-metrics writes the same metrics from records. */
 #ifndef SHARED_METRICS_H
 #define SHARED_METRICS_H
 
@@ -11,27 +11,27 @@
 #include <stddef.h>
 #include <stdint.h>
 
-/* The metrics of a queue: counters since it was opened, which never fall, and its present state. */
+/* The metrics of a queue: counters since its opening, and its present state. */
 struct metrics {
-    uint64_t arrived, arrived_bytes; /* that the controller decided on; by its verdicts: */
-    uint64_t enqueued;               /* without a mark */
+    uint64_t arrived, arrived_bytes; /* decided arrivals; the next five fields count them by verdict */
+    uint64_t enqueued;               /* queued without a mark */
     uint64_t marked;
     uint64_t early;                  /* dropped by early drop */
     uint64_t over_bytes;             /* dropped by the byte limit */
-    uint64_t over_packets;           /* dropped, the queue had no room for another packet */
-    uint64_t oversized, refused;     /* dropped undecided: for a size outside 1 to 65535 bytes, and by a refusal */
+    uint64_t over_packets;           /* dropped by the packet limit */
+    uint64_t oversized, refused;     /* dropped undecided: for a size outside 1 to 65535 bytes; after a refusal */
     uint64_t departed, departed_bytes;
-    uint64_t updates, late;          /* and of these, later than by a whole period */
+    uint64_t updates, late;          /* updates; updates more than t_update after they were due */
     uint64_t lost;                   /* events missing in the history */
-    uint64_t waits[PIE_WAIT_SORTS];  /* departed packets, by the classes of their waits .. */
-    unsigned __int128 waited;        /* their sum in nanoseconds: 64 bits would overflow within days */
-    uint64_t probs[PIE_PROB_SORTS];  /* updates, by those of the probability after them .. */
-    unsigned __int128 probs_sum;     /* their sum in 10^-12 */
-    uint64_t prob, delay, target, burst; /* the probability in 10^-12, and nanoseconds */
-    uint64_t packets, bytes;         /* in the queue */
+    uint64_t waits[PIE_WAIT_SORTS];  /* departed packets in each bucket of waits */
+    unsigned __int128 waited;        /* sum of the waits in ns; 64 bits would overflow within days */
+    uint64_t probs[PIE_PROB_SORTS];  /* updates in each bucket of probabilities */
+    unsigned __int128 probs_sum;     /* sum of these probabilities in 10^-12 */
+    uint64_t prob, delay, target, burst; /* prob in 10^-12, the others in ns */
+    uint64_t packets, bytes;         /* queued packets and bytes */
 };
 
-/* Counts a call that ends in _event, unless it was refused; `waited`: of a departure, the waiting time of its packet, in nanoseconds. */
+/* Counts an event of pie.h, unless it was refused. For a departure `waited` is the waiting time of the packet in ns. */
 void count_event(struct metrics *metrics, const struct pie_event *event, uint64_t waited);
 
 /* The labels of a queue: its link, and the queue of that link. */
@@ -46,7 +46,7 @@ struct metrics_queue {
  * queues no longer exist. One file for each program. */
 bool write_metrics(const char *path, const struct metrics_queue *queues, size_t count);
 
-/* Removes the file, if the caller needs the result. Returns false with errno if that fails. */
+/* Removes the file before the exit of the program. Returns false with errno if that fails. */
 bool remove_metrics(void);
 
 /* The metrics of one queue, passed from the thread that decides to the thread that writes. Neither
@@ -55,17 +55,17 @@ struct metrics_file {
     const char *path; /* NULL if none are written */
     struct metrics_queue queue;
     struct metrics told;
-    uint64_t due;            /* the moment from which they are written again */
-    atomic_bool is_told;     /* `told` belongs to the writer, the others to the other thread */
-    bool is_refused;         /* the message that the file cannot be written was printed */
+    uint64_t due;            /* the moment at which the metrics are written again */
+    atomic_bool is_told;     /* true while `told` belongs to the writing thread, false while to the deciding one */
+    bool is_refused;         /* true after the error of a failed write was printed */
 };
 
-#define METRICS_PERIOD UINT64_C(1000000000) /* ns */
+#define METRICS_PERIOD UINT64_C(1000000000) /* ns between two writes */
 
 /* Names the file (NULL: none), and the link of the one queue. */
 void open_metrics(struct metrics_file *file, const char *path, const char *link);
 
-/* Returns true if a second has passed and the metrics before it were written. The deciding thread calls it. */
+/* Returns true if a second has passed and the last metrics were written. The deciding thread calls it. */
 static inline bool is_metrics_due(const struct metrics_file *file, uint64_t moment) {
     return file->path != NULL && moment >= file->due && !atomic_load_explicit(&file->is_told, memory_order_acquire);
 }

@@ -1,5 +1,5 @@
-/* The records of intervals, summed up while the program runs: the output of `pie explain --every TIME --csv` for its history, with --wall or
- * without. */
+/* Interval records, written while the program runs: what `pie explain --every TIME --csv` would print for its history,
+ * with or without --wall. */
 #ifndef SHARED_RECORDS_H
 #define SHARED_RECORDS_H
 
@@ -15,9 +15,9 @@ extern "C" {
 struct records {
     FILE *file; /* NULL if none are written */
     struct pie_period period;
-    uint64_t begun;                      /* intervals that had begun before the present event */
+    uint64_t begun;                      /* period.begun before the present event */
     size_t size;                         /* bytes of `line` */
-    unsigned char line[PIE_RESUME_ROOM]; /* the record of the interval that the present event may end */
+    unsigned char line[PIE_RESUME_ROOM]; /* record of the interval that the present event may end */
 };
 
 /* Opens the file (NULL: none, "-": standard output) for intervals of `every` ns, and writes the header row.
@@ -31,10 +31,10 @@ void make_record(struct records *records);
 /* Writes the completed record, and makes it visible to readers. */
 void write_record(struct records *records);
 
-/* Writes the last record, and closes the file. Returns false if anything could not be written. */
+/* Writes the last record, and closes the file. Returns false if a write failed. */
 bool close_records(struct records *records);
 
-/* Before an event: returns true if it is summed up, and makes the record of the interval that it ends, if any. */
+/* Returns true if records are written. If the next event may end an interval, formats that interval's record. */
 static inline bool are_summed(struct records *records, const struct pie_event *event) {
     if (records->file == NULL)
         return false;
@@ -43,14 +43,14 @@ static inline bool are_summed(struct records *records, const struct pie_event *e
     return true;
 }
 
-/* After an event that is summed up: writes the record of the interval that it ended. A refused call ends none. Returns the answer. */
+/* Writes the record of the interval that the last event ended, if it ended one. Returns the event's answer. */
 static inline uint32_t summed(struct records *records, uint32_t answer) {
     if (records->period.begun != records->begun)
         write_record(records);
     return answer;
 }
 
-/* The calls that record, which sum up too if records are written. */
+/* Make the recording calls of pie.h, or the summing calls if records are written. */
 static inline uint32_t decide_arrival(struct records *records, struct pie_state *pie, uint64_t queued, uint32_t room, struct pie_event *event) {
     return are_summed(records, event) ? summed(records, pie_arrive_summed(pie, queued, room, event, &records->period))
                                       : pie_arrive_event(pie, queued, room, event);

@@ -173,9 +173,9 @@ enum {
     PIE_EVENT_LOST = 6    /* events that were not kept: `tag` is their number, at least 1 */
 };
 
-/* An event: the arguments of a call and its result, 64 bytes without padding. The calls whose name ends in _event read their
- * arguments from it (moment and caller, and of a packet tag, size, ecn and word) and fill in the other fields, so that the
- * record shows exactly the arguments of the decision. A field that the kind does not use is set to 0. */
+/* An event: the arguments of a call and its result, 64 bytes without padding. A call whose name ends in _event reads its
+ * arguments from the event: moment and caller, and for a packet tag, size, ecn and word. It fills in the other fields, and
+ * sets a field that the kind does not use to 0. The record then has exactly the arguments of the decision. */
 struct pie_event {
     uint64_t moment;   /* the moment that the caller passed */
     uint64_t tag;      /* arrival or departure: the caller's name for the packet; PIE_EVENT_LOST: the number of events */
@@ -241,7 +241,7 @@ struct pie_meter {
 struct pie_period {
     uint64_t every;             /* length of an interval */
     uint64_t wall;              /* 1 if records end with a wall-clock time, otherwise 0 */
-    uint64_t begun;             /* intervals with events so far: the number of the current record, counted from 1 */
+    uint64_t begun;             /* number of the current record, counted from 1: the number of intervals with events */
     uint64_t number;            /* number of the current interval; the interval that begins at moment 0 has number 0 */
     uint64_t start;             /* moment at which it begins, `number` times `every`; 0 before the first event */
     uint64_t end;               /* moment at which it ends, `every` ns later; 0 before the first event */
@@ -405,8 +405,8 @@ uint32_t pie_period_clock(struct pie_period *period, uint64_t moment, uint64_t u
  * added. pie_depart_summed computes the waiting time from `arrived`, also without PIE_DELAY_STAMP.
  *
  * An interval ends at the first event whose moment is period.end or later. The call for that event begins the next interval and
- * overwrites the statistics of the last one. A failed call changes nothing. So format the record before each call that may end
- * the interval, and write it only if the call began an interval:
+ * overwrites the statistics of the last one. A failed call changes nothing. Therefore format the record before each call that
+ * may end the interval, and write it only if the call began an interval:
  *
  *     uint64_t begun = period.begun;
  *     size_t size = event.moment >= period.end ? pie_write_period(&period, out, sizeof out) : 0;
@@ -419,8 +419,8 @@ uint32_t pie_period_clock(struct pie_period *period, uint64_t moment, uint64_t u
  *     fwrite(out, 1, pie_write_period(&period, out, sizeof out), file);
  *
  * The records are byte for byte those of `pie explain --every 1s --csv` over the history of these calls, but no history is
- * needed. An interval without events has no record. period.begun is the number of the record; a step of more than one between
- * two records shows that one was lost. */
+ * needed. An interval without events has no record. period.begun is the number of the record; if it grows by more than one
+ * between two records, a record was lost. */
 uint32_t pie_arrive_summed(struct pie_state *state, uint64_t queued, uint32_t room, struct pie_event *event, struct pie_period *period);
 uint32_t pie_depart_summed(struct pie_state *state, uint64_t left, uint64_t arrived, struct pie_event *event, struct pie_period *period);
 uint32_t pie_empty_summed(struct pie_state *state, struct pie_event *event, struct pie_period *period);

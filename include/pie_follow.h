@@ -38,8 +38,8 @@ static inline int pie_flight_follow_open(struct pie_flight_follower *follower, c
 }
 
 /* Copies events that were kept since the last call.
- * Returns 0, or the number of events that were overwritten before they were read. The follower then continues after them, so that half of
- * the memory remains until the next loss. */
+ * Returns 0, or the number of events that were overwritten before they were read. The follower then continues half of the memory behind the
+ * writer, so that it does not lose events again at once. */
 static inline uint64_t pie_flight_copy_next(struct pie_flight_follower *follower) {
     const struct pie_flight_layout *layout = &follower->layout;
     uint64_t number = follower->next, kept = PIE_LOAD(follower->words[PIE_FLIGHT_KEPT]), missed;

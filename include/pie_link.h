@@ -33,7 +33,8 @@
  * pie_link_open, pie_link_share and pie_link_open_excerpt allocate memory; if they fail, nothing has changed.
  *
  * Hazards:
- * - Signal handlers: a waiting call in a handler that interrupted a call at the same link never returns. A `try` call returns PIE_BUSY.
+ * - Signal handlers: if the handler interrupted a call at the same link, a waiting call in it never returns. A `try` call returns
+ *   PIE_BUSY.
  * - fork: if another thread has the turn during fork, the link stays busy in the child for ever. Close the ports in the child, or
  *   call exec.
  * - Asynchronous cancellation (PTHREAD_CANCEL_ASYNCHRONOUS), and longjmp out of a handler that interrupted a call: the link may stay
@@ -42,7 +43,7 @@
  *   inherits no priority. Give all threads of a link the same priority, or use `try` calls in those with a higher one.
  * - Moments: a moment below an earlier one counts as the greatest so far. If the clock of one caller is ahead, the updates of the
  *   others are too soon for that time. Use one clock that never goes back, such as CLOCK_MONOTONIC, for all callers.
- * - Bursts read the kind of each event. Set the kind to 0 before you reuse the event of an update, or it is an update again.
+ * - Bursts read the kind of each event. Before you reuse the event of an update, set its kind to 0; otherwise it is an update again.
  * - `try` calls wake no thread that sleeps in a waiting call; that thread looks again after one millisecond. pie_link_wake wakes it.
  * - ThreadSanitizer reports false races in the library, which is compiled without it. Set
  *   TSAN_OPTIONS=suppressions=FILE with bindings/c/thread_sanitizer.txt (installed as share/pie/thread_sanitizer.txt). */
@@ -150,8 +151,8 @@ static inline void pie_link_leave(struct pie_port *port) {
         free(shared);
 }
 
-/* Fills `opening` for a link of `rate` bits per second: as pie_default_opening, except `packets`, which determines the memory and the
- * longest turn. `packets` is four times limit_bytes / mean_pkt, at least 1024 and at most 2^20. At 100 Mbit/s that is 9765 packets: 2.0 MB
+/* Fills `opening` for a link of `rate` bits per second as pie_default_opening does, except `packets`. It determines the memory and the
+ * longest turn, and is four times limit_bytes / mean_pkt, at least 1024 and at most 2^20. At 100 Mbit/s that is 9765 packets: 2.0 MB
  * for a link and 1.5 MB for an excerpt. */
 static inline void pie_link_default_opening(struct pie_opening *opening, uint64_t rate) {
     uint64_t packets;
@@ -319,8 +320,8 @@ struct pie_excerpt {
  * packets of pie_default_opening. The call requests 184.5 MB, because the 24 bytes per packet are allocated, freed and allocated again. */
 uint32_t pie_link_open_excerpt(const struct pie_opening *opening, struct pie_excerpt *excerpt);
 
-/* Copies all events that the link still has, at least those of the log, with their preamble to the excerpt. The text of the excerpt starts
- * again at its first record. The history is unchanged.
+/* Copies all events that the link still stores, at least those of the log, and the state before them to the excerpt. The text of the
+ * excerpt starts again at its first record. The history is unchanged.
  * Returns PIE_DONE.
  * Errors, in this order: PIE_CLOSED (either), PIE_BUSY, PIE_TOO_SMALL. The excerpt is then unchanged.
  * Notes: other callers wait during the copy. Its time grows with the number of queued packets and of events, which is at most twice
@@ -360,7 +361,7 @@ uint32_t pie_link_try_depart_all(struct pie_port *port, uint64_t bytes, struct p
  * pauses, for up to 64 instructions at first; then it yields its processor about 500 times; then it sleeps until another waiting call ends
  * its turn, but at most one millisecond. errno is unchanged. These calls are tested, not proved. No call is guaranteed to get its turn. */
 
-#define PIE_LINK_ROUNDS 512 /* rounds before a waiting call sleeps: most turns are over by then, and a sleep with its wake costs more than a turn */
+#define PIE_LINK_ROUNDS 512 /* rounds before a waiting call sleeps: most turns end sooner, and a sleep costs more than a turn */
 
 /* The progress of a waiting call: its rounds, and the value of `turns` before its last try. */
 struct pie_link_patience {
@@ -398,7 +399,7 @@ static inline void pie_link_wait(const struct pie_port *port, struct pie_link_pa
         return;
     }
     if (waited->rounds == PIE_LINK_ROUNDS) {
-        /* the thread counts as a sleeper from now on, and tries once more before it sleeps: a turn that ends after that try wakes it */
+        /* Count the thread as a sleeper, and try once more before it sleeps: a turn that ends after that try wakes it. */
         PIE_LINK_ADD(shared->sleepers, 1);
         waited->seen = PIE_LINK_LOAD(shared->turns);
     }
@@ -487,8 +488,8 @@ static inline uint32_t pie_link_depart_all(struct pie_port *port, uint64_t bytes
     PIE_LINK_WAITING(pie_link_try_depart_all(port, bytes, events, count, made));
 }
 
-/* ---- Hint: the approximate number of queued packets and moment of the next update, readable without a turn. Use it only to decide whether
- * a call is worth its turn: it is as old as the last pie_link_tell. */
+/* ---- Hint: the approximate number of queued packets, and the moment of the next update, for readers without a turn. It is as old as the
+ * last pie_link_tell, so use it only to decide whether to make a call. */
 
 /* A hint in one word that the threads of a link share. Initialize it with zeros. */
 struct pie_link_hint {
@@ -531,7 +532,7 @@ static inline uint64_t pie_link_waiting(const struct pie_link_hint *hint) {
     return packets >> 63 ? 0 : packets; /* (a departure may be added before its arrival) */
 }
 
-/* Returns the moment from which an update is due according to the hint, at most 2^18 ns late. Returns UINT64_MAX if no moment is. */
+/* Returns the moment of the next update according to the hint, at most 2^18 ns late. Returns UINT64_MAX if no update can be due. */
 static inline uint64_t pie_link_due(const struct pie_link_hint *hint) {
     uint64_t word = PIE_LINK_LOAD(hint->word);
     uint64_t units = (word - (((word & PIE_LINK_HINT_PACKETS) ^ PIE_LINK_HINT_SIGN) - PIE_LINK_HINT_SIGN)) >> 22;

@@ -7,7 +7,7 @@
  *     verdict = pie_arrive_event(&pie, .., &event);
  *     count = pie_text_event(&history, &event, NULL, bytes, sizeof bytes);
  *
- * A thread that must not write files keeps its events in a flight recorder (pie_flight.h), which another thread follows; or it uses a
+ * If a thread must not write files, it keeps its events in a flight recorder (pie_flight.h), which another thread follows. Or it uses a
  * link (pie_link.h), whose log another thread folds. */
 #ifndef PIE_TEXT_H
 #define PIE_TEXT_H

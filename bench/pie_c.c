@@ -220,7 +220,7 @@ static void make_inputs(void) {
     }
 }
 
-/* The times of the calls, kept until all are made: printing between them would cost the next some of its caches. */
+/* The times of the calls, printed after all calls: printing between them would change the caches of the next call. */
 #define TIMES (16 * INPUTS / TURN)
 static struct timed {
     const char *name;

@@ -128,7 +128,7 @@ static int write_out(void *unused, const unsigned char *text, size_t count) {
     return fwrite(text, 1, count, stdout) == count ? 0 : 1;
 }
 
-/* Another thread dumps all the time. */
+/* Dumps again and again in another thread. */
 static PIE_WORD is_over;
 
 static void *dump_all(void *unused) {
@@ -173,7 +173,7 @@ static void time_beside_dumps(uint64_t packets) {
     pthread_join(thread, NULL);
 }
 
-/* A dump by way of a copy, and of it the time until the first bytes are written. */
+/* Measures a dump with a copy, and the time until its first bytes are written. */
 static void time_dumps(uint64_t packets) {
     for (int run = 0; run < RUNS; run++) {
         double start = now();
@@ -185,7 +185,7 @@ static void time_dumps(uint64_t packets) {
     }
 }
 
-/* Each into the next place, as ever; the clock would take longer than one. */
+/* Measures a series of snapshots, because reading the clock takes longer than one. */
 static void time_snapshots(uint64_t packets) {
     struct pie_flight *flight = &kept_queue.flight;
     uint64_t count = flight->count;
@@ -200,7 +200,7 @@ static void time_snapshots(uint64_t packets) {
     flight->count = count;
 }
 
-/* For valgrind: a whole number of periods, so that snapshots are there in their share. */
+/* Makes events for valgrind: a whole number of periods between snapshots, so that snapshots have their share. */
 static int count_calls(const char *kind) {
     uint64_t begin = kept_queue.flight.count, period = kept_queue.flight.period, pairs = 0, i;
     if (strcmp(kind, "snapshot") == 0) {

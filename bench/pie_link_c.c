@@ -150,7 +150,7 @@ static inline void keep(enum kind kind, const struct pie_event *event, uint64_t 
     count(event, waited);
 }
 
-/* Waits until no other of these is more than a burst behind. */
+/* Waits until no other thread is more than a burst behind. */
 static void wait_for_others(const struct worker *worker, int threads) {
     unsigned long mine = atomic_load_explicit(&worker->bursts, memory_order_relaxed);
     for (int i = 0, looks = 0; i < threads; looks++) {
@@ -163,7 +163,7 @@ static void wait_for_others(const struct worker *worker, int threads) {
     }
 }
 
-/* The packets of a burst, as they arrive. */
+/* Makes the arriving packets of a burst. */
 static void make(struct worker *worker, uint64_t moment) {
     for (uint32_t i = 0; i < worker->burst; i++) {
         worker->word = worker->word * UINT64_C(6364136223846793005) + 1442695040888963407;
@@ -203,7 +203,7 @@ static uint32_t depart_recorded(struct worker *worker, uint64_t moment) {
     return made;
 }
 
-/* Updates the statistics of the packets so far, and takes a snapshot if one is due. */
+/* Updates the statistics of the packets, and takes a snapshot if one is due. */
 static void end_bulk(struct pie_flight_burst *burst) {
     pie_flight_end(&shared.flight, burst);
     if (!pie_flight_is_due(&shared.flight))
@@ -265,7 +265,7 @@ static void update(struct worker *worker, uint64_t moment) {
     give_back(worker);
 }
 
-/* A burst arrives, and an equal number of packets departs: two turns. */
+/* Makes a burst of arrivals and one of as many departures: two turns. */
 static void two_turns(struct worker *worker, int threads) {
     uint64_t moment;
     size_t made;

@@ -18,7 +18,7 @@
 #define STEP __attribute__((noinline, unused)) static
 #endif
 
-/* The decision of an arrival: the numbers are those of pie.h. */
+/* The decisions of an arrival, with the numbers of pie.h. */
 enum choice { ENQUEUE, MARK, DROP_EARLY, DROP_BYTES, DROP_PACKETS };
 
 struct params {
@@ -115,7 +115,7 @@ STEP uint64_t delay(uint64_t bytes, uint64_t average, uint64_t threshold) {
     return delay_by(bytes, average, threshold);
 }
 
-/* The next probability (sections 4.2 and 5.5), which decays here or doesn't. */
+/* Returns the next probability (sections 4.2 and 5.5), with or without decay. */
 static inline uint64_t probability_by(const struct params *p, uint64_t prob, uint64_t delay, uint64_t old, int decays) {
     __int128 step = (__int128)p->alpha * ((__int128)delay - p->target) + (__int128)p->beta * ((__int128)delay - old);
     step /= prob < 1000000ull        ? 2048
@@ -133,7 +133,7 @@ static inline uint64_t probability_by(const struct params *p, uint64_t prob, uin
     return step < 0 ? 0 : step > (__int128)ONE ? ONE : (uint64_t)step;
 }
 
-/* The probability decays if both delays are 0. */
+/* Returns the next probability; it decays if both delays are 0. */
 static inline uint64_t probability_after(const struct params *p, uint64_t prob, uint64_t delay, uint64_t old) {
     return probability_by(p, prob, delay, old, delay == 0 && old == 0);
 }

@@ -51,7 +51,7 @@ struct difference {
 static struct packet waiting[MOST_WAITING];
 static uint32_t first_waiting;
 static unsigned long arrivals, departures, updates, alike;
-static unsigned long decays, other_decays; /* updates at which this rule's probability decays, and the other code's */
+static unsigned long decays, other_decays; /* updates with a decay by this rule, and by the other code */
 
 __attribute__((noreturn)) static void stop(const char *name, unsigned long line, const char *why) {
     fprintf(stderr, "%s:%lu: %s\n", name, line, why);
@@ -146,7 +146,7 @@ static bool take_update(struct registers *registers, const struct step *step) {
     return delay == step->delay && registers->control.prob == step->prob;
 }
 
-/* Returns the fewest of these differences with which `same` is true; -1 if there are none. */
+/* Returns the smallest set of these differences for which `same` returns true; -1 if there is none. */
 static int fewest(int count, bool (*same)(unsigned set, const void *of), const void *of) {
     int found = -1;
     for (unsigned set = 0; set < 1u << count; set++)

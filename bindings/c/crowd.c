@@ -1,9 +1,9 @@
-/* A crowd at one link. Several threads make calls of all kinds for some seconds; one of them is
- * cancelled between two calls after half of the time. Another thread folds, writes the text of all
- * folded events, and takes excerpts meanwhile (SUMS.1 and so on). Each thread adds up its answers
- * in order. `read` computes the same sums from the text, so that each caller's calls must occur
- * once and in order, and the events of each excerpt at their place. bindings/c/threads.sh builds
- * and runs it, and audits the texts.
+/* Many threads at one link. Several threads make calls of all kinds for some seconds; one of them
+ * is cancelled between two calls after half of the time. Another thread folds, writes the text of
+ * all folded events, and takes excerpts meanwhile (SUMS.1 and so on). Each thread computes a sum
+ * over its answers in order. `read` computes these sums from the text. They are equal only if each
+ * caller's calls occur once and in order, and the events of each excerpt at their place.
+ * bindings/c/threads.sh builds and runs it, and audits the texts.
  *
  *     crowd run THREADS SECONDS SUMS > text
  *     crowd read THREADS SUMS < text */

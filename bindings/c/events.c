@@ -78,7 +78,7 @@ static void record(const struct pie_event *made, const struct pie_params *params
     CHECK(write_into(&event, params, text, length) == length);
 }
 
-/* The longest numbers, events that cannot be, and lost ones. */
+/* Tests events with the longest numbers, impossible events, and lost events. */
 static void try_events(void) {
     static const char longest[] = "arrive,65535,1152921504606846975,18446744073709551615,65535,ect1,18446744073709551615,packets\n";
     struct pie_event event, other;
@@ -133,7 +133,7 @@ static void try_clock(uint64_t moment, uint64_t unix_time, const char *wanted) {
     }
 }
 
-/* Events with the least and greatest numbers, with each other's numbers and with their own. */
+/* Writes events with the least and greatest numbers, with fields of other kinds and with their own. */
 static void try_clocks(void) {
     try_clock(0, 0, "clock,0,0\n");
     try_clock(0, UINT64_MAX, "clock,0,18446744073709551615\n");

@@ -86,7 +86,7 @@ static void arrive(struct link *link, struct packet packet, uint64_t now) {
     }
 }
 
-/* Sends the oldest packet, and returns its size, 0 with none. */
+/* Sends the oldest packet. Returns its size, or 0 if the ring is empty. */
 static uint32_t depart(struct link *link, uint64_t now) {
     struct pie_event event = {.caller = LINK, .moment = now};
     if (link->packets == 0) {
@@ -130,7 +130,7 @@ int main(int count, char **words) {
     is_trace = count == 2 && strcmp(words[1], "trace") == 0;
     struct pie_opening opening;
     pie_default_opening(&opening, 0);
-    /* faster reactions than by the default parameters, so that a tenth of a second is enough */
+    /* faster reactions than with the default parameters, so that a tenth of a second is enough */
     opening.params.target = 4000000;
     opening.params.t_update = 2000000;
     opening.params.max_burst = 20000000;
@@ -151,7 +151,7 @@ int main(int count, char **words) {
     uint64_t sent = 0, next_packet = 1000, next_free = 2000, next_update = pie_due(&link.pie);
     while (next_update < END) {
         if (next_packet <= next_free && next_packet <= next_update) {
-            /* of four packets three understand a mark */
+            /* three of four packets are ECN-capable */
             struct packet packet = {sent++, 0, 64, PIE_NOT_ECT};
             packet.size += (uint32_t)(random_word() % 1437);
             packet.ecn = (uint32_t)(random_word() % 4);
@@ -164,7 +164,7 @@ int main(int count, char **words) {
             uint32_t size = depart(&link, next_free);
             next_free += size == 0 ? 1000000 : (uint64_t)size * BYTE_TIME;
         } else {
-            update(&link, next_update - 1); /* a timer that is early: refused, and nothing changes */
+            update(&link, next_update - 1); /* an update before it is due: refused, and nothing changes */
             update(&link, next_update);
             next_update = pie_due(&link.pie);
         }

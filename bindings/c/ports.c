@@ -44,14 +44,14 @@ static void folds(struct pie_port *port, uint64_t dq_threshold) {
     memset(events, 1, sizeof events);
     memset(&params, 0, sizeof params);
     before = events[0];
-    /* no room, then room for two: the others stay */
+    /* no room, then room for two events: the other events stay in the log */
     CHECK(pie_link_fold(port, events, 0, &folded, &last, &params) == PIE_TOO_MANY && folded == 0 && last == 0);
     CHECK(pie_link_fold(port, events, 2, &folded, &last, &params) == PIE_DONE && folded == 2 && last == 2 && params.target == 0);
     CHECK(events[0].kind == PIE_EVENT_ARRIVE && events[0].caller == 2 && events[0].tag == 7 && events[0].reserved == 0);
     CHECK(events[0].word == UINT64_C(0x9e3779b97f4a7c15) * 8 && events[0].ecn == PIE_ECT0 && events[0].prob == 0);
     CHECK(events[1].kind == PIE_EVENT_DEPART && events[1].caller == 0 && events[1].tag == 7 && events[1].moment == 30);
     CHECK(memcmp(&events[2], &before, sizeof before) == 0);
-    /* no event after one that sets parameters */
+    /* a fold ends at an event that sets parameters */
     CHECK(pie_link_fold(port, events, PIE_LINK_MOST + 1, &folded, &last, &params) == PIE_DONE && folded == 4 && last == 6);
     CHECK(events[0].kind == PIE_EVENT_DEPART && events[0].answer == PIE_NONE && events[0].moment == 30);
     CHECK(events[1].kind == PIE_EVENT_UPDATE && events[1].burst == 150000000 && events[2].kind == PIE_EVENT_RESET);
@@ -186,7 +186,7 @@ static void bursts(void) {
     CHECK(pie_link_arrive_all(&port, events, 0) == PIE_DONE && changed(events, before, 6) == 0);
     made = 9;
     CHECK(pie_link_depart_all(&port, UINT64_MAX, events, 0, &made) == PIE_DONE && changed(events, before, 6) == 0 && made == 0);
-    /* arrivals: one has a bad ECN field, an update rides, one has no bytes; the rest are queued */
+    /* arrivals: one has a bad ECN field, one is an update, one has no bytes; the others are queued */
     events[1].ecn = 4;
     events[2].kind = PIE_EVENT_UPDATE;
     events[2].moment = 15000000;
@@ -197,7 +197,7 @@ static void bursts(void) {
     CHECK(events[2].kind == PIE_EVENT_UPDATE && events[2].answer == PIE_DONE && events[2].burst == 150000000 && events[2].tag == 0);
     CHECK(events[3].answer == PIE_BAD_SIZE && events[3].tag == 13 && events[4].answer == PIE_ENQUEUE && events[4].tag == 14);
     CHECK(memcmp(&events[5], &before[5], sizeof event) == 0);
-    /* a budget for one packet and a half: the burst ends before the second, and the update before it rides */
+    /* a budget for one and a half packets: the burst ends before the second packet, after the update before it */
     events_from(90, events, 6);
     events[0].kind = events[2].kind = PIE_EVENT_UPDATE;
     memcpy(before, events, sizeof events);
@@ -206,14 +206,14 @@ static void bursts(void) {
     CHECK(pie_link_depart_all(&port, 1999, events, 6, &made) == PIE_DONE && made == 3 && changed(events, before, 6) == 7);
     CHECK(events[1].kind == PIE_EVENT_DEPART && events[1].answer == PIE_DONE && events[1].caller == 0 && events[1].tag == 10);
     CHECK(events[1].size == 1000 && events[1].word == 0 && events[2].answer == PIE_TOO_SOON);
-    /* a packet that takes all of the budget leaves, and the next departure finds none and is the last */
+    /* a packet that takes the whole budget departs; the next departure finds the queue empty and is the last */
     CHECK(pie_link_depart_all(&port, 1000, events + 1, 5, &made) == PIE_DONE && made == 3 && changed(events, before, 6) == 15);
     CHECK(events[1].tag == 14 && events[2].answer == PIE_TOO_SOON && events[3].answer == PIE_NONE && events[3].tag == 0);
     /* without a budget */
     events_from(20, events, 6);
     CHECK(pie_link_arrive_all(&port, events, 2) == PIE_DONE && events[1].answer == PIE_ENQUEUE);
     CHECK(pie_link_depart_all(&port, UINT64_MAX, events, 2, &made) == PIE_DONE && made == 2 && events[0].tag == 20 && events[1].tag == 21);
-    /* the log has room for one event more: an arrival, and the next is refused; a refused departure is the last of a burst */
+    /* the log has room for one event: the next arrival is refused; a refused departure ends a burst */
     events_from(30, events, 6);
     memcpy(before, events, sizeof events);
     CHECK(pie_link_arrive_all(&port, events, 2) == PIE_DONE && events[0].answer == PIE_ENQUEUE && events[1].answer == PIE_FULL);
@@ -230,7 +230,7 @@ static void bursts(void) {
 enum { SENDERS = 4, BURST = 16, BURSTS = 500 };
 static struct pie_link_hint hint;
 
-/* Sends bursts one after another: one that finds another port's turn is as it was. */
+/* Sends bursts one after another. A burst that finds the link busy must be unchanged. */
 static void *send_bursts(void *of) {
     struct pie_port *port = (struct pie_port *)of;
     struct pie_event events[BURST], before[BURST];
@@ -407,7 +407,7 @@ static void two_links(void) {
     CHECK(opening.packets == 1 << 20);
     opening.packets = 1000;
     CHECK(pie_link_open(&opening, 2, &a) == PIE_DONE && pie_link_open(&opening, 2, &b) == PIE_DONE && pie_link_share(&b, &other) == PIE_DONE);
-    /* the numbers of `other` follow on those of `a`, but at another link */
+    /* the numbers of `other` are adjacent to those of `a`, but the links differ */
     CHECK(pie_link_share(&a, &second) == PIE_DONE && pie_link_gather(&a, &other) == PIE_APART && other.at != NULL);
     CHECK(pie_link_gather(&b, &b) == PIE_APART && pie_link_gather(&a, &second) == PIE_DONE);
     CHECK(a.shared != b.shared && other.shared == b.shared);
@@ -501,7 +501,7 @@ static void excerpts(void) {
         else
             CHECK(pie_link_write_excerpt(&excerpt, record, sizeof record) > 0);
     }
-    /* too little room: the excerpt stays, with its place */
+    /* too little room: the excerpt and its next record are unchanged */
     larger = opening;
     larger.tail = larger.packets = 2;
     CHECK(pie_link_open_excerpt(&larger, &small) == PIE_DONE && pie_link_try_excerpt(&port, &small) == PIE_TOO_SMALL);
@@ -525,7 +525,7 @@ static void *ask(void *of) {
         event = event_at(count, count);
         CHECK(pie_link_arrive(port, &event) < 100);
         ++*mine;
-        if (event.caller >= THREADS - 4) { /* cancelled between two calls, sooner or later */
+        if (event.caller >= THREADS - 4) { /* cancelled at some time between two calls */
             pthread_setcancelstate(PTHREAD_CANCEL_ENABLE, NULL);
             pthread_testcancel();
             pthread_setcancelstate(PTHREAD_CANCEL_DISABLE, NULL);
@@ -557,7 +557,7 @@ static void threads(void) {
         CHECK(pthread_join(ids[i], NULL) == 0);
     /* with room for 1 to the most events: the history equals the one read event by event */
     for (i = 1; (code = pie_link_fold(&ports[0], events, (size_t)i, &folded, &last, &params)) == PIE_DONE; i = i % PIE_LINK_MOST + 1) {
-        CHECK(folded <= (size_t)i && last == written + folded); /* none is missing: the log had room for all */
+        CHECK(folded <= (size_t)i && last == written + folded); /* no event is missing: the log had room for all */
         written = last;
         for (place = 0; place < folded; place++) {
             const struct pie_event *event = &events[place];
@@ -617,7 +617,7 @@ static void memory(void) {
         CHECK(code == PIE_NO_MEMORY && was_refused && port.at == NULL);
     requests += number;
     for (number = 0; REFUSING(number, pie_link_share(&port, &other)) != PIE_DONE; number++)
-        CHECK(code == PIE_NO_MEMORY && was_refused && other.at == NULL); /* the number stays with its port: it is shared the next time */
+        CHECK(code == PIE_NO_MEMORY && was_refused && other.at == NULL); /* the number stays with its port, and can be shared later */
     requests += number;
     for (number = 0; REFUSING(number, pie_link_open_excerpt(&opening, &excerpt)) != PIE_DONE; number++)
         CHECK(code == PIE_NO_MEMORY && was_refused && excerpt.at == NULL);

@@ -62,7 +62,7 @@ static void calls() {
     CHECK(port.try_update(event) == PIE_DONE && port.try_reset(event) == PIE_DONE && port.reset(event) == PIE_DONE);
     params.target = 5000000;
     CHECK(port.set_params(params, event) == PIE_DONE && port.try_set_params(params, event) == PIE_DONE);
-    // moved: the source is closed, and the port that the target had is released
+    // a move closes the source, and releases the port that the target had
     pie_link_port moved(std::move(port));
     CHECK(!port.is_open() && moved.is_open() && moved.try_arrive(event) == PIE_BAD_SIZE);
     pie_link_port &itself = moved;

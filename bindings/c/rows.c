@@ -307,7 +307,7 @@ static int marks_and_drops(void) {
 /* Parameters under which 3072 bytes reach a third of the limit. */
 static const struct pie_params small = {2, 1, 5, 850000, 0, 1, 9000, ONE, 1024};
 
-/* Two packets of 1024 bytes arrive at a moment, with this many bytes in the queue. */
+/* Makes two arrivals of 1024 bytes at one moment, with this number of bytes in the queue. */
 static int two_more(struct pie_state *state, uint64_t queued, uint64_t moment) {
     CHECK(pie_arrive(state, queued, 1024, 7, PIE_NOT_ECT, 0, moment) == PIE_ENQUEUE);
     CHECK(pie_arrive(state, queued + 1024, 1024, 6, PIE_NOT_ECT, 0, moment) == PIE_ENQUEUE);
@@ -423,7 +423,7 @@ static int any_state(void) {
     CHECK(state.moment == UINT64_MAX && state.accu == UINT64_MAX && state.active == UINT64_MAX);
     state.active = 1, state.burst = 0, state.params.mean_pkt = 1;
     CHECK(pie_arrive(&state, 3000, 1500, 1, PIE_ECT0, 1, 0) == PIE_EARLY && state.accu == 0);
-    CHECK(pie_depart(&state, 1500, 65536, 0) == PIE_DONE); /* `measuring` isn't 1: a cycle opens */
+    CHECK(pie_depart(&state, 1500, 65536, 0) == PIE_DONE); /* `measuring` is not 1: a cycle opens */
     CHECK(state.measuring == 1 && state.cycle_start == UINT64_MAX && state.cycle_count == 0 && state.average == UINT64_MAX);
     state.cycle_count = UINT64_MAX, state.cycle_start = 0;
     CHECK(pie_depart(&state, 1500, 65535, 0) == PIE_DONE); /* it closes, with the whole weight of a threshold of 65536 */
@@ -450,7 +450,7 @@ static int widths(void) {
         CHECK(pie_arrive(&state, 3000, 1500, rooms[k], PIE_CE, 0, 0) == PIE_ENQUEUE);
         CHECK(pie_arrive(&state, 3000, 1500, 0, PIE_CE, 0, 0) == PIE_PACKETS);
     }
-    /* sizes and queues above 65535, and the queue that a packet of 65535 bytes fills */
+    /* sizes and queues above 65535, and a queue that a packet of 65535 bytes fills */
     state.params.limit_bytes = (1 << 30) - 1;
     CHECK(pie_arrive(&state, 1 << 30, 1, 1, 0, UINT64_MAX, 0) == PIE_BYTES);
     CHECK(pie_arrive(&state, (1 << 30) - 65536, 65535, 1, 0, UINT64_MAX, 0) == PIE_ENQUEUE);
@@ -507,7 +507,7 @@ static int what_stays(void) {
     CHECK(pie_empty(&state, 15000001) == PIE_DONE);
     expected.moment = 15000001;
     CHECK(same(&state, &expected));
-    /* nine parameters, each another one than before */
+    /* nine parameters, each with a new value */
     struct pie_params params = {14999999, 15000001, 150000002, 126, 1253, 1025, 262151, 100000000008, 32768};
     CHECK(pie_set_params(&state, &params, 15000002) == PIE_DONE);
     expected.params = params;

@@ -78,7 +78,7 @@ int main(void) {
     opening.moment = now();
     int failed = !history || pie_link_open(&opening, 4, &ports[0]) != PIE_DONE || pie_link_open_excerpt(&opening, &excerpt) != PIE_DONE ||
                  fwrite(record, 1, pie_write_opening(&opening, record, sizeof record), history) == 0;
-    for (int i = 3; i > 0 && !failed; i--) /* each shared port has the highest number that is left */
+    for (int i = 3; i > 0 && !failed; i--) /* each shared port receives the highest remaining number */
         failed = pie_link_share(&ports[0], &ports[i]) != PIE_DONE || pthread_create(&threads[i], NULL, i == 1 ? transmit : send, &ports[i]);
     for (int round = 1; round <= 300 && !failed; round++) {
         rest(10000000);

@@ -59,13 +59,13 @@ static int timers(void) {
     struct pie_updated early = pie_update(&pie, 0, 30000050);
     CHECK(early.code == PIE_TOO_SOON && early.due - 30000050 == 50);
     CHECK(pie_update(&pie, 0, 45000020).code == PIE_DONE && pie.last == 45000020);
-    /* one that is late makes the step of one */
+    /* a late update makes one step */
     struct pie_state prompt = opened(0), late = prompt;
     prompt.average = late.average = 30000000;
     struct pie_updated one = pie_update(&prompt, 16384, 15000000), other = pie_update(&late, 16384, 150000000);
     CHECK(one.prob != 0 && one.prob == other.prob && one.burst == other.burst && one.delay == other.delay);
     CHECK(other.due == 165000000);
-    /* new parameters move the moment that is due */
+    /* new parameters change the moment of the next update */
     struct pie_params params = late.params;
     params.t_update = 20000000;
     CHECK(pie_set_params(&late, &params, 150000000) == PIE_DONE && pie_due(&late) == 170000000);
@@ -73,7 +73,8 @@ static int timers(void) {
     return 0;
 }
 
-/* At a probability of 117 * 10^-12 each word below 2^31 picks the packet, and half of all words pick it at one half. */
+/* Tests words: at a probability of 117 * 10^-12 each word below 2^31 picks the packet, and at one half, half of all
+ * words. */
 static int words(void) {
     struct pie_state pie = opened(0);
     pie.prob = 117, pie.old_delay = 15000000, pie.burst = 0;

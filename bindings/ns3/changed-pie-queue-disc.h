@@ -1,5 +1,5 @@
-/* ns-3's PieQueueDisc with single points changed to RFC 8033's, to see which of them makes a difference (docs/RESULTS.md). Only for that:
- * the state that it changes is private in ns-3. */
+/* ns-3's PieQueueDisc with single rules changed to those of RFC 8033, to find the rule that makes a difference
+ * (docs/RESULTS.md). It uses state that is private in ns-3, so it is only for this purpose. */
 #ifndef CHANGED_PIE_QUEUE_DISC_H
 #define CHANGED_PIE_QUEUE_DISC_H
 

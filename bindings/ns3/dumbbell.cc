@@ -28,10 +28,10 @@ struct Scenario
     uint32_t flows = 4;
     double roundTrip = 40; /* ms, without queues */
     bool ecn = false;
-    double udp = 0; /* rate of a UDP burst in the middle fifth of the run, in parts of the link's */
+    double udp = 0; /* rate of a UDP burst in the middle fifth of the run, as a fraction of the link's rate */
     uint32_t seed = 1;
     double seconds = 20;
-    double warmUp = 5; /* seconds that steady figures exclude */
+    double warmUp = 5; /* seconds at the beginning that the figures exclude */
     double buffer = 0; /* send buffer of each flow in kB; 0: SendBufferBytes */
     std::string history;
     std::string flowsFile;
@@ -39,20 +39,20 @@ struct Scenario
     double every = 1;
 };
 
-constexpr uint32_t SEGMENT = 1448;   /* with 52 bytes of headers a packet of 1500 */
-constexpr uint32_t MEAN_PKT = 1500;  /* for all queues, so that ns-3's scaling by size changes nothing */
+constexpr uint32_t SEGMENT = 1448;   /* bytes; with 52 bytes of headers a packet has 1500 */
+constexpr uint32_t MEAN_PKT = 1500;  /* bytes, for all queues, so that ns-3's scaling by size has no effect */
 constexpr uint16_t PORT = 5000;
-constexpr int64_t STARTS = 1;        /* the random streams: of the flows' starts, */
-constexpr int64_t WORDS = 2;         /* and of the queue's words */
+constexpr int64_t STARTS = 1;        /* random stream of the flows' starts */
+constexpr int64_t WORDS = 2;         /* random stream of the queue's words */
 
 /* Counters of a run. */
 struct Counts
 {
-    std::vector<double> waits; /* ms, of each packet that left after the warm-up */
-    double early = 0;          /* the sum of those before, and their number */
+    std::vector<double> waits; /* ms, for each packet that departed after the warm-up */
+    double early = 0;          /* sum of the waits during the warm-up; earlyPackets is their number */
     uint64_t earlyPackets = 0;
     std::vector<uint64_t> received; /* bytes of each TCP flow after the warm-up */
-    uint64_t sent = 0;              /* bytes that left the shared link's queue after it, with their headers */
+    uint64_t sent = 0;              /* bytes that left the shared link's queue after the warm-up, with headers */
 };
 
 Counts g_counts;
@@ -262,7 +262,7 @@ Build(const Scenario& scenario)
 {
     Dumbbell net;
     net.routers.Create(2);
-    /* one host more on each side, for the UDP burst */
+    /* another host on each side, for the UDP burst */
     net.senders.Create(scenario.flows + 1);
     net.receivers.Create(scenario.flows + 1);
     InternetStackHelper().Install(net.routers);

@@ -34,7 +34,7 @@ static void tell_time(void *memory, uint64_t *seed) {
     unix_time = wanted;
 }
 
-/* The owner of the queued packets, for a recorder of bursts: this many departed so far. */
+/* The owner of the queued packets, for a recorder of bursts, with the number of departed packets. */
 struct owner {
     const struct queue *queue;
     uint64_t left;
@@ -153,7 +153,7 @@ static void random_events(uint64_t seed, uint64_t events) {
     free(scratch);
 }
 
-/* Puts an event that was not refused, as a program that decides bursts does. */
+/* Stores an event that was not refused, as a program that decides bursts does. */
 static void put(struct pie_flight_burst *burst, const struct queue *queue, const struct pie_event *event, struct owner *owner, uint64_t since) {
     if (event->kind == PIE_EVENT_ARRIVE) {
         pie_flight_arrive(burst, event->moment, event->tag, event->word, event->size, event->ecn, event->answer, event->caller);
@@ -249,7 +249,7 @@ static void refusals(void) {
     free(memory);
 }
 
-/* Damaged memory: whatever it contains, a dump ends and changes nothing else. */
+/* Tests damaged memory: a dump ends with any content, and changes nothing else. */
 static void damaged(uint64_t seed, uint64_t rounds) {
     struct queue queue;
     struct pie_flight flight;

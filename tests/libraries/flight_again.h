@@ -146,7 +146,7 @@ static void step(struct queue *queue, struct pie_event *event) {
 struct text {
     char *bytes;
     size_t count;
-    int stop_at; /* writes until it returns that it must stop */
+    int stop_at; /* writes until `write` stops it */
 };
 
 static int take(void *user, const unsigned char *bytes, size_t count) {

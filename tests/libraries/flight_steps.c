@@ -50,8 +50,8 @@ static struct {
     enum who goes;                      /* and may be stopped */
     const PIE_WORD *begin, *end;        /* of the recorder's memory */
     const PIE_WORD *at;                 /* the place at which the copy stops next, or NULL */
-    uint64_t loads;                     /* the copy is stopped after this many loads from here on */
-    uint64_t stores;                    /* the writer is stopped after this many stores from here on */
+    uint64_t loads;                     /* the copy stops after this number of loads */
+    uint64_t stores;                    /* the writer stops after this number of stores */
     uint64_t stops, seed;
     jmp_buf stopped;
 } steps;
@@ -97,7 +97,7 @@ static void keep_part(uint64_t stores) {
     meanwhile++;
 }
 
-/* The next snapshot's number: it is taken behind the next event that is kept. */
+/* The number of the next snapshot, which is taken after the next kept event. */
 static const PIE_WORD *up_to_a_snapshot(void) {
     while (writer.flight.count + 1 < writer.flight.next)
         keep_events(1);

@@ -84,7 +84,8 @@ static void open_by_record(void) {
     CHECK(pie_open(&state, &opening) == PIE_DONE);
 }
 
-/* Makes the record of the current interval: none before the first event; into a byte too little room nothing, and the bytes behind it stay. */
+/* Formats the record of the current interval; there is none before the first event. With one byte of room too few
+ * nothing is written, and the bytes after the record never change. */
 static void make_record(void) {
     memset(record, '#', sizeof record);
     size = pie_write_period(&period, record, sizeof record);

@@ -10,7 +10,7 @@
 extern "C" {
 #endif
 
-/* The reason why a loop ended. */
+/* The reasons why a loop ends. */
 enum {
     PIE_ARRAY_ALL = 0,     /* all was done */
     PIE_ARRAY_REFUSED = 1, /* a call was refused: the next event has the reason; nothing was changed by it */
@@ -39,9 +39,9 @@ struct pie_array_queue {
     uint64_t bytes;                /* the number of queued bytes */
     uint64_t events;               /* the number of decided events */
     uint64_t most_events;          /* the greatest number of decided events */
-    uint64_t rate;                 /* of the link of pie_array_offer, in bits a second, 1 to 2^60 */
+    uint64_t rate;                 /* rate of the link of pie_array_offer in bits per second, 1 to 2^60 */
     uint64_t link_free;            /* the moment at which the link has sent its packet */
-    uint64_t rest;                 /* and by what part of a nanosecond later, in 1 / rate */
+    uint64_t rest;                 /* fraction of a nanosecond after `free_at`, in units of 1 / rate */
     uint64_t taken;                /* of pie_array_offer: the number of taken arrivals */
     uint64_t why;                  /* the reason why the last loop ended, from the enumeration above */
 };

@@ -1,6 +1,6 @@
 #!/usr/bin/env bash
-# Runs `pie run` on a generated trace whose book rolls, and `pie audit` on the history that it wrote, in turn. Prints the number
-# of events, the least time of each of several runs and their ratio, the greatest resident memory of each, and the load.
+# Runs in turn `pie run` with a rolling book on a generated trace, and `pie audit` on its history. Prints the number of
+# events, the least time of each and their ratio, the greatest resident memory of each, and the load.
 # usage: bench/pie_audit.sh PIE [RECORDS] [SEED] [plain|mixed] [RUNS]      PIE: the built program, as crates/pie/out/ has
 # it after `rt run`
 . "$(dirname "$0")/shared.sh"

@@ -1,7 +1,7 @@
 #!/usr/bin/env bash
-# Measures one event decided (and recorded) by pie_book, or one at a link, beside an earlier version, both in turn,
-# RUNS times (21). Prints the least and the median of each, and their ratios. The exit status is 1 if the two decide
-# differently.
+# Compares an earlier commit with the present one: the time of an event that pie_book decides (and records), or of an
+# event at a link. Both run in turn, RUNS times (21). Prints the least and the median of each, and their ratios. The
+# exit status is 1 if the two decide differently.
 # usage: bench/pie_before.sh TESTS_OF_THE_EARLIER_COMMIT TESTS [RUNS] [book|link]     TESTS: crates/pie_library_tests/out/pie_library_tests
 . "$(dirname "$0")/shared.sh"
 runs=${3:-21}

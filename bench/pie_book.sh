@@ -1,6 +1,6 @@
 #!/usr/bin/env bash
-# Measures one event decided (and recorded) by pie_book beside the same steps in C, both in turn, RUNS times (9).
-# Prints the least and the median of each, and their ratios. The exit status is 1 if their results differ.
+# Measures an event that pie_book decides (and records), compared with the same steps in C, both in turn, RUNS times
+# (9). Prints the least and the median of each, and their ratios. The exit status is 1 if their results differ.
 # usage: bench/pie_book.sh TESTS [RUNS]     TESTS: crates/pie_library_tests/out/pie_library_tests
 . "$(dirname "$0")/shared.sh"
 tests=$1

@@ -3,9 +3,9 @@
 # rte_pie.h if Debian's libdpdk-dev is installed. Prints the least and the median of each, and the ratios; and the
 # instructions of a call (bench/pie_c_count.sh) if valgrind is installed.
 #
-# It measures four programs of the same code, in which the library and the rest begin at an even or an odd multiple
-# of 16 bytes: on some processors (Intel's from Skylake to Cascade Lake) a branch costs more if it crosses a
-# multiple of 32. So the first table covers all four, and one for each place of the library follows.
+# On some processors (Intel's from Skylake to Cascade Lake) a branch costs more if it crosses a multiple of 32 bytes.
+# The script therefore measures four programs of the same code, in which the library and the rest begin at an even or
+# an odd multiple of 16 bytes. The first table covers all four. A table for each place of the library follows.
 set -eu
 cd "$(dirname "$0")/.."
 work=$(mktemp -d)

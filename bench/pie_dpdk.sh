@@ -1,11 +1,16 @@
 #!/usr/bin/env bash
-# Measures packets per second from one DPDK null port to another, in bursts of 32: forwarding alone; through DPDK's
-# rte_pie (which makes no marks); through the stage of bindings/dpdk without marks and with marks; through the stage
-# with its flight recorder of the last 16384 events; through a link in its place (bindings/dpdk/linked.h); and
-# through the stage with its interval records, and with its whole history, both written to /dev/null by one more
-# lcore. All except the first and the link use the same lock and ring. In one part one lcore receives, enqueues,
-# dequeues and sends; in the other all available processors receive and enqueue, and one dequeues and sends. Prints
-# the greatest and the median of the runs, which take turns, as the table of docs/PERFORMANCE.md. It needs libdpdk
+# Measures packets per second from one DPDK null port to another, in bursts of 32:
+#
+# - forwarding alone;
+# - through DPDK's rte_pie, which makes no marks;
+# - through the stage of bindings/dpdk, without and with marks;
+# - through the stage with its flight recorder of the last 16384 events;
+# - through a link in place of the stage (bindings/dpdk/linked.h);
+# - through the stage with its interval records, and with its whole history; another lcore writes them to /dev/null.
+#
+# All except the first and the link use the same lock and ring. In one part a single lcore receives, enqueues, dequeues
+# and sends. In the other part all available processors receive and enqueue, and one dequeues and sends. The kinds take
+# turns. Prints the greatest and the median of the runs, as the table of docs/PERFORMANCE.md. It needs libdpdk
 # (bindings/dpdk/install.sh) and the libraries, which bindings/c/library.py builds.
 # usage: bench/pie_dpdk.sh [SECONDS [RUNS [PRIORITY]]]
 #   SECONDS     of each run, 1 by default; RUNS: of each kind, 9 by default. This takes some 150 seconds

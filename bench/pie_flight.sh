@@ -1,11 +1,11 @@
 #!/usr/bin/env bash
 # Measures the cost of keeping an event in a flight recorder (include/pie_flight.h) of 100,000
-# events, beside the event alone, while 16, 1000 and 65,536 packets are queued (bench/pie_flight.c).
-# It measures the time of an event, also while another thread dumps, of a snapshot, and of a dump
-# with its copy and its text. If valgrind is installed, it counts the instructions of an event,
-# alone and kept, and the part of the snapshots, also for a recorder of 1000 events. Prints two
-# tables; a time is the least, with the median in brackets. If PROGRAM is given, `pie audit` must
-# first find a text of each recorder clean.
+# events, compared with the event alone, while 16, 1000 and 65,536 packets are queued
+# (bench/pie_flight.c). It measures the time of an event, also while another thread dumps, of a
+# snapshot, and of a dump with its copy and its text. If valgrind is installed, it counts the
+# instructions of an event, alone and kept, and the share of the snapshots, also for a recorder of
+# 1000 events. Prints two tables; a time is the least, with the median in brackets. If PROGRAM is
+# given, `pie audit` must first find a text of each recorder clean.
 #
 # usage: bench/pie_flight.sh [PROGRAM]    after `rt lib` in crates/pie_c
 set -eu

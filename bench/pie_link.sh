@@ -1,6 +1,6 @@
 #!/usr/bin/env bash
-# Measures events at a link beside the same book behind a mutex, uncontended and with 1, 2, 4 and 8 threads that
-# enqueue and one that sends: RUNS runs (9) of both in turn. Prints the best and the median of each, and their
+# Measures events at a link, compared with the same book behind a mutex: uncontended, and with 1, 2, 4 and 8 threads
+# that enqueue and one that sends. Both run in turn, RUNS times (9). Prints the best and the median of each, and their
 # ratios. (Bursts: bench/pie_link_c.sh.)
 # usage: bench/pie_link.sh TESTS [RUNS]     TESTS: crates/pie_library_tests/out/pie_library_tests
 . "$(dirname "$0")/shared.sh"

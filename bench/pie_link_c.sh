@@ -1,10 +1,15 @@
 #!/usr/bin/env bash
 # Measures events per second of one to four threads at one controller in C, in bursts of 1, 8 and 32
-# (bench/pie_link_c.c): at a link; with a spin lock around the recorded calls with the flight recorder; with the
-# same lock around calls whose events are stored in bulk; and with this lock and with a mutex around the recorded
-# calls with a ring of 64-byte events and statistics of a builder's own. RUNS runs (9) of all in turn, MILLISECONDS
-# each (100). The first table has the medians, the second their ratios, the third the share of turns that follow
-# another thread's: a run of several threads in which fewer than one turn in four does is not counted.
+# (bench/pie_link_c.c):
+#
+# - at a link;
+# - with a spin lock around recording calls and the flight recorder;
+# - with the same lock around calls whose events are stored in bulk;
+# - with this lock, and with a mutex, around recording calls and a builder's own ring of 64-byte events and statistics.
+#
+# All run in turn, RUNS times (9), for MILLISECONDS (100) each. The first table has the medians, the second their
+# ratios. The third has the share of turns that follow a turn of another thread. A run of several threads in which this
+# share is below a quarter is not counted.
 # usage: bench/pie_link_c.sh [RUNS [MILLISECONDS]]    after bindings/c/library.py
 set -eu
 . "$(dirname "$0")/shared.sh"

@@ -1,6 +1,6 @@
 #!/usr/bin/env bash
-# Measures the ruled lock beside `std::sync::Mutex`: both in turn in each of RUNS runs (9). Prints the best and the
-# median of each, and their ratios. Threads without a free processor run one after another and hardly contend: check
+# Measures the ruled lock, compared with `std::sync::Mutex`. Both run in turn, RUNS times (9). Prints the best and the
+# median of each, and their ratios. Threads without a free processor run one after another and hardly contend, so check
 # the load that the script prints.
 # usage: bench/pie_lock.sh TESTS [RUNS]     TESTS: crates/pie_library_tests/out/pie_library_tests
 . "$(dirname "$0")/shared.sh"

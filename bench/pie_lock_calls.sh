@@ -25,7 +25,7 @@ def calls(words, until=None):
     found, ended = {}, until is None
     with os.fdopen(reader) as lines:
         for line in lines:
-            # A futex word with the value 1 is the lock's, at which a pass may sleep; a joining thread waits at the other's number.
+            # A pass sleeps at the lock's futex word, which has the value 1. A joining thread waits at another word.
             call = re.search(r"(futex\(\w+, FUTEX_WAIT\w*, 1,|futex\(\w+, FUTEX_WAKE|futex|sched_yield|nanosleep|write)", line)
             if call is None or "resumed>" in line:
                 continue

@@ -1,8 +1,8 @@
 #!/usr/bin/env bash
-# Measures the cost of adding an event to the sums of an interval (pie_arrive_summed and so on)
-# beside the call that records the event alone (bench/pie_period.c). Prints the least and the median
-# time of each, and their difference. If valgrind is installed, it also prints the instructions of
-# each.
+# Measures the cost of adding an event to the sums of an interval (bench/pie_period.c): a call such as
+# pie_arrive_summed, compared with the call that only records the event. Prints the least and the
+# median time of each, and their difference. If valgrind is installed, it also prints the
+# instructions of each.
 #
 # usage: bench/pie_period.sh    after `rt lib` in crates/pie_c
 set -eu

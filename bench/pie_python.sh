@@ -1,8 +1,7 @@
 #!/usr/bin/env bash
-# Measures a million arrivals to a link of 100 Mbit/s at 8 per cent overload, from numpy arrays by `Queue.offer`
-# (bindings/python), beside the same loop called from a C program over the same arrivals (bench/pie_python.c), in
-# turn, each with new memory. Prints the least and the median processor time for an event. The exit status is 1 if
-# the answers differ.
+# Measures a million arrivals to a link of 100 Mbit/s at 8 per cent overload: from numpy arrays by `Queue.offer`
+# (bindings/python), and by the same loop in a C program (bench/pie_python.c). The two take turns, each with new
+# memory. Prints the least and the median processor time for an event. The exit status is 1 if the answers differ.
 # usage: bench/pie_python.sh [RUNS]     9; after `rt lib` in crates/pie_c. bindings/python/install.sh installs what it takes
 set -eu
 . "$(dirname "$0")/shared.sh"

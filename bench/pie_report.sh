@@ -1,6 +1,6 @@
 #!/usr/bin/env bash
-# Measures the report of a history beside its audit: the seconds of both, the bytes of the page,
-# and, if Chromium is installed, the time until the page is displayed.
+# Measures the report of a history, compared with its audit: the seconds of both, the bytes of the
+# page, and, if Chromium is installed, the time until the page is displayed.
 # usage: bench/pie_report.sh PROGRAM [RECORDS RUNS]     PROGRAM: crates/pie/out/pie; a million records and 5 runs by default; the least time
 set -eu
 program=$(realpath "$1") records=${2:-1000000} runs=${3:-5}

@@ -1,6 +1,6 @@
 #!/usr/bin/env bash
-# Measures `pie storm`, which makes a storm, writes its history and audits it; and beside it an audit of that
-# history, and a single-threaded run of a trace with the same commands in the same order. Prints the number of
+# Measures `pie storm`, which makes a storm, writes its history and audits it. Compares it with an audit of that
+# history, and with a single-threaded run of a trace with the same commands in the same order. Prints the number of
 # events, the least and the median time of each, events per second, and the load. Then it prints, for 2, 4 and 8
 # senders, the changes of caller in 20 storms, and the marks and early drops of one at a load of 1.2.
 # usage: bench/pie_storm.sh PIE [SENDERS] [PACKETS] [RUNS]      PIE: the built program, as crates/pie/out/ has it

@@ -1,4 +1,4 @@
-# Shared by the measures; source it. It sets $here, this folder, and $work, a folder that is removed at the end.
+# Shared by the measurements; source it. It sets $here, this folder, and $work, a folder that is removed at the end.
 set -eu
 here=$(cd "$(dirname "${BASH_SOURCE[0]}")" && pwd)
 work=$(mktemp -d)

@@ -6,10 +6,10 @@ usage: bench/trace.py RECORDS [SEED] [plain|mixed]
 The first record opens the controller, and RECORDS records follow.
 
 plain (the default): arrivals of 64 to 1500 bytes by four callers and departures by a fifth, in about equal numbers, at
-moments that rise. The tail holds all events.
+increasing moments. The event log has room for all events.
 
-mixed: a link that is loaded for a while, then idle for a while. Arrivals and departures, an update at each due moment, now
-and then new parameters, a reset, the registers, the statistics, and a fold of what the tail holds before it is full.
+mixed: a link that is loaded for a while, then idle for a while. The records are arrivals and departures, an update at
+each due moment, and sometimes new parameters, a reset, `show` or `tally`. Before the event log is full, it is folded.
 """
 import random
 import sys

@@ -1,8 +1,8 @@
 #!/usr/bin/env bash
 # Makes dist/ anew from the committed crates: the assembly of pie_c, pie_link_c and pie, MANIFEST,
 # and new lines of abi.txt. It needs the toolchain (rt). Proofs that `rt ci`, `rt lib` or `rt check`
-# left are used. The three crates themselves are proved, unless bindings/c/library.py has just done
-# so.
+# left are used. The three crates themselves are proved again, unless bindings/c/library.py has just
+# proved them.
 #
 # usage: dist/make.sh
 set -euo pipefail

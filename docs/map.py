@@ -4,7 +4,8 @@ its dependencies, without the arrows that others imply, and in colour the three 
 the list of crates in docs/ARCHITECTURE.md. It needs graphviz (Debian's package).
 
 usage: docs/map.py           draws and writes
-       docs/map.py --check   draws nothing: ends with status 1 where picture or list are not those of crates.txt (needs no graphviz)
+       docs/map.py --check   draws nothing (needs no graphviz): the exit status is 1 if picture or list are not those of
+                             crates.txt
 """
 import hashlib
 import html

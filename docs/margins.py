@@ -3,8 +3,8 @@
 parameters, over the rate per flow, for some round-trip times. The margins are computed from a
 linear model. They are not proved.
 
-TCP is the fluid model of Hollot, Misra, Towsley and Gong (INFOCOM 2001), which the PIE paper uses
-that RFC 8033 refers to. N Reno flows have a window W = R C / N at a rate C and a round-trip time R,
+TCP is the fluid model of Hollot, Misra, Towsley and Gong (INFOCOM 2001). The PIE paper to which RFC
+8033 refers uses this model. N Reno flows have a window W = R C / N at a rate C and a round-trip time R,
 which includes the target delay. They lose or mark a share s = 2 / W^2 of their packets. The transfer
 function of the loop from the share to the queueing delay is
     (W / 2R) e^-Rs / ((s + 2 / RW) (s + 1 / R)).

@@ -1,6 +1,6 @@
 #!/usr/bin/env bash
-# Measures histories per second on a Dask cluster of this machine with 1, 2 and 4 workers, beside xargs with the
-# same number of processes of the same two commands. Each number of workers has as many histories as xargs processes
+# Measures histories per second on a Dask cluster of this machine with 1, 2 and 4 workers, compared with xargs with
+# as many processes of the same two commands. Each number of workers has as many histories as xargs processes
 # in about SECONDS; the whole command is timed, with the start of its Python and the writing of the table.
 # usage: fleet/measure.sh PROGRAM [SECONDS EVENTS RUNS]     PROGRAM: crates/pie/out/pie; 20 s, 100000 events, 1 run; of several the least
 set -eu

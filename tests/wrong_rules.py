@@ -1,14 +1,19 @@
 #!/usr/bin/env python3
 """Shows that the laws of pie_guarantees are not a copy of the rules. Each wrong rule of
-crates/pie_guarantees/wrong_rules.txt replaces the right definition; then a lemma on which the law depends must be
-rejected, which is accepted with the right definition in the same place. The file has a block for each rule, with a
-blank line between blocks: `name:`, then `law:`, a function, once or more often, `file:`, `old:` and `new:`, texts
-of one line, and `spec:`, files of definitions that are copied beside these and the steps of a command.
+crates/pie_guarantees/wrong_rules.txt replaces the right definition. The prover must then reject a lemma on which
+the law depends, and accept this lemma with the right definition in the same place.
 
-One check tries all rules, of a crate that contains, for each rule and for each right definition, a copy of these
-definitions, of the lemmas on which the law depends, and of what they use of pie_guarantees. So no other crate is
-checked again, and dependencies are loaded once. Run it after a change to a law: forty rules take about four minutes
-of a processor.
+The file has a block for each rule, with a blank line between blocks. The lines of a block are:
+  name:         the name of the rule
+  law:          a function that the rule violates; once or more often
+  file:         the file of the definition
+  old:, new:    texts of one line
+  spec:         files of definitions that are copied together with these and the steps of a command
+
+One check tries all rules. It checks a crate that contains, for each rule and for each right definition, copies of
+these definitions, of the lemmas on which the law depends, and of the parts of pie_guarantees that they use. No other
+crate is checked again, and dependencies are loaded once. Run it after a change to a law: forty rules take about four
+minutes of a processor.
 
 usage: tests/wrong_rules.py [RULE ..]      such as picks_from_a_half_on; all by default
 needs: rt, and what `rt check` kept of the crates below pie_guarantees

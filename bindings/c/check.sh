@@ -1,8 +1,8 @@
 #!/usr/bin/env bash
-# Builds the static library and, with it, the worked rows, the pitfalls of docs/LIBRARY.md, random
-# events and the example in C. They are built plainly, as position-independent executables with
-# relro, now and -fcf-protection, and with the address and undefined behaviour sanitizers, and run,
-# also under valgrind. The example's history must be the stored one. If python3 is installed, the
+# Builds the static library. Builds and runs with it the worked rows, the pitfalls of
+# docs/LIBRARY.md, random events and the example in C: without options, as position-independent
+# executables with relro, now and -fcf-protection, with the sanitizers for addresses and undefined
+# behaviour, and under valgrind. The example's history must be the stored one. If python3 is installed, the
 # library is called with each number of the header's comments, and tests/shared/reference_texts.py
 # computes the history again. Prints a line NOT RUN for a missing program.
 # needs: library

@@ -1,13 +1,13 @@
 #!/usr/bin/env python3
 """Builds the static libraries, crates/pie_c/out/libpie_c.a and crates/pie_link_c/out/libpie_link_c.a,
-or the library of the named crate. `rt lib` does the same, but proves again whatever it has not kept:
-in a fresh clone all crates below. If these crates are proved, by the gate (`rt ci` leaves each
-library in out/rlib, without a stamp) or otherwise, and none is older than its sources, this script
-proves and compiles the crate alone, over them. If the crate's assembly is newer than all of these,
-nothing is built.
+or the library of the named crate. `rt lib` does the same, but proves again all that it has not kept:
+in a fresh clone all crates below. This script proves and compiles only the named crate if the crates
+below are proved and none is older than its sources. They may be proved by the gate (`rt ci` leaves
+each library in out/rlib, without a stamp) or otherwise. If the crate's assembly is newer than all of
+these, nothing is built.
 
-The assembly of a library is written beside it, crates/CRATE/out/CRATE.S, from the same module and
-with the same options; dist/ has a copy. If CRATE is the program, pie, only its assembly is written.
+The assembly of a library is crates/CRATE/out/CRATE.S, from the same module and with the same options;
+dist/ has a copy. If CRATE is the program, pie, only its assembly is written.
 If PIE_MODULE is set, the crate is always compiled, and its LLVM module is copied to that file
 (bindings/kernel/make.sh).
 

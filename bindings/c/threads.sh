@@ -1,10 +1,13 @@
 #!/usr/bin/env bash
-# Runs several threads at one link by include/pie_link.h: the example in C (threads.c), the tests of the calls
-# (ports.c, and ports.cc for the C++ classes), and a crowd of four and of eight threads (crowd.c) for two seconds
-# each, or for a minute with --long; plainly and with the thread sanitizer. The tests of the calls also run with the
-# address sanitizer, which finds memory that a closed port or excerpt keeps. The folded events of the crowd and of
-# the example, and their excerpts, are audited; in the crowd's history each caller's calls must occur once and in
-# order. C and C++ are also compiled with more warnings, and linked together with -flto.
+# Runs several threads at one link by include/pie_link.h, with and without the thread sanitizer:
+#
+# - the example in C (threads.c);
+# - the tests of the calls (ports.c, and ports.cc for the C++ classes), also with the address sanitizer, which finds
+#   memory that a closed port or excerpt keeps;
+# - a crowd of four and of eight threads (crowd.c), for two seconds each, or for a minute with --long.
+#
+# The folded events and the excerpts of the example and the crowd are audited. In the crowd's history each caller's
+# calls must occur once and in order. C and C++ are also compiled with more warnings, and linked together with -flto.
 # usage: bindings/c/threads.sh [--long] [PROGRAM]      PROGRAM: crates/pie/out/pie by default
 # needs: library, program
 set -euo pipefail

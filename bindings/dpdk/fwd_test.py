@@ -1,9 +1,14 @@
 #!/usr/bin/env python3
-"""Runs pie-fwd between a null port and a ring, several instances at once, and tests errors, its end by an
-interrupt, its files, its telemetry with changes of parameters, its history (at full speed, on a full device, in
-segments, and of the last events), its interval records compared with that history, and the flows of a capture. No
-mbuf may be lost. The tests do not depend on the machine's speed: they wait for conditions. With --real-time it runs
-only one instance that must hold its target in real time, at raised priority, and needs a free processor.
+"""Runs pie-fwd between a null port and a ring, several instances at once, and tests:
+
+- errors, and its end by an interrupt;
+- its files, and its telemetry with changes of parameters;
+- its history: at full speed, on a full device, in segments, and of the last events;
+- its interval records, compared with the history;
+- the flows of a capture.
+
+No mbuf may be lost. The tests do not depend on the machine's speed: they wait for conditions. With --real-time it
+runs only one instance, at raised priority, whose mean wait must be near the target. This needs a free processor.
 
 usage: bindings/dpdk/fwd_test.py PIE_FWD PIE [--real-time]"""
 import contextlib

@@ -1,10 +1,14 @@
 #!/usr/bin/env bash
-# Boots a kernel of Debian under qemu-system-x86_64 with the module, in simulated time, and sends TCP and pings through it from one network namespace over
-# another to a third (boot_init.sh). Afterwards sums.py audits each record and compares its sums with those of `tc -s -j` and of the receiver. The kernel
-# must not warn. The same boot loads a module with one fault after the other (the first four of mutants.txt), and sums.py must find each fault.
-# --all: all faults, and the kernel's own queues in the same place. SEED seeds the simulation (1).
-# ROOT contains a kernel's boot/ and lib/modules/, of an installed package (/, the default) or an unpacked one. HEADERS is the folder above the kernel's
-# headers (/usr/src). It takes a minute of one processor, and two with --all.
+# Boots a kernel of Debian under qemu-system-x86_64 with the module, in simulated time. TCP and pings pass from one
+# network namespace through a second to a third (boot_init.sh). Afterwards sums.py audits each record and compares its
+# sums with those of `tc -s -j` and of the receiver. The kernel must not warn. Then the same boot loads modules with one
+# fault each (the first four of mutants.txt), and sums.py must find each fault. It takes a minute of one processor, and
+# two with --all.
+#
+# --all     all faults, and the kernel's own queues in the same place
+# SEED      the seed of the simulation, 1 by default
+# ROOT      has a kernel's boot/ and lib/modules/, of an installed package (/, the default) or an unpacked one
+# HEADERS   the folder above the kernel's headers, /usr/src by default
 # needs: program
 #
 # usage: [PIE=program] [SEED=1] [HEADERS=folder] [KEEP=folder for all files] bindings/kernel/boot.sh [--all] [ROOT]

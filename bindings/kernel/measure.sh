@@ -1,7 +1,8 @@
 #!/usr/bin/env bash
-# Counts instructions of enqueue and dequeue of pfifo, the kernel's pie, and pie_recorded without and with its record, under qemu -icount, where one
-# instruction is one tick of the time stamp counter (measure/pie_measure.c). Arrivals are in a burst allowance, or considered for an early drop. Prints a
-# table. ROOT and HEADERS are those of boot.sh. It takes half a minute of one processor.
+# Counts instructions of enqueue and dequeue (measure/pie_measure.c) of pfifo, the kernel's pie, and pie_recorded with
+# and without its record. Under qemu -icount one instruction is one tick of the time stamp counter. Arrivals are in a
+# burst allowance, or considered for an early drop. Prints a table. ROOT and HEADERS are those of boot.sh. It takes half
+# a minute of one processor.
 # needs: a request
 #
 # usage: [HEADERS=folder] [KEEP=folder for all files] bindings/kernel/measure.sh [ROOT]

@@ -1,8 +1,9 @@
 #!/usr/bin/env bash
-# Measures the time of enqueue and dequeue of pfifo, the kernel's pie and pie_recorded on this processor, without a boot: the objects that kbuild makes of
-# the queue disciplines are linked into a program (measure/user), with a clock of the same steps as the kernel's. sch_pie.c and sch_fifo.c are those of
-# Debian's linux-source-6.1. What it leaves out: locks, interrupts, the caches' other users, and the kernel's generator of random numbers, which pie needs
-# for some arrivals. TURNS is the number of turns of each queue (2000).
+# Measures the time of enqueue and dequeue of pfifo, the kernel's pie and pie_recorded on this processor, without a
+# boot. The objects that kbuild makes of the queue disciplines are linked into a program (measure/user), with a clock of
+# the same steps as the kernel's. sch_pie.c and sch_fifo.c are those of Debian's linux-source-6.1. The times leave out
+# locks, interrupts, other users of the caches, and the kernel's generator of random numbers, which pie calls for some
+# arrivals. TURNS is the number of turns of each queue (2000).
 # needs: a request
 #
 # usage: [HEADERS=folder] [KEEP=folder for all files] [TURNS=2000] bindings/kernel/nanoseconds.sh [RELEASE]

@@ -1,10 +1,12 @@
 #!/usr/bin/env bash
-# Boots kernels with sanitizers and loads the module. `kasan` has KASAN, UBSAN, kmemleak, lockdep (PROVE_LOCKING) and
-# failing allocations, `kcsan` has KCSAN, and `plain` is Debian's own kernel with checks of freed and neighbouring memory
-# (slub_debug, page_poison). Four processors run sanitized/init: each allocation of each request fails once, random
-# requests of netlink, senders while options change and queues are replaced. The first two kernels are built from
-# Debian's linux-source-6.1 in BUILD, with the options that the scenario needs (sanitized/config). It boots kasan and
-# kcsan unless a kind is named, and takes SECONDS_OF_TRAFFIC (120) for each, and the time to build a kernel.
+# Boots kernels with sanitizers and loads the module:
+#   kasan   KASAN, UBSAN, kmemleak, lockdep (PROVE_LOCKING) and failing allocations
+#   kcsan   KCSAN
+#   plain   Debian's own kernel with checks of freed and neighbouring memory (slub_debug, page_poison)
+# By default kasan and kcsan are booted. Their kernels are built from Debian's linux-source-6.1 in BUILD, with the
+# options that the scenario needs (sanitized/config). Four processors run sanitized/init: each allocation of each
+# request fails once, netlink requests are random, and senders send while options change and queues are replaced. A
+# kernel takes SECONDS_OF_TRAFFIC (120), and the time to build it.
 # Debian's packages for a kernel: linux-source-6.1 flex bison bc libelf-dev.
 # needs: a request
 #

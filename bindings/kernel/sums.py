@@ -29,7 +29,7 @@ def said(pie, history, *words):
 
 
 def summed(pie, history):
-    """The sums of `pie explain --summary`, and by the departures' callers and ECN fields."""
+    """Returns the sums of `pie explain --summary`, and those of departures by caller and by ECN field."""
     summary = next(csv.DictReader(io.StringIO(said(pie, history, "explain", "--summary", "--csv"))))
     sums = {key: int(summary[key]) for key in ("arrivals", "enqueue", "mark", "early", "bytes", "packets", "left")}
     departs = [line.split(",") for line in history.read_text().splitlines() if line.startswith("depart,")]
@@ -40,13 +40,14 @@ def summed(pie, history):
 
 
 def congestion_marks(path):
-    """The packets with CE that the receiver counted."""
+    """Returns the number of packets with CE that the receiver counted."""
     names, numbers = (line.split() for line in path.read_text().splitlines() if line.startswith("IpExt:"))
     return int(numbers[names.index("InCEPkts")])
 
 
 def differences(sums, told, arrived_ce):
-    """What is not equal. `told` is the queue's part of tc's output. After a purge one marked packet may be missing: the one that a parent peeked at."""
+    """Returns the sums that differ from those in `told`, the queue's part of tc's output. After a purge one marked
+    packet may be missing: the one that a parent peeked at."""
     dropped = sums["early"] + sums["bytes"] + sums["packets"]
     pairs = [("departures and packets sent", sums["sent"], told["packets"]), ("drops", dropped, told["drops"]),
              ("arrivals and what became of them", sums["arrivals"], sums["enqueue"] + sums["mark"] + dropped),
@@ -61,7 +62,7 @@ def differences(sums, told, arrived_ce):
 
 
 def unnamed(folder, name):
-    """What is wrong with the file of flows."""
+    """Returns the errors in the file of flows."""
     arrivals = [line.split(",") for line in (folder / f"{name}.history").read_text().splitlines() if line.startswith("arrive,")]
     numbers = {int(it[3]) >> 32 for it in arrivals if it[4] != ARP} - {0}
     rows = list(csv.DictReader(io.StringIO((folder / f"{name}.csv").read_text())))

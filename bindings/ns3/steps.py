@@ -2,10 +2,11 @@
 """Computes each step of recorded histories again by the rules of ns-3's PieQueueDisc 3.37
 (pie-queue-disc.cc), in its own floating point. From the probability, the delays and the burst
 allowance of the history it computes the delay and the probability of an update (CalculateP), and
-the decision about an arrival (DropEarly). The result shows if two runs differ by a rule, or only by
-their random words.
+the decision about an arrival (DropEarly). The result shows whether two runs differ because of a rule,
+or only because of their random words.
 
-usage: bindings/ns3/steps.py HISTORY..      histories without ECN, of limits in bytes and packets of MEAN_PKT bytes, as scenarios.sh makes them
+usage: bindings/ns3/steps.py HISTORY..
+       HISTORY: without ECN, with a limit in bytes and packets of MEAN_PKT bytes, as scenarios.sh makes it
 
 Prints, for all histories together, the number of steps and the number of different results: delays
 (only by time stamps) that differ by more than a nanosecond, probabilities that differ by more than

@@ -8,23 +8,25 @@ full    for each scenario a table with a line for each queue: the mean of each f
 same    two one-sided tests that this repository's PIE and PieQueueDisc are equivalent: in the bytes
         that left the link, within 5 per cent, and in the mean wait, within 2 ms; with their power
         (bench/equivalence.py)
-beside  a line for each scenario: this repository's PIE beside PieQueueDisc with de-randomization;
-        then all scenarios together. With a name, both have another optional element of RFC 8033, or
-        all three
+beside  a line for each scenario: this repository's PIE, and PieQueueDisc with de-randomization; then
+        all scenarios together. With a name, both queues have another optional element of RFC 8033,
+        or all three
 plot    the mean waits, for draw.sh
-choices for each rate a table of RFC 8033's optional elements, with a line for each choice of each
-        scenario that was run with others. It has this repository's PIE, with the chances of its
-        differences from the usual elements, and PieQueueDisc, with the chances of its differences
-        from this PIE: of the mean wait, then of goodput. Then a table of all scenarios together
+choices for each rate a table of RFC 8033's optional elements, with a line for each choice in each
+        scenario that was run with several choices. A line has this repository's PIE, with the
+        chances of its differences from the usual elements, and PieQueueDisc, with the chances of its
+        differences from this PIE: of the mean wait, then of goodput. A table of all scenarios
+        together follows
 
 The comparison was fixed before the runs were made. The runs of the two queues are mixed and divided
 again at random, 5,000 times. `chance` is the share of these partitions in which the means differ at
-least as much as in the real runs. Below 0.05 they differ beyond the spread of the runs. Of a hundred
-comparisons of a queue with itself, some five have such a chance. For all scenarios together, the
-means of each scenario are divided by one another, and the mean of the logarithms of these ratios is
-compared, with new partitions of the runs of each scenario. A scenario with fewer than four runs of
-each queue has no chance of its own, since no partition of six runs is rarer than one in ten, but it
-counts in the comparison of all scenarios.
+least as much as in the real runs. Below 0.05 the means differ by more than the spread of the runs. Of
+a hundred comparisons of a queue with itself, some five have such a chance.
+
+For all scenarios together, the ratio of the two means of each scenario is computed. The mean of the
+logarithms of these ratios is compared, with new partitions of the runs of each scenario. A scenario
+with fewer than four runs of each queue has no chance of its own, since no partition of six runs is
+rarer than one in ten, but it counts for all scenarios together.
 """
 import csv
 import math

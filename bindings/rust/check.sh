@@ -1,10 +1,10 @@
 #!/usr/bin/env bash
-# Builds the static libraries, and runs with them the worked rows, the documentation's examples, the
-# events, the flight recorder, the calls at a link and the example queues in Rust, without a
-# network. It audits the history of the recorded queue, the events that four threads at a link fold,
-# and the texts of a queue with a flight recorder: while the queue runs, and after it was killed,
-# when the recorder in C must write the same text. Then it compares the programs of bench/peer with
-# `pie run`. Prints a line NOT RUN if there is no cargo 1.82 or later, or no C compiler to link with.
+# Builds the static libraries, and runs in Rust, without a network: the worked rows, the documentation's examples, the
+# events, the flight recorder, the calls at a link, and the example queues. It audits the history of the recorded queue,
+# the events that four threads at a link fold, and the texts of a queue with a flight recorder. One text is written
+# while the queue runs. Another is written after the queue was killed; the recorder in C must write an equal one. Then
+# the script compares the programs of bench/peer with `pie run`. Prints a line NOT RUN if there is no cargo 1.82 or
+# later, or no C compiler to link with.
 # needs: library, program
 set -eu
 cd "$(dirname "$0")/../.."

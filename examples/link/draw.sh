@@ -1,5 +1,5 @@
 #!/usr/bin/env bash
-# Draws, of one or more histories, the queueing delay and the probability that each update answered, over time.
+# Draws the queueing delay and the probability of each update over time, for one or more histories.
 # usage: examples/link/draw.sh PICTURE TITLE=HISTORY..
 set -eu
 picture=$1

@@ -34,8 +34,7 @@ within() {
     exec ip netns exec "$name" timeout --kill-after=5 "$bound" "$@"
 }
 
-# The link has the highest priority on the machine, because a link that is woken late sends and
-# updates late.
+# The link runs at the highest priority: if it is woken late, it sends and updates late.
 before_others='nice -n -15'
 chrt --fifo 50 true 2> /dev/null && before_others='chrt --fifo 50'
 

@@ -1,7 +1,7 @@
 #!/usr/bin/env bash
-# Prints, for each range of the probability, the number of arrivals that were considered for early
-# drop (no burst allowed, no exemption of section 4.1, within the limits), and the share of them
-# that was picked to be marked or dropped. See docs/RESULTS.md.
+# Prints, for each range of the probability, the number of considered arrivals, and the share of them
+# that was picked to be marked or dropped. An arrival is considered for early drop if it is within
+# the limits, no burst is allowed, and no exemption of section 4.1 applies. See docs/RESULTS.md.
 # usage: examples/link/shares.sh PIE HISTORY
 set -eu
 "$1" explain --all --csv < "$2" | awk -F, '

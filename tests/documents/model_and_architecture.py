@@ -1,10 +1,13 @@
 #!/usr/bin/env python3
-"""Compares the documents with the code, by the layout that `rt fmt` writes. docs/MODEL.md must
-name each definition that a clause of a public function cites, and each function, definition and
-mutation in its table of rules must exist. Map and list of crates in docs/ARCHITECTURE.md must be
-those of crates.txt (docs/map.py --check), and the picture of margins must be the one that
-docs/margins.py draws. Each `==` of a type must be derived, so that it compares every field. The
-exit status is 1 if a check fails.
+"""Compares the documents with the code, which must have the layout of `rt fmt`:
+
+- docs/MODEL.md names each definition that a clause of a public function cites.
+- Each function, definition and mutation in its table of rules exists.
+- The map and the list of crates in docs/ARCHITECTURE.md are those of crates.txt (docs/map.py --check).
+- The picture of margins is the one that docs/margins.py draws.
+- Each `==` of a type is derived, so that it compares every field.
+
+The exit status is 1 if a check fails.
 
 usage: tests/documents/model_and_architecture.py
 needs: nothing

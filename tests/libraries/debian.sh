@@ -1,7 +1,8 @@
 #!/usr/bin/env bash
-# Builds the packages for Debian from the files of this repository, without the proved crates: dpkg-buildpackage, then lintian, which must have no error
-# and no warning. The packages are unpacked in a folder: the program audits a history, the example in C is built over the development files, the module
-# for Python imports the shared library, and the kernel module is built from the files that DKMS has. All have the version of include/pie.h.
+# Builds the packages for Debian from the files of this repository, without the proved crates, by dpkg-buildpackage.
+# lintian must report no error and no warning. The packages are unpacked in a folder. There the program audits a
+# history, the example in C is built with the development files, the module for Python imports the shared library, and
+# the kernel module is built from the files for DKMS. All packages have the version of include/pie.h.
 #
 # usage: tests/libraries/debian.sh
 # needs: nothing

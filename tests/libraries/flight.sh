@@ -1,9 +1,12 @@
 #!/usr/bin/env bash
 # Builds the tests of include/pie_flight.h (flight.c and flight_steps.c) as C11, C++11 and C++17 with warnings as
-# errors, and with the thread sanitizer and the address and undefined behaviour sanitizers, and runs them: random
-# events through the library's calls, also in bursts, with dumps at random places, each of which is decided again;
-# dumps during writes; killed processes; damaged memory; a copy and a writer that are stopped between two words.
-# Then it builds sixteen wrong recorders, each of which a test must find. Prints a line NOT RUN for a missing tool.
+# errors, and with the sanitizers for threads, addresses and undefined behaviour, and runs them. The tests are:
+#
+# - random events through the library's calls, also in bursts, with dumps at random places that are decided again;
+# - dumps during writes, killed processes, damaged memory;
+# - a copy and a writer that are stopped between two words.
+#
+# Then it builds sixteen wrong recorders. A test must find each of them. Prints a line NOT RUN for a missing tool.
 # usage: tests/libraries/flight.sh [EVENTS]      EVENTS: 50000 by default
 # needs: library
 set -u

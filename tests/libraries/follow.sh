@@ -1,8 +1,8 @@
 #!/usr/bin/env bash
 # Builds the test of include/pie_follow.h and include/pie_text.h (follow.c) as C11, C++11 and C++17 with warnings as
-# errors, and with the thread sanitizer and the address and undefined behaviour sanitizers, and runs it: random
-# events, followed at random times and by another thread, and a writer at full speed, whose events must be read
-# whole or reported as missed. Then it builds six wrong followers, each of which the test must find. Prints a line
+# errors, and with the sanitizers for threads, addresses and undefined behaviour, and runs it. Random events are
+# followed at random times and by another thread. The events of a writer at full speed must be read whole or reported
+# as missed. Then it builds six wrong followers. The test must find each of them. Prints a line
 # NOT RUN for a missing tool.
 # usage: tests/libraries/follow.sh [EVENTS]      EVENTS: 20000 by default
 # needs: library

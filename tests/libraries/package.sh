@@ -1,9 +1,9 @@
 #!/usr/bin/env bash
 # Uses the library and the program as a package: `make install` into a temporary folder. From an empty folder it
-# builds the README's example by pkg-config, in C11 and C++17 with warnings as errors, and by CMake, and a Rust
-# program that depends on bindings/rust, and runs them. It installs below DESTDIR as packagers do, and uninstalls.
-# Then it makes the archive, unpacks it elsewhere, and uses program and library without the toolchain. The libraries
-# are those of the proved crates, the program that of dist/. Prints a line NOT RUN for a missing tool.
+# builds and runs the README's example, by pkg-config, in C11 and C++17 with warnings as errors, and by CMake; and a
+# Rust program that depends on bindings/rust. It installs below DESTDIR as packagers do, and uninstalls. Then it makes
+# the archive, unpacks it elsewhere, and uses program and library without the toolchain. The libraries are those of
+# the proved crates, the program that of dist/. Prints a line NOT RUN for a missing tool.
 # usage: tests/libraries/package.sh
 # needs: library
 set -eu

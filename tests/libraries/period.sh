@@ -1,7 +1,7 @@
 #!/usr/bin/env bash
 # Compares the interval records that the library for C writes while it decides with those of `pie
-# explain --every --csv` for the same history, byte for byte: for the worked rows, the examples,
-# random events (bindings/c/events.c) and a history without events, with intervals of 1 ns up to the
+# explain --every --csv` for the same history, byte for byte. The histories are the worked rows, the
+# examples, random events (bindings/c/events.c), and one without events. Intervals have 1 ns up to the
 # greatest time, with and without wall-clock times. The comparison must find a caller that writes a
 # record one event too late, and one that writes it before a refused call.
 #

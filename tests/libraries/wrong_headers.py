@@ -123,7 +123,7 @@ def refused_by(folder, prefix):
 
 def run(command, environment=None):
     """Runs a command. A command that hangs, for example because one of its threads failed, is ended
-    after two minutes and counts as failed."""
+    after twenty minutes and counts as failed."""
     return subprocess.run(["timeout", "1200", *(str(it) for it in command)], env=environment, capture_output=True, text=True)
 
 

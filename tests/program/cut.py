@@ -94,7 +94,7 @@ def histories():
 
 
 def choices(history, chance):
-    """Words that choose events, and the first and the last of these."""
+    """Yields options that choose events, with the first and the last of these events."""
     count = history.count
     events = range(1, count + 1) if count <= SMALL else sorted(chance.sample(range(1, count + 1), PLACES))
     for event in events:
@@ -283,7 +283,7 @@ def check_unmakeable(history, chance):
 
 
 def check_unmakeable_segments(history, text, record, number, every, what):
-    """Its segments follow each other, and the last one differs there."""
+    """Checks that the segments follow each other, and that the last one differs there."""
     status, output, errors = cut(text, "--every", str(every))
     check((status, errors) == (2, DIFFERS.format(number + 1)), f"{what}: --every {every}: status {status}, {errors}")
     parts = segments_of(output)

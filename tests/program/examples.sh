@@ -36,8 +36,9 @@ example reset 789 431 0 19
 [ "$(sed -n 's/^shown,.*,\([01]\)$/\1/p' "$examples/off_and_on.history" | tr '\n' ' ')" = '0 1 0 ' ] ||
     fail 'off_and_on: another course of on and off'
 [ "$(awk -F, '/^reset/ { after = 1 } /early$/ && after' "$examples/reset.history" | wc -l)" = 0 ] || fail 'reset: a drop after it'
-# Up to 100 per cent every pick is a mark, which the sender ignores: the queue is full, and waits are eight times the target. From 10 per cent on each
-# pick is a drop, and the delay is below the target 0.375 s later.
+# With mark_ecnth at 100 per cent each pick is a mark, which the sender ignores: the queue is full, and waits are eight
+# times the target. With 10 per cent, from 0.6 s on, each pick above that probability is a drop, and from 0.975 s on the
+# delay is below the target.
 found=$(awk -F, '/^params/ { after = 1 } /^arrive/ { n[after + 0, $8]++ } /^update/ && !after { before = $4 } /^update/ && $3 >= 975000000 && $4 > most { most = $4 }
     END { printf "%d marks, %d early, %d bytes, %d ms; %d marks, %d early, %d bytes, %d ms", n[0, "mark"], n[0, "early"], n[0, "bytes"], before / 1e6, n[1, "mark"],
           n[1, "early"], n[1, "bytes"], most / 1e6 }' "$examples/ignored_marks.history")

@@ -73,12 +73,12 @@ for name in run migrate 'explain --all'; do
     expect "$name of a missing file" 1 '' "pie: $missing\n" '' $name "$work/missing"
     expect "$name of a folder" 1 '' 'pie: cannot read the input\n' '' $name "$work"
 done
-# -o writes the output to a new file and leaves no other file beside it.
+# -o writes the output to a new file and leaves no other file in the folder.
 made=$work/folder/made
 mkdir "$work/folder"
 
-# holds NAME [TEXT]: checks that the file has this text, as for printf, or that there is no such
-# file; and that there is no other file beside it
+# holds NAME [TEXT]: checks that the file has this text, as for printf, or without TEXT that it does not
+# exist; and that the folder has no partial file of it
 holds() {
     [ $# = 1 ] && [ -e "$made" ] && fail "$1: the file is there"
     [ $# = 1 ] || { printf -- "$2" | cmp - "$made" || fail "$1: the file has another text"; }
@@ -108,8 +108,8 @@ written 'explanations to a file' 0 "$header$lost" "$history" explain --csv --los
 written 'a migration to a file' 0 "$two" "$one" migrate
 errors=$differs written 'explanations up to an event that differs, to a file' 2 "${header}$begins" '' explain "$work/changed" --csv --event=1
 
-# After a fault the partial output stays beside the file, and an existing file is unchanged. The partial output of
-# an earlier fault stays too.
+# After a fault the partial output remains in FILE.partial, and an existing file is unchanged. The partial output of
+# an earlier fault remains too.
 until='this file has the incomplete output'
 fault='pie: record 3: wrong number of fields\n'
 begun='open,0,4,16,100\ndepart,1,9,empty\n'
@@ -128,12 +128,12 @@ expect 'a mistake that is found late, to a file' 1 '' 'pie: --from must not be a
 holds 'a mistake that is found late, to a file' older
 rm "$made"
 
-# During a run: a new file beside a private one is private from the start. A file that appears under
-# the name of -o meanwhile stays unchanged without --force.
+# During a run: the partial file of a private file is private from the start. A file that appears under
+# the name of -o meanwhile is unchanged without --force.
 mkfifo "$work/slow"
 
-# slowly MODE ACT WORDS..: runs a trace that ends only when the file beside the one of -o exists,
-# has this mode, and ACT was done. Sets status.
+# slowly MODE ACT WORDS..: runs a trace that ends only when the partial file of -o exists, has this
+# mode, and ACT was done. Sets status.
 slowly() {
     local mode=$1 act=$2
     shift 2

@@ -19,7 +19,8 @@ has_server() {
     ip netns exec "$1" grep -q ':0840 ' /proc/net/udp /proc/net/udp6
 }
 
-# one TEST SERIES: runs a test of flent's beside TCP. Status 1 if flent wrote fewer series: on a busy machine irtt's first packets may come too late
+# one TEST SERIES: runs a test of flent with TCP. Status 1 if flent wrote fewer series: on a busy machine the first
+# packets of irtt may be too late
 one() {
     local test=$1
     folder=$work/$1-$try

@@ -1,8 +1,8 @@
 #!/usr/bin/env bash
-# Sends a UDP flood beside four TCP flows through the link in user space (examples/link). While it runs, the link
-# must report the flood by its addresses and ports, and afterwards one line of `pie explain --flows` must, with the
-# file of flows. Each flow that the link reported had the most bytes of its half second according to the history,
-# which is clean and contains no flow without a line in the file. Without root or /dev/net/tun the script runs in
+# Sends a UDP flood and four TCP flows through the link in user space (examples/link). While it runs, the link must
+# report the flood by its addresses and ports. Afterwards one line of `pie explain --flows` with the file of flows
+# must do so. The history must be clean. According to it, each flow that the link reported had the most bytes of its
+# half second, and each flow has a line in the file. Without root or /dev/net/tun the script runs in
 # user-mode Linux, bench/uml. Prints a line NOT RUN if a program is missing.
 # usage: tests/program/flood.sh [PROGRAM]      PROGRAM: crates/pie/out/pie by default
 # needs: program, library, root, quiet
@@ -37,7 +37,7 @@ kill -TERM "$process"
 wait "$process"
 clean_up
 
-# each flow that is named at the end of a half second had the most of its bytes
+# each flow that was reported at the end of a half second had the most bytes in it
 "$program" explain --csv --every 500ms --flows 1 "$work/history" > "$work/tops"
 python3 - "$work/link" "$work/tops" > "$work/wrong" <<'END'
 import csv, re, sys

@@ -3,8 +3,8 @@
 # PIE. Both histories must be clean, and the mean waiting time must be lower with PIE. If the machine is so slow
 # that TCP does not fill the queue, the runs are repeated with twice the time. The link's options must give the
 # opening of `pie params` with the same options. Then a link with a changing rate and grants is killed during a
-# transfer, and the texts of its flight recorder, one written on request and one from its file, are audited; each
-# event must have a wall-clock time. First comes the test of packets: marks in IPv4 and IPv6 headers, and checksums.
+# transfer. The texts of its flight recorder are audited, one written on request and one from its file; each event
+# must have a wall-clock time. The first test is that of packets: marks in IPv4 and IPv6 headers, and checksums.
 # Without root or /dev/net/tun the script runs in user-mode Linux, bench/uml. Prints a line NOT RUN if a program is
 # missing.
 # usage: tests/program/link.sh [PROGRAM]      PROGRAM: crates/pie/out/pie by default

@@ -1,7 +1,7 @@
 #!/usr/bin/env python3
-"""Compares the manual page and the completions with the program: man/pie.1 and the completions for bash, zsh and
-fish must contain exactly the subcommands and long options of `--help`, and so must the page's synopsis of each
-subcommand, unless it ends in dots. If bash, zsh and fish are installed, the script also asks them for completions.
+"""Compares the manual page and the completions with the program. man/pie.1 and the completions for bash, zsh and
+fish must contain exactly the subcommands and long options of `--help`. The page's synopsis of each subcommand must
+do so too, unless it ends in dots. If bash, zsh and fish are installed, the script also tries their completions.
 The options of man/pie-report.1 and man/pie-metrics.1 must be those of `pie-report --help` and `pie-metrics --help`.
 The exit status is 1 if an option is missing or unknown.
 

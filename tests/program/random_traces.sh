@@ -1,7 +1,7 @@
 #!/usr/bin/env bash
-# Runs the built program on random traces, and compares each history with that of tests/shared/reference.py, which looks back over the
-# whole list of events and shares no code with it. Then it audits the history, which is clean, and the history with one verdict
-# changed, which differs at that event.
+# Runs the built program on random traces, and compares each history with that of tests/shared/reference.py, which looks
+# back over the whole list of events and shares no code with the program. Then it audits the history, which must be
+# clean, and the history with one changed verdict, which must differ at that event.
 # usage: tests/program/random_traces.sh [PROGRAM [FIRST_SEED [RUNS [STEPS]]]]      PROGRAM: crates/pie/out/pie by default
 # needs: program
 . "$(dirname "$0")/../shared/script.sh"

@@ -1,8 +1,8 @@
 #!/usr/bin/env python3
-"""Passes texts to the built program in reads of all sizes. The status, output and error stream
-of `run`, `audit`, `explain --all --csv` and `cut --every` must be those of the reader and the
-references of tests/shared, which have the whole text at once. The reads return 1, 2, 3 or more
-bytes each, or there are two reads, split at a byte (tests/shared/refuse.c). The texts are:
+"""Passes texts to the built program in reads of all sizes: reads of 1, 2, 3 or more bytes each, or
+two reads, split at a byte (tests/shared/refuse.c). The status, output and error stream of `run`,
+`audit`, `explain --all --csv` and `cut --every` must be those of the reader and the references of
+tests/shared, which read the whole text at once. The texts are:
 
 - short ones, each split at every byte: quotes, carriage returns, empty lines, NUL bytes, byte order marks, and ends without a line feed;
 - random traces and histories with random changes of that kind, long fields and odd numbers among them;

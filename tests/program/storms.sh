@@ -47,9 +47,8 @@ for words in '--senders 2' '--packets 7' '--burst 3' '--seed 0' '--senders=2 --p
         failed=1
     fi
 done
-# The threads run concurrently: with a hundred packets each, the caller changes at least a hundred times, as --count
-# reports beside the number of events. (On a busy machine the threads may run one after another: such a storm is
-# repeated.)
+# The threads run concurrently: with a hundred packets each, the caller changes at least a hundred times, according to
+# --count. (On a busy machine the threads may run one after another: such a storm is repeated.)
 for _ in 1 2 3 4 5 6 7 8 9 10; do
     "$program" storm --senders 8 --packets 100 --count > "$work/output" 2> "$work/errors"
     events=$("$program" audit < "$work/output")
@@ -62,8 +61,8 @@ if [ "$events" != "clean,$told" ] || [ "$changes" != "$counted" ] || [ "$changes
     echo "$script: a storm and its counts: $events, $counted changes of caller, $(cat "$work/errors")"
     failed=1
 fi
-# Changes of the parameters and folds take part: seven changes, the first with a reference delay of 5 ms and the
-# second with the default, and the same number of events as without folds, which remove half of them from the log.
+# Changes of the parameters and folds occur in a storm: there are seven changes, the first with a reference delay of
+# 5 ms and the second with the default. The folds remove half of the events from the log; no event is missing.
 "$program" storm --senders 8 --packets 100 --changes 7 --folds 9 > "$work/output" 2> "$work/errors"
 got=$?
 changed=$(awk -F, '$1 == "params" { print $4 }' "$work/output" | sort | uniq -c | tr -s ' \n' ' ')

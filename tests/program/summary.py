@@ -1,8 +1,8 @@
 #!/usr/bin/env python3
 """Compares `pie explain --summary` and `--every` with a separate computation over the records of
-`pie explain --all --csv`: for each history of examples/, and for random ones by
-tests/shared/reference.py, the summaries in words and as CSV, of all events, of those within some
-moments, and of each interval, with its length in each notation. `--digest` must be these summaries
+`pie explain --all --csv`. The histories are those of examples/, and random ones of
+tests/shared/reference.py. The summaries are in words and as CSV, of all events, of those within some
+moments, and of each interval, with its length in each notation. `--digest` must print these summaries
 and the words of `--lost` and `--marked`, in their order. The exit status is 1 if something differs.
 
 usage: tests/program/summary.py [PROGRAM [FIRST_SEED [RUNS [STEPS]]]]      PROGRAM: crates/pie/out/pie by default

@@ -1,9 +1,13 @@
 #!/usr/bin/env python3
-"""Checks the Grafana dashboard (report/grafana.json), because Debian has no Grafana to draw it: panels have unique
-ids, places that do not overlap and fill whole rows, units that fit their queries, and queries whose metrics the C
-code (examples/shared/metrics.c) or report/pie-metrics writes, with both labels, and a rate for each counter and for
-nothing else. Each metric except those of errors has a panel. The C code and pie-metrics have the same names, except
-those that only one of them can know. promtool, if it is installed, parses each query.
+"""Checks the Grafana dashboard (report/grafana.json), because Debian has no Grafana to draw it:
+
+- Panels have unique ids. Their places do not overlap and fill whole rows. Their units fit their queries.
+- The C code (examples/shared/metrics.c) or report/pie-metrics writes each metric of a query, with both labels.
+- A query has a rate for each counter and for nothing else.
+- Each metric except those of errors has a panel.
+- The C code and pie-metrics have equal names, except those of which only one of them has the numbers.
+
+If promtool is installed, it parses each query.
 
 usage: tests/report/dashboard.py
 needs: nothing

@@ -405,7 +405,8 @@ def overload_link(folder):
 
 
 def has_all(samples, sent):
-    """An empty queue is not enough: the device may still hold packets that the link has not read."""
+    """Returns true if all sent packets arrived at the link and its queue is empty. An empty queue alone is not
+    enough: the device may have packets that the link has not read."""
     return samples["arrived_packets_total"] >= sent and samples["queue_packets"] == 0
 
 

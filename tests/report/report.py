@@ -4,10 +4,10 @@ policy in its head must fit its script and style. With --flows the flows must be
 page of a history that differs or has a fault must say so. Hostile texts must stay text. FILE must be written as
 `pie -o` writes it.
 
-Then Debian's Chromium opens pages of examples/, of an excerpt, and of damaged histories: its console must be empty,
-the visible numbers must be those of `pie explain --summary`, zoom, click, search and keys must work, no picture may
-be blank, and windows of any width must fit, also with the greatest numbers. The axes must have wall-clock times if
-the history has them, and otherwise moments in a suitable unit, for no time and for 36 years.
+Then Debian's Chromium opens pages of examples/, of an excerpt, and of damaged histories. Its console must be empty.
+The visible numbers must be those of `pie explain --summary`. Zoom, click, search and keys must work. No picture may
+be blank, and the page must fit windows of any width, also with the greatest numbers. The axes must have wall-clock
+times if the history has them, otherwise moments in a suitable unit, for histories of no time up to 36 years.
 
 usage: tests/report/report.py [PROGRAM [PICTURES]]      PROGRAM: crates/pie/out/pie by default; PICTURES: a folder for the pictures
 needs: program

@@ -53,7 +53,7 @@ def step(queue, record):
 
 
 def asked(chosen):
-    """Records of a trace, but new parameters, as an array of events."""
+    """Returns the records of a trace, except new parameters, as an array of events."""
     made = jb.events([jb.Kind[it[0].upper()] for it in chosen], [int(it[2]) for it in chosen], caller=[int(it[1]) for it in chosen])
     for event, record in zip(made, chosen):
         if record[0] == "arrive":

@@ -147,7 +147,7 @@ def pace_panel():
     panel = Panel("The probability at one delay", "s", "", [(it, str(it)) for it in range(4)], parts, ylog=True)
     seconds = UPDATE / 1e9
     rising = probabilities(30_000_000, 180, DEFAULTS)
-    # one update makes it 1, and one at no delay and without gains forgets the delay before
+    # the first update raises the probability to 1; the second, without delay and gains, clears the old delay
     still = (*DEFAULTS[:3], 0, 0, *DEFAULTS[5:])
     start = [("params", 1, 0, *DEFAULTS[:3], 0, 10**6, *DEFAULTS[5:]), *[("arrive", 1, 0, 0, 1000, "not", 0)] * 3, ("depart", 1, 3 * 10**9),
              ("update", 1, 3 * 10**9), ("params", 1, 3 * 10**9, *still), ("depart", 1, 3 * 10**9), ("depart", 1, 3 * 10**9), ("update", 1, 4 * 10**9),

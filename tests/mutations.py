@@ -52,7 +52,7 @@ CALLED = re.compile(r"\b(\w+)(?:::<[^()]*>)?\(")
 # The prover's messages at a limit of its own, and for a text that it cannot read.
 LIMIT = re.compile(r"antt ran out of|outgrew the memory limit|stopped at the step limit")
 UNREAD = re.compile(r"error\[[\w-]+\]|error: rattle does not read|src/\S+: error: (?!`)|(is not in scope|is no name|operand is missing|expected the end|cannot continue)")
-# A refusal that shows little: a proof file uses a name that the edit removed.
+# A rejection without meaning: a proof file uses a name that the edit removed.
 NAMES = re.compile(r"(note: )?(\./)?proofs/.*(has no field|is not in scope|has no `|was not admitted)")
 
 
@@ -241,7 +241,7 @@ def checked(kit, kept, mutations, functions):
 def judged(done):
     """Returns True if the prover rejected the copy, and a message; None if the copy is still proved."""
     lines = done.stdout.rstrip("\n").split("\n")
-    # (its name is no function's, or that of several)
+    # (no function has this name, or several have it)
     if done.returncode == 0 or done.returncode == 2 and "has no function" in done.stdout or "fits several" in done.stdout:
         return None
     told = [line for line in lines if re.match(r"(note: )?\S+:\d+:\d+:", line) and (": error" in line or line.startswith("note: "))]

@@ -13,7 +13,7 @@ cloudpickle.register_pickle_by_value(work)
 # Some histories for one task. `host` is the machine that has them, or None if every worker sees them.
 Batch = namedtuple("Batch", "host files")
 TRIES = 3
-# The limits of a batch. A batch costs some milliseconds beside its histories, and its rows return together.
+# The limits of a batch. A batch costs some milliseconds more than its histories, and its rows return together.
 MOST_FILES, MOST_BYTES = 64, 2 ** 25
 
 

@@ -45,13 +45,13 @@ COMMENT = re.compile(r"^\s*(?:(///|//!|//|--) ?)(.*)$")
 # a name, with or without the names of its type or value before it, and with or without arguments
 QUOTED = re.compile(r"`([A-Za-z_]\w*(?:(?:::|\.)\w+)*)(?:\([^`]*\))?`")
 SPAN = re.compile(r"`([^`]+)`")
-# what is in parentheses, and a list of names after "clause"
+# text in parentheses, and a list of names after "clause"
 ASIDE = re.compile(r"\([^()]*`[^()]*\)|\b[Cc]lauses? `\w+`(?:(?:, | and |, and )`\w+`)*")
 CLAUSE = re.compile(r"\b(?:ensures|requires|invariant|decreases)\*? (\w+) \{")
 FIELD = re.compile(r"^ +pub (\w+) :", re.M)
 ITEM = re.compile(r"\b(?:fn|mod|struct|enum|union|trait|type|const|static|crate|record|data|"
                   r"abbrev pub|unfoldable pub|^pub(?= \w+ :)) (\w+)", re.M)
-# what a crate has beside clauses and items
+# the parts of a crate other than clauses and items
 DECLARED = [re.compile(it, re.M) for it in (
     r"^ *(\w+)(?: ?[({].*)?,$",  # variants
     r"(?<![\w ])([\w ]+):(?!:)",  # fields, parameters, lemmas

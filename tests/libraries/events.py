@@ -28,7 +28,7 @@ SEED = int(sys.argv[2]) if len(sys.argv) > 2 else 1
 STEPS = int(sys.argv[3]) if len(sys.argv) > 3 else 120
 PACKETS, START, ROOM, CHANGES = 7, 5, 256, 24
 ARRIVE, DEPART, UPDATE, PARAMS = 1, 2, 3, 5
-# of each kind the fields that are answers, or that the queue answers
+# for each kind of event, the fields that the call or the queue fills in
 ANSWERED = {ARRIVE: ["answer", "kind"], DEPART: ["tag", "size", "ecn", "answer", "kind"], UPDATE: ["delay", "prob", "burst", "answer", "kind"]}
 
 

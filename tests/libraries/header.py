@@ -288,7 +288,7 @@ def compare_link(root):
     names = {**TYPES, "PiePort": "pie_port", "PieExcerpt": "pie_excerpt", "PieRegisters": "pie_registers", "PieTotals": "pie_totals"}
     text = "\n".join(read_source(root / f"crates/{it}/src", "*.rt") for it in ("pie_port", "pie_link_c"))
     source = Rust(text, names, r'pub extern "C" ')
-    # (a `Global` takes no bytes: C hands nothing over)
+    # (a `Global` takes no bytes: C passes nothing for it)
     calls = {name: (result, [it for it in given if it[0] != "Global"]) for name, (result, given) in source.functions.items()}
     given = {name: (result, [(kind, {"added": "new"}.get(field, field)) for kind, field in it]) for name, (result, it) in header.functions.items()}
     yield from same("include/pie_link.h: calls", given, calls, "in crates/pie_link_c/src")

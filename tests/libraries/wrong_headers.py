@@ -19,7 +19,7 @@ ROOT = Path(__file__).resolve().parents[2]
 HEADER, PAGE, CRATE, LINK = "include/pie.h", "docs/LIBRARY.md", "bindings/rust/src/", "bindings/rust/src/link.rs"
 ARRIVE = "uint64_t queued, uint32_t size, uint32_t room, uint32_t ecn, uint64_t word"
 
-# of each: a name, the file, and pairs of a text, which the file has once, and its replacement
+# each edit: a name, the file, and pairs of a text that occurs once in the file, and its replacement
 EDITS = [
     ("room and ecn exchanged", HEADER, "uint32_t room, uint32_t ecn,", "uint32_t ecn, uint32_t room,"),
     ("text and length exchanged", HEADER, "pie_read_time(const char *text, size_t length", "pie_read_time(size_t length, const char *text"),

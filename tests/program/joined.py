@@ -23,7 +23,7 @@ from running import PROGRAM, run  # noqa: E402
 
 FIRST, RUNS = ([int(word) for word in sys.argv[2:4]] + [1, 16][len(sys.argv[2:4]) :])[:2]
 EVENTS = 40
-# The places of fields in a record `resume`: the number of events, the event that set the probability, and the first statistic.
+# The positions of fields in a record `resume`: the number of events, the event that set the probability, and the first statistic.
 COUNT, SET_BY, STATISTICS = -31, -30, -15  # counted from the end, because the record may have the decay or not
 tried = {"follow": 0, "gaps": 0, "unlike": 0, "faults": 0, "differ": 0, "statistics": 0, "packets": 0, "cut": 0, "cut to a difference": 0}
 

@@ -18,7 +18,7 @@ from checks import NAME, check, finish, program  # noqa: E402
 
 PROGRAM = program()
 TAIL, PACKETS, PAIRS, FOLD, MANY = 2**20, 65536, 600_000, 5000, 10_000_000
-# A threshold of 65536 bytes for a cycle of the departure rate, which no queue here reaches: so no delay and no probability is above 0.
+# No queue here reaches the dq_threshold of 65536 bytes, so no delay and no probability is above 0.
 OPENING = f"0,{PACKETS},{TAIL},4194304,15000000,15000000,150000000,125,1250,1024,262144,100000000000,65536\n"
 HEADER = (
     "number,kind,caller,moment,effective_moment,tag,size,verdict,cause,bytes,packets,delay,probability,accumulated_probability,burst_allowance,"

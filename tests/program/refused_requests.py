@@ -57,7 +57,7 @@ def refused(library, met, name, words, given, variables=tuple(FAULTS), **more):
     want, counts = run(words, given)[1], {}
     for variable in variables:
         says = FAULTS[variable]
-        # (a short text's memory is refused once alone, since a long one's is refused from there on too)
+        # (for a short text only a single request is refused; for a long text also all requests after it)
         for on in ONCE_AND_ON[:1] if more and variable == "REFUSE_MEMORY" else ONCE_AND_ON:
             for place, (status, output, errors), is_refused in in_turn(library, met, words, given, variable, on, **more):
                 counts[variable] = place - 1

@@ -22,7 +22,7 @@ from excerpts import audited, changed, explained, rows_within  # noqa: E402
 FIRST, RUNS = ([int(word) for word in sys.argv[2:4]] + [1, 16][len(sys.argv[2:4]) :])[:2]
 # The most events of a history, and the distance between two places at which it is resumed.
 EVENTS, STEP = 60, 7
-# The places from which the sums of a text were those of the whole.
+# The places at which the sums of an excerpt were compared with those of the whole history.
 summed = []
 
 

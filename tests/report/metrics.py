@@ -290,7 +290,7 @@ def of_flights(folder):
     def delay_of(last):
         return next(it for it in reversed(delays[:last]) if it is not None)
 
-    # (the last event before this one after which the delay differs from the last update's)
+    # (the last earlier event at which the delay differs from that of the last update)
     ends = {end: max(it for it in range(100, end + 1) if delay_of(it) != rows[it - 1]["delay_after"]) for end in (500, 700)}
     for first, last in ((200, ends[500]), (300, ends[500]), (450, ends[700]), (800, len(rows)), (800, len(rows))):
         text, part = Path(folder, "flight.text"), Path(folder, "flight.history")
@@ -389,7 +389,7 @@ def overload_link(folder):
     with socket.socket(socket.AF_INET, socket.SOCK_DGRAM) as sender:
         begun, sent, looked = time.monotonic(), 0, 0
         while looked < 3 or read(files["prom"].read_text())["early_drops_total"] == 0:
-            # (850 bytes each 0.8 ms in the mean, however late this process is)
+            # (850 bytes each 0.8 ms on average, even if this process is late)
             for _ in range(min(int((time.monotonic() - begun) / 0.0008) - sent, 100)):
                 sender.sendto(b"x" * (500 + sent % 700), (HOSTS[1], 9))
                 sent += 1

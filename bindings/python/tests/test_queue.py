@@ -59,12 +59,12 @@ def test_a_link_is_what_its_single_calls_are(changes, tmp_path):
     pie = by_single_calls(opening, [int(it) for it in moments], sizes, ecn, words, rate, 10**10, jb.Recorder(other, opening))
     assert one.getvalue() == other.getvalue() and queue.state == pie.state and queue.packets == 0
     assert jb.text_of(opening, events) == one.getvalue()
-    # in many calls as in one, also if the ring has to grow
+    # many calls have the results of one call, also if the ring must grow
     halves = Queue(opening)
     parts = [halves.offer(moments[at:at + 333], sizes[at:at + 333], rate, ecn=ecn[at:at + 333], words=words[at:at + 333])
              for at in range(0, len(moments), 333)]
     assert np.array_equal(np.concatenate([*parts, halves.offer([], [], rate, until="10s")]), events)
-    # and the same events decided again, in an array and one at a time
+    # the events are decided again, in an array and one at a time
     assert np.array_equal(Queue(opening).decide(events), events)
     place = tmp_path / "history"
     place.write_bytes(one.getvalue())

@@ -17,8 +17,8 @@ for line in open(sys.argv[1]):
 pairs = [pair.split("/") for pair in sys.argv[2:] if "/" in pair]
 alone = [name for name in sys.argv[2:] if "/" not in name]
 load = " ".join(open("/proc/loadavg").read().split()[:2])
-print(f"load {load} (the last minute, the last five) on {os.cpu_count()} processors; best (median) of so many runs in turn")
-print("| measured | runs | here | beside it | ratio |")
+print(f"load {load} (the last minute, the last five) on {os.cpu_count()} processors; best (median) of the runs in turn")
+print("| measured | runs | here | the other | ratio |")
 print("|---|---|---|---|---|")
 
 

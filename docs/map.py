@@ -97,7 +97,7 @@ def wrong():
     """Yields the differences of picture and page from crates.txt."""
     crates, picture = all_crates(), PICTURE.read_text()
     drawn = {html.unescape(it) for it in re.findall(r"<title>(.*?)</title>", picture)}
-    yield from (f"docs/map.py: {one} does not stand on {other}" for one, other, _ in steps() if other not in crates.get(one, [[]])[0])
+    yield from (f"docs/map.py: {one} does not depend on {other}" for one, other, _ in steps() if other not in crates.get(one, [[]])[0])
     ways = [(door, way[0]) for door, (_, way) in WAYS.items()]
     wanted = {*crates, *(f"{it[0]}->{it[1]}" for it in [*arrows(crates), *ways, *steps()])}
     yield from (f"docs/crates.svg lacks {it}" for it in sorted(wanted - drawn))

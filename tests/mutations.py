@@ -94,7 +94,7 @@ class Mutation:
         for file, old, new in self.steps():
             text = texts.get(file) or (self.folder / file).read_text()
             if text.count(old) != 1:
-                sys.exit(f"{ME}: {self.name}: it does not stand in {file} once: {old.strip()}")
+                sys.exit(f"{ME}: {self.name}: this text does not occur exactly once in {file}: {old.strip()}")
             self.functions.append(function_at(file, text, text.index(old)))
             texts[file] = text.replace(old, new)
 

@@ -99,7 +99,7 @@ static const char *see_departure(const struct registers *before, const struct pa
     if (after->rate.begun)
         is_same = is_same && pie.start_measurement == after->rate.start && pie.departed_bytes_count == after->rate.count;
     alike++;
-    return is_same ? NULL : "DPDK comes to another departure rate";
+    return is_same ? NULL : "DPDK has another departure rate";
 }
 
 struct change {
@@ -142,11 +142,11 @@ static const char *see_update(const struct registers *before, const struct step 
     _calc_drop_probability(&config, &pie, before->moment);
     if (pie.burst_allowance != (burst > config.dp_update_interval ? burst - config.dp_update_interval : 0) &&
         (int64_t)burst - (int64_t)config.dp_update_interval >= 0)
-        return "DPDK comes to another burst allowance";
+        return "DPDK has another burst allowance";
     struct change it = {before, step->delay};
     int found = fewest(DIFFERENCES - UNSIGNED, comes_to, &it);
     if (found < 0)
-        return "DPDK comes to another probability, by no difference that is named";
+        return "DPDK has another probability, and no named difference explains it";
     other_decays += decays_after(before, step->delay, before->control.old_delay) && before->control.prob != 0 && decays_with((unsigned)found, &it);
     return count_differences(differences, found << UNSIGNED) ? NULL : "unnamed";
 }

@@ -201,7 +201,7 @@ static const char *see_update(const struct registers *before, const struct step 
     struct change it = {before, (double)step->delay / 1e9, (double)vars->prob / MAX_PROB, grain + 2e-12, decays_here};
     int set = fewest(CALM - FAR, comes_to, &it);
     if (set < 0)
-        return "Linux comes to another probability, by no difference that is named";
+        return "Linux has another probability, and no named difference explains it";
     other_decays += decays_here && prob != 0 && !(set >> (HOLDS - FAR) & 1) && !(set >> (ZERO - FAR) & 1);
     bool is_calm = vars->accu_prob == 0 && before->accu != 0;
     if (is_calm && after->control.burst != before->params.max_burst)

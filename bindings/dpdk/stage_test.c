@@ -166,7 +166,7 @@ static void test_full(void) {
     EXPECT(stats.queued == 2 && stats.bytes == 1 && stats.oversized == 2 && stats.refused == 0);
     pie_stage_free(stage);
     expect_all_back();
-    printf("stage_test: a full queue, oversized packets, and mbufs handed back\n");
+    printf("stage_test: a full queue, oversized packets, and returned mbufs\n");
 }
 
 /* A link of 100 Mbit/s with twice its load, for a simulated second with marks up to the probability 1: packets are marked, and those that

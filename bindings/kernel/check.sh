@@ -42,7 +42,7 @@ if [ "$(grep '^crates ' $here/MANIFEST)" = "$(grep '^crates ' dist/MANIFEST)" ];
     cmp -s "$work/kernel.history" bindings/c/example.history || echo "bindings/kernel: the example's history by dist/ and by this assembly is older than the stored one"
     echo "bindings/kernel: the example decides as by dist/, $(wc -l < "$work/kernel.history") records"
 else
-    echo "NOT RUN: bindings/kernel: dist/ is of other crates than pie_kernel.S (bindings/kernel/make.sh makes it anew), so the example was not compared"
+    echo "NOT RUN: bindings/kernel: dist/ and pie_kernel.S (see bindings/kernel/make.sh) are of different crates; the example was not compared"
 fi
 
 cc -O2 -Wall -Wextra -Iinclude -o "$work/pie-tap" $here/pie_tap.c -x assembler dist/x86_64/pie_c.S

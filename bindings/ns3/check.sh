@@ -67,4 +67,4 @@ if [ "$(wc -l <<< "$told")" -lt 2 ] || [ "$told" != "$found" ] || ! grep -q '^0x
     cat "$work/flows"
     exit 1
 fi
-echo "bindings/ns3: the file tells each flow of the history ($(wc -l <<< "$told") flows)"
+echo "bindings/ns3: the file lists each flow of the history ($(wc -l <<< "$told") flows)"

@@ -169,5 +169,5 @@ if __name__ == "__main__":
         tell(fault)
         sys.exit(1)
     except KeyboardInterrupt:
-        tell("stopped: the same command goes on where it was")
+        tell("stopped: the same command continues")
         sys.exit(130)

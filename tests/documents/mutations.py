@@ -43,7 +43,7 @@ def main():
     files = sorted(ROOT.glob("crates/*/mutations.txt"))
     found = [line for path in files for line in stale(path)]
     count = sum(path.read_text().count("\nname: ") + path.read_text().startswith("name: ") for path in files)
-    print("\n".join(found) or f"{NAME}: {count} mutations stand in the code as it is")
+    print("\n".join(found) or f"{NAME}: {count} mutations have their texts in the code")
     sys.exit(bool(found) or not count)
 
 

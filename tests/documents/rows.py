@@ -96,7 +96,7 @@ ROWS = {
     "each call of a link, by one thread": ["c ports calls", "library a_caller_of_65535_is_answered_and_closes"],
     "events of several threads, each once": ["c ports threads", "c ports bursts_of_several"],
     "a full log of a link, and its folds": ["c ports bursts"],
-    "who reads a link is told what others did": ["c ports calls"],
+    "a reader of a link sees the events of others": ["c ports calls"],
     "senders are at work at once: two and eight see each other's flags": ["library senders_see_the_flags_of_all_others"],
     "a held sender comes last": ["library a_held_sender_comes_last"],
     "a storm of five events": ["library plans_of_storms_are_checked", f"script {STORMS} open,0,1024,5,5"],

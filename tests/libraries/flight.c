@@ -89,7 +89,7 @@ static void expect_ended(const struct queue *queue) {
     for (i = 0; i < ended_count; i++) {
         const struct packet *it = &queue->packets[(queue->first + i) % MOST_WAITING];
         expect(ended[i].tag == it->tag && ended[i].since == it->since && ended[i].size == it->size && ended[i].ecn == it->ecn,
-               "a packet that waits is told otherwise", i);
+               "another queued packet", i);
     }
 }
 

@@ -14,7 +14,7 @@ set -u
 header_test flight 1 "${1:-50000}"
 header_test flight_steps 1 200
 
-# wrong NAME OLD NEW [TEST COUNT]: a header with this change is found
+# wrong NAME OLD NEW [TEST COUNT]: a test must find this fault of the header
 wrong() {
     cp include/pie.h include/pie_text.h "$work"
     python3 - "$2" "$3" "$work/pie_flight.h" <<'END' || exit 1
@@ -30,35 +30,35 @@ END
         failed=1
     fi
 }
-wrong "a snapshot that counts an event less" "to[PIE_FLIGHT_COUNT], flight->count)" "to[PIE_FLIGHT_COUNT], flight->count - 1)"
-wrong "a snapshot an event late, of a burst's packets" "    pie_flight_end(flight, &burst);
+wrong "a snapshot counts one event too few" "to[PIE_FLIGHT_COUNT], flight->count)" "to[PIE_FLIGHT_COUNT], flight->count - 1)"
+wrong "a snapshot is taken before the last event is kept" "    pie_flight_end(flight, &burst);
     if (pie_flight_is_due(flight))
         pie_flight_snapshot(flight, state);" "    if (pie_flight_is_due(flight))
         pie_flight_snapshot(flight, state);
     pie_flight_end(flight, &burst);"
-wrong "an arrival's moment as it was handed in" \
+wrong "a queued packet has the caller's moment in place of the effective one" \
     "pie_flight_came(flight, event, state->moment," "pie_flight_came(flight, event, event->moment,"
-wrong "a marked packet that is queued as it came" \
+wrong "a marked packet is queued without CE" \
     "event->answer == PIE_MARK ? (uint64_t)PIE_CE : event->ecn);" "event->ecn);"
-wrong "packets that are overwritten too soon" "layout->queued = packets;" "layout->queued = packets / 2 + 1;"
-wrong "packets that departed since, not told by their departures" "number != kept && left != came &&" "number != kept && left + 1 < came &&"
-wrong "a packet that waits, told by its neighbour's place" \
+wrong "the ring of packets is too small" "layout->queued = packets;" "layout->queued = packets / 2 + 1;"
+wrong "a packet that departed since the snapshot is missing" "number != kept && left != came &&" "number != kept && left + 1 < came &&"
+wrong "a queued packet is read from the next place" \
     "words + layout->queued_at + left % layout->queued" "words + layout->queued_at + (left + 1) % layout->queued"
-wrong "parameters a bit too narrow" "{34, 34, 40, 20, 20, 16, 31, 40, 5}" "{34, 34, 40, 20, 19, 16, 31, 40, 5}"
-wrong "a snapshot of the newest alone" "count >= oldest ||" "(count <= oldest && found != NULL) ||"
-wrong "the numbers begun anew" "PIE_LOAD(snapshot[PIE_FLIGHT_COUNT]), PIE_UNKNOWN" "UINT64_C(0), PIE_UNKNOWN"
-wrong "a time of day at its own moment" "PIE_FLIGHT_CLOCK], unix_time - moment" "PIE_FLIGHT_CLOCK], unix_time"
-wrong "a time of day before the packets that wait" "    pie_flight_text_queue(text, words, layout, snapshot);
+wrong "a parameter has one bit too few" "{34, 34, 40, 20, 20, 16, 31, 40, 5}" "{34, 34, 40, 20, 19, 16, 31, 40, 5}"
+wrong "the newest snapshot is used in place of the oldest" "count >= oldest ||" "(count <= oldest && found != NULL) ||"
+wrong "the events of an excerpt are numbered from 0" "PIE_LOAD(snapshot[PIE_FLIGHT_COUNT]), PIE_UNKNOWN" "UINT64_C(0), PIE_UNKNOWN"
+wrong "the wall-clock time is stored without its moment" "PIE_FLIGHT_CLOCK], unix_time - moment" "PIE_FLIGHT_CLOCK], unix_time"
+wrong "the wall-clock time comes before the queued packets" "    pie_flight_text_queue(text, words, layout, snapshot);
     if (unix_time != 0)
         pie_flight_written(text, pie_write_clock(0, unix_time, pie_flight_next(text), PIE_RESUME_ROOM));" "    if (unix_time != 0)
         pie_flight_written(text, pie_write_clock(0, unix_time, pie_flight_next(text), PIE_RESUME_ROOM));
     pie_flight_text_queue(text, words, layout, snapshot);"
-wrong "a snapshot that changed during its copy" "(PIE_LOAD(from[at]) != PIE_LOAD(to[at]))" "(from == to)" flight_steps 200
-wrong "a snapshot that is one while it is written" "    PIE_STORE(to[PIE_FLIGHT_NUMBER], 0);
+wrong "a snapshot that changed during the copy is used" "(PIE_LOAD(from[at]) != PIE_LOAD(to[at]))" "(from == to)" flight_steps 200
+wrong "a snapshot counts as complete while it is written" "    PIE_STORE(to[PIE_FLIGHT_NUMBER], 0);
     PIE_STORE(to[PIE_FLIGHT_COUNT]" "    PIE_STORE(to[PIE_FLIGHT_COUNT]" flight_steps 200
-wrong "an event that is written over while it is copied" "KEPT]) + layout->burst;
+wrong "an event that is overwritten during the copy is used" "KEPT]) + layout->burst;
 }" "KEPT]);
 }" flight_steps 200
-wrong "packets of which later departures tell" "    kept = PIE_LOAD(from[PIE_FLIGHT_KEPT]);
+wrong "the number of events is read before the packets are copied" "    kept = PIE_LOAD(from[PIE_FLIGHT_KEPT]);
     i = kept < layout->events" "    i = kept < layout->events" flight_steps 200
 exit $failed

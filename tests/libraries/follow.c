@@ -80,7 +80,7 @@ static uint64_t part_anew(const char *from, const char *to, uint64_t number) {
     part.bytes = (char *)(uintptr_t)from;
     part.count = (size_t)(to - from);
     last = decide_again(&part, &first);
-    expect(last != 0 && first == number, "a text that begins anew differs, or begins elsewhere", first);
+    expect(last != 0 && first == number, "a new text differs, or begins at another event", first);
     expect(told_unix == UNIX_TIME, "another time of day", told_unix);
     count = ends[last] - ends[number];
     expect(count < part.count && memcmp(to - count, kept.bytes + ends[number], count) == 0, "other events than were kept", number);
@@ -128,7 +128,7 @@ static void random_looks(uint64_t seed, uint64_t events) {
     for (i = 0; i < events; i++) {
         keep_one();
         if (below(&seed, every) == 0)
-            expect(look(&follower, scratch), "it cannot begin anew, though nobody writes", i);
+            expect(look(&follower, scratch), "a new text cannot begin, although no thread writes", i);
     }
     look(&follower, scratch);
     lost = compare();
@@ -168,7 +168,7 @@ static void threads(uint64_t seed, uint64_t events, uint64_t wanted) {
     } while (!is_last);
     pthread_join(writer, NULL);
     expect(compare() == follower.missed, "other numbers are missing than are told, beside a writer", follower.missed);
-    printf("follow: %" PRIu64 " events beside a writer, %" PRIu64 " of them missed and told, %" PRIu64 " texts begun anew\n", flight.count,
+    printf("follow: %" PRIu64 " events during writes, %" PRIu64 " of them missed and reported, %" PRIu64 " new texts\n", flight.count,
            follower.missed, anew - before);
     free(memory);
     free(scratch);
@@ -236,12 +236,12 @@ int main(int count, char **words) {
     expect(pie_flight_follow_open(&follower, nothing, sizeof nothing) == 0, "what is no recorder is followed", 0);
     for (i = 0; i < 40; i++)
         random_looks(seed * 1000 + i, events / 10);
-    expect(anew > 40, "too few texts that begin anew", anew);
+    expect(anew > 40, "too few new texts", anew);
     threads(seed, 4 * events, 200000);
     threads(seed, 4 * events, 1000);
     at_full_speed(50 * events, 2000);
     at_full_speed(20 * events, 100000);
-    printf("follow: %" PRIu64 " looks, %" PRIu64 " texts that began anew\n", looks, anew);
+    printf("follow: %" PRIu64 " calls, %" PRIu64 " new texts\n", looks, anew);
     free(ends);
     free(followed.bytes);
     free(kept.bytes);

@@ -10,7 +10,7 @@ set -u
 . "$(dirname "$0")/../shared/header_test.sh"
 header_test follow 1 "${1:-20000}"
 
-# wrong NAME OLD NEW: a header with this change is found
+# wrong NAME OLD NEW: the test must find this fault of the header
 wrong() {
     cp include/pie.h include/pie_flight.h include/pie_text.h "$work"
     python3 - "$2" "$3" "$work/pie_follow.h" <<'END' || exit 1
@@ -26,11 +26,11 @@ END
         failed=1
     fi
 }
-wrong "one who looks once" "    kept = PIE_LOAD(follower->words[PIE_FLIGHT_KEPT]);
+wrong "the number of kept events is read only once" "    kept = PIE_LOAD(follower->words[PIE_FLIGHT_KEPT]);
     if" "    if"
-wrong "one who trusts a burst that is being put" "kept - follower->next + layout->burst <=" "kept - follower->next <="
-wrong "one who is silent of what it missed" "        if (missed != 0) {" "        if (missed == 1) {"
-wrong "a gap that counts no further than the memory" "follower->untold + count - follower->next" "follower->untold"
-wrong "a new text that begins with the oldest snapshot" "begun, follower->next);" "begun, 0);"
-wrong "a new text that begins where it was" "    follower->next = count;" ""
+wrong "the events that a burst overwrites count as intact" "kept - follower->next + layout->burst <=" "kept - follower->next <="
+wrong "missed events are not reported" "        if (missed != 0) {" "        if (missed == 1) {"
+wrong "the gap ends before the first event of the new text" "follower->untold + count - follower->next" "follower->untold"
+wrong "a new text begins with the oldest snapshot" "begun, follower->next);" "begun, 0);"
+wrong "the follower does not continue at the new text" "    follower->next = count;" ""
 exit $failed

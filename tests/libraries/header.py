@@ -208,7 +208,7 @@ def compare_methods(rust, source):
                 yield from same(f"bindings/rust: State::{name[4:]}", found, wanted)
         for handed in re.findall(rf"unsafe \{{ {name}\((?:self|&mut \w+), ([^)]*)\)", rust):
             found = [*wanted[:1], *(it.replace(" as u32", "").replace("&mut event.0", "event").lstrip("&") for it in handed.split(", "))]
-            yield from same(f"bindings/rust: what {name} is handed", found, wanted)
+            yield from same(f"bindings/rust: the arguments of {name}", found, wanted)
 
 
 def compare_ranges(header, rust, formats):
@@ -301,7 +301,7 @@ def compare_link(root):
     for name in ("pie_registers", "pie_totals"):
         yield from same(f"include/pie_link.h: struct {name}", header.structs.get(name), source.structs.get(name), "in crates/pie_port/src")
     most = re.findall(r"const MOST: usize = (\d+);", source.text)
-    yield from same("include/pie_link.h: how many events a fold hands out", [header.defines.get("PIE_LINK_MOST")], most, "in crates/pie_port/src")
+    yield from same("include/pie_link.h: the most events of a fold", [header.defines.get("PIE_LINK_MOST")], most, "in crates/pie_port/src")
     found = {"PIE_" + name: int(number) for name, number in re.findall(r"const ([A-Z_]+): u32 = (\d+);", source.text)}
     yield from same("include/pie_link.h: codes", header.constants, found, "in crates/pie_port/src")
     words = re.findall(r"case (PIE_\w+): return", header.text)
@@ -440,7 +440,7 @@ PROBES = """/* Written by tests/libraries/header.py: each number of the comments
 #include "pie.h"
 #include <stdio.h>
 #include <string.h>
-#define CHECK(c) do { if (!(c)) { fprintf(stderr, "include/pie.h tells another number: %%s\\n", #c); failed = 1; } } while (0)
+#define CHECK(c) do { if (!(c)) { fprintf(stderr, "include/pie.h: not so: %%s\\n", #c); failed = 1; } } while (0)
 static uint32_t param(uint64_t *field, struct pie_params *params, uint64_t number) {
     uint64_t before = *field;
     *field = number;

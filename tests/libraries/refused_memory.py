@@ -87,7 +87,7 @@ class Program:
         """Refuses each request of each call."""
         for name in REFUSED:
             counts = [self.refuse(library, met, name, is_on) for is_on in (False, True)]
-            check(0 not in counts, name, "makes so many requests:", counts)
+            check(0 not in counts, name, "makes too many requests:", counts)
             print(f"{NAME}: {name}: refused memory at {counts[0]} places, and at {counts[1]} with all after it")
 
     def has_room(self, library, met, name, enough, too_little):

@@ -64,7 +64,7 @@ end=$(awk -v at="$at" 'BEGIN { printf "%.0f", at * 1e9 }')
 line=$("$program" explain --flows 1 --from "$((end - 500000000))ns" --to "$((end - 1))ns" "$work/history" | sed -n 3p)
 row=$(grep "^$number," "$work/flows")
 if [[ $line != "  flow $number: "* || $row != "$number,udp,$near,40000,$far,9" ]]; then
-    echo "$script: the flood's half second says $line; the file tells $row"
+    echo "$script: the flood's half second has $line; the file has $row"
     exit 1
 fi
 events=$(grep -c -E '^(arrive|depart|update),' "$work/history")

@@ -85,7 +85,7 @@ has_times() {
     now=$(date -u +%Y-%m-%dT%H:%M:%S.%NZ)
     read -r first last < <("$program" explain --all --csv --wall < "$1" | awk -F, 'NR == 2 { first = $NF } END { print first, $NF }')
     [[ ! $first < $2 && ! $last < $first && ! $now < $last ]] && return
-    echo "$script: $1 tells its first and last event at $first and $last, and not between $2 and $now"
+    echo "$script: $1 has its first and last event at $first and $last, not between $2 and $now"
     return 1
 }
 since=$(date -u +%Y-%m-%dT%H:%M:%S.%NZ)

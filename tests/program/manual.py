@@ -120,7 +120,7 @@ def compare(where, name, options, wanted):
 def main():
     names, wanted = told()
     if "run" not in names or "help" not in wanted["run"]:
-        fail("what pie --help tells was not read:", names, wanted)
+        fail("pie --help was not understood:", names, wanted)
     man_names, man, page = manual()
     if man_names != names:
         fail("man/pie.1: subcommands", man_names, "and not", names)
@@ -159,7 +159,7 @@ def main():
     for failure in failures:
         print(f"{NAME}:", failure)
     if not failures:
-        print(f"{NAME}: the manual page and the completions have what --help tells")
+        print(f"{NAME}: the manual page and the completions have the options of --help")
     return 1 if failures else 0
 
 

@@ -64,7 +64,7 @@ def main():
     counts = [hold(name, text) for name, text in histories.items()]
     told, summed = sum(it[0] for it in counts), sum(it[1] for it in counts)
     expect("histories", told > 0 and summed > 0 and any("random" in name for name in histories), True)
-    print(f"{NAME}: {len(histories)} histories: the words tell what the probability comes to, of {told} packets, and what was accumulated, of {summed}")
+    print(f"{NAME}: {len(histories)} histories: the words have the scaled probability of {told} packets, and the accumulated one of {summed}")
 
 
 main()

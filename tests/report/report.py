@@ -385,7 +385,7 @@ def hold_zoom(driver, place):
     before = page.run(labels)
     ActionChains(driver).move_to_element_with_offset(chart[0], -200, 0).click_and_hold().move_by_offset(150, 0).release().perform()
     after = page.run(labels)
-    page.says(all(one != other for one, other in zip(before, after)), "a zoom: a chart is as it was")
+    page.says(all(one != other for one, other in zip(before, after)), "a zoom: a chart is unchanged")
     page.says("--from" in page.text("#command"), "a zoom: no command for the time")
     driver.find_element("css selector", "#charts").send_keys("0")
     page.says(page.run(labels) == before and page.text("#command") == "", "key 0: not the whole time")

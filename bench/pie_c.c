@@ -23,7 +23,7 @@
 #define TURN 2048                 /* calls in a turn: library and plain C alternate, so that other work on the machine
                                      affects both */
 #define LINK 80                   /* nanoseconds a byte: 100 Mbit/s */
-#define PACKETS 1500000           /* of the stream: about two minutes */
+#define PACKETS 1500000           /* packets of the stream: about two minutes */
 #define WARM 20000000000ull       /* waits are counted after 20 seconds */
 #define RING 4096
 #define LIMIT (1u << 20)

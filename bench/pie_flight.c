@@ -230,7 +230,7 @@ int main(int count, char **words) {
     scratch = aligned_alloc(64, (bytes + 63) / 64 * 64);
     if (bytes == 0 || memory == NULL || scratch == NULL)
         return 1;
-    /* (its pages are there before anything is measured) */
+    /* (the pages are allocated before the measurement) */
     memset(memory, 0, bytes);
     memset(scratch, 0, bytes);
     open_queue(&alone_queue, events, packets, 0);

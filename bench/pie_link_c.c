@@ -27,8 +27,8 @@
 #define MOST_THREADS 4
 #define MOST_BURST 32
 #define STANDING 256    /* packets that are always queued, so that each departure finds one */
-#define EVENTS 16384    /* that are kept: the recorder's, and the link's log */
-#define PACKETS 4096    /* that the queue has room for */
+#define EVENTS 16384    /* capacity of the recorder and of the link's log */
+#define PACKETS 4096    /* capacity of the queue */
 #define SIZE 1000       /* bytes of a packet */
 #define MAKING 4        /* pauses between two turns, for each packet */
 
@@ -55,7 +55,7 @@ static struct {
 } shared = {.mutex = PTHREAD_MUTEX_INITIALIZER};
 
 static struct pie_opening opening;
-static void *memory; /* of the recorder */
+static void *memory; /* memory of the recorder */
 static size_t memory_bytes;
 static atomic_int is_begun, are_ready, is_over;
 static uint64_t ends_at;

@@ -35,7 +35,7 @@ static void add(struct sum *sum, uint64_t kind, uint64_t moment) {
 }
 
 static struct worker {
-    struct pie_port port; /* its number is that of its place; number 0 folds */
+    struct pie_port port; /* its caller number is its index; number 0 folds */
     struct sum sum;
     uint64_t busy; /* times that another had the turn */
     pthread_t id;

@@ -420,7 +420,7 @@ static void two_links(void) {
     CHECK(PIE_LINK_LOAD(a.shared->turns) == 1);
     errno = 77;
     CHECK(pie_link_depart(&a, &event) == PIE_DONE && PIE_LINK_LOAD(a.shared->turns) == 2);
-    pie_link_wait(&a, &waited); /* (it does not sleep: `turns` is not 1) */
+    pie_link_wait(&a, &waited); /* (returns at once: `turns` is not 1) */
     CHECK(waited.seen == 2 && errno == 77);
     PIE_LINK_ADD(a.shared->sleepers, UINT32_MAX);
     CHECK(pie_link_close(&a) == PIE_DONE && pie_link_close(&b) == PIE_DONE && pie_link_gather(&other, &b) == PIE_CLOSED);

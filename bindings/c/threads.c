@@ -10,7 +10,7 @@
 #include <pthread.h>
 #include <stdio.h>
 
-static struct pie_port ports[4]; /* of the reader, of the link, of each sender: one thread each */
+static struct pie_port ports[4]; /* one for each thread: the reader, the link, each sender */
 static atomic_int over;
 
 /* All threads read one clock that never goes back. */

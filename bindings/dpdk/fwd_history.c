@@ -25,7 +25,7 @@ static bool open_next(struct fwd_history *history) {
     history->file = name_segment(history, history->segment, history->name) ? fopen(history->name, "w") : NULL;
     if (history->file == NULL)
         return false;
-    setvbuf(history->file, NULL, _IONBF, 0); // (it is written in large pieces)
+    setvbuf(history->file, NULL, _IONBF, 0); // unbuffered: the text is written in large pieces
     if (history->segments != 0 && history->segment > history->segments && name_segment(history, history->segment - history->segments, oldest))
         remove(oldest);
     return true;

@@ -70,7 +70,7 @@ static void test_shares(void) {
     for (int i = 0; i < 4; i++)
         EXPECT(sent[i] + 3500 > 15000 && sent[i] < 15000 + 3500);
     send_bytes(&queues, 24000, sizes, sent, now);
-    EXPECT(sent[1] == 20480); // (it is empty, and remains empty for a while)
+    EXPECT(sent[1] == 20480); // (this queue is empty, and remains so for a while)
     send_bytes(&queues, 300000, sizes, sent, now);
     for (int round = 0; round < 20; round++) {
         for (int i = 0; i < BURST; i++)

@@ -74,7 +74,7 @@ struct sender {
     struct pie_stage *stage;
     uint32_t number, rounds;
     uint64_t handed_back;
-    rte_spinlock_t lock; /* of the returned packets */
+    rte_spinlock_t lock; /* for the returned packets */
     struct rte_mbuf *back[OWNED];
     uint32_t count;
 };

@@ -234,7 +234,7 @@ struct Dumbbell
 {
     NodeContainer routers, senders, receivers;
     std::vector<Ipv4Address> targets; /* the receivers' addresses */
-    Ptr<QueueDisc> queue;             /* of the shared link, on the senders' side */
+    Ptr<QueueDisc> queue;             /* queue of the shared link, on the senders' side */
 };
 
 void

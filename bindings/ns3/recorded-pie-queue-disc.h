@@ -90,7 +90,7 @@ class RecordedPieQueueDisc : public QueueDisc
     flows m_flows;
     records m_records;
     uint64_t m_arrivals;         /* so far; a packet's tag in the history is its number among them, with Flows below its flow's */
-    std::deque<std::pair<uint64_t, uint64_t>> m_tags; /* of the queued packets, with the controller's moment at the
+    std::deque<std::pair<uint64_t, uint64_t>> m_tags; /* tags of the queued packets, with the controller's moment at the
                                                          arrival */
     TracedValue<double> m_probability;
     TracedValue<Time> m_delay;

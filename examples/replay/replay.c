@@ -21,7 +21,7 @@ struct waiting {
 };
 
 struct counts {
-    struct pie_stats stats;                       /* of the events */
+    struct pie_stats stats;                       /* statistics of the events */
     uint64_t frames, refused;
     uint64_t passed_over, others, cut, wrong; /* excluded by the filter, of other protocols, cut, of a wrong length */
     uint64_t large, backwards;                /* packets above USUAL_MTU; frames earlier than one before them */
@@ -153,7 +153,7 @@ static void tell(char *comment, const uint32_t *answers, uint32_t parts, const s
 static void send_packet(struct replay *replay, const struct ip_packet *packet, char *comment) {
     const uint64_t mtu = replay->options.split;
     const struct pie_state before = replay->pie;
-    struct flow_top ended; /* that nobody asks for */
+    struct flow_top ended; /* not used here */
     const uint64_t tag = note_flow(&replay->flows, packet->bytes, packet->caught, packet->size, replay->now, replay->counts.frames, &ended);
     uint32_t answers[PIE_PACKETS + 1] = {0}, parts = 1, left = packet->size, most = packet->size, again = 0;
     if (mtu != 0 && packet->size > mtu && packet->headers < mtu) {

@@ -19,7 +19,7 @@ static void *new_file(const char *name, size_t bytes) {
     int file = open(name, O_RDWR | O_CREAT | O_EXCL | O_CLOEXEC, 0600);
     if (file < 0)
         return NULL;
-    /* (its blocks are taken now: a full disk is found here, and not by a signal in the middle of the run) */
+    /* Allocate the blocks now: on a full disk this fails here, and no signal ends the program later. */
     void *memory = MAP_FAILED;
     if (posix_fallocate(file, 0, (off_t)bytes) == 0)
         memory = mmap(NULL, bytes, PROT_READ | PROT_WRITE, MAP_SHARED, file, 0);

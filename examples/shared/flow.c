@@ -61,7 +61,7 @@ static bool read_ipv6(const uint8_t *bytes, size_t size, struct flow *flow) {
 }
 
 bool read_flow(const uint8_t *bytes, size_t size, struct flow *flow) {
-    memset(flow, 0, sizeof *flow); /* its gaps too: flows are compared as bytes */
+    memset(flow, 0, sizeof *flow); /* also the padding: flows are compared as bytes */
     flow->version = size != 0 ? bytes[0] >> 4 : 0;
     if (flow->version == 4)
         return read_ipv4(bytes, size, flow);

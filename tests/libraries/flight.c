@@ -18,7 +18,7 @@
 /* ---- random events, and dumps at random places */
 
 static struct text text;
-static uint64_t dumps, changes; /* that were tried */
+static uint64_t dumps, changes; /* dumps that were tried; changes of a text that were tried */
 static uint64_t unix_time;      /* the recorder's last wall-clock time at moment 0; 0: none */
 
 /* Sets the wall-clock time of a recorder, or tries one that it rejects. */

@@ -35,7 +35,7 @@ static inline void store_word(PIE_WORD *word, uint64_t value) {
 
 #include <setjmp.h>
 
-#define MOST_WORDS 4096 /* of a recorder's memory here */
+#define MOST_WORDS 4096 /* the most words of a recorder's memory */
 #define STOPS 3         /* the most words of a copy */
 
 /* The writer, between two events. */
@@ -48,7 +48,7 @@ enum who { NOBODY, COPY, WRITER };
 
 static struct {
     enum who goes;                      /* and may be stopped */
-    const PIE_WORD *begin, *end;        /* of the recorder's memory */
+    const PIE_WORD *begin, *end;        /* the recorder's memory */
     const PIE_WORD *at;                 /* the place at which the copy stops next, or NULL */
     uint64_t loads;                     /* the copy stops after this number of loads */
     uint64_t stores;                    /* the writer stops after this number of stores */
@@ -57,7 +57,7 @@ static struct {
 } steps;
 
 static struct writer writer, before; /* `before`: its state before the event in which it was stopped */
-static int is_within;                /* it was stopped in an event */
+static int is_within;                /* true if the writer was stopped in an event */
 static uint64_t meanwhile;           /* events that it kept since the copy began */
 static struct text text;
 static uint64_t most_words;

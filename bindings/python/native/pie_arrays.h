@@ -40,9 +40,9 @@ struct pie_array_queue {
     uint64_t events;               /* the number of decided events */
     uint64_t most_events;          /* the greatest number of decided events */
     uint64_t rate;                 /* rate of the link of pie_array_offer in bits per second, 1 to 2^60 */
-    uint64_t link_free;            /* the moment at which the link has sent its packet */
-    uint64_t rest;                 /* fraction of a nanosecond after `free_at`, in units of 1 / rate */
-    uint64_t taken;                /* of pie_array_offer: the number of taken arrivals */
+    uint64_t link_free;            /* moment at which the link becomes free */
+    uint64_t rest;                 /* fraction of a nanosecond after `link_free`, in units of 1 / rate */
+    uint64_t taken;                /* number of arrivals that pie_array_offer took */
     uint64_t why;                  /* the reason why the last loop ended, from the enumeration above */
 };
 

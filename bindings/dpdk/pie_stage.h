@@ -78,7 +78,7 @@ typedef uint32_t (*pie_stage_flow)(void *user, const struct rte_mbuf *mbuf);
 #define PIE_STAGE_FLIGHT (1u << 14)     /* the default number */
 
 struct pie_stage_params {
-    struct pie_opening opening; /* the controller's opening; `moment` is 0, and `packets` is the queue's room */
+    struct pie_opening opening; /* the controller's opening; `packets` is the queue's room, and the clock begins at 0 */
     bool ecn;                   /* mark ECN-capable packets; otherwise they are dropped like others */
     bool hands_back;            /* return dropped mbufs to the caller that enqueues them; otherwise the stage frees them */
     uint32_t flight;            /* the least number of events that the flight recorder keeps, up to 2^24, each of

@@ -368,22 +368,18 @@ def print_needs():
 # comparisons of equal queues that are not `same`: scenario, queue, part and measure. docs/RESULTS.in has the reasons, and
 # tests/documents/results.py lets this list only shrink
 NOT_SAME = [tuple(it.split()) for it in """
-    two stamp 0-5 goodput, two stamp 5-25 goodput, slow stamp 0-10 goodput, slow stamp 10-40 goodput,
-    hundred stamp 0-4 goodput, hundred stamp 0-4 probe, hundred stamp 4-12 goodput, step stamp 0-8 goodput,
-    step stamp 8-18 goodput, step stamp 8-18 probe, step stamp 18-32 goodput, probe20 stamp 0-4 goodput,
-    probe20 stamp 4-12 goodput, probe200 stamp 0-4 goodput, probe200 stamp 0-4 probe, probe200 stamp 4-12 goodput,
-    hundred20 stamp 0-4 goodput, hundred20 stamp 4-12 goodput, hundred200 stamp 0-4 goodput,
-    hundred200 stamp 0-4 probe, hundred200 stamp 4-12 goodput, trips stamp 0-4 goodput, ecnmany stamp 0-4 goodput,
-    tight stamp 4-12 goodput, back stamp 0-4 probe, back stamp 4-12 goodput, back stamp 4-12 probe,
-    reverse stamp 0-5 probe, bbrcubic stamp 0-4 goodput, bbrcubic stamp 4-12 goodput, sixteen stamp 0-4 goodput,
-    sixteen stamp 4-12 goodput, onoff stamp 5-10 goodput, grant30 stamp 0-4 goodput, grant30 stamp 4-12 goodput,
-    gigabit stamp 0-1 goodput, gigabit stamp 0-1 probe, gigabit stamp 1-2 goodput, gigabit stamp 1-2 probe,
-    two pie 0-5 goodput, two pie 5-25 goodput, slow pie 0-10 goodput, slow pie 10-40 goodput, hundred pie 0-4 goodput,
-    hundred pie 0-4 probe, hundred pie 4-12 goodput, step pie 18-32 goodput, trips pie 0-4 goodput,
-    tight pie 4-12 goodput, back pie 4-12 goodput, back pie 4-12 probe, bbrcubic pie 0-4 goodput,
-    bbrcubic pie 4-12 goodput, farther pie 10-25 probe, onoff pie 5-10 goodput, gigabit pie 0-1 goodput,
-    gigabit pie 0-1 probe, gigabit pie 1-2 goodput, gigabit pie 1-2 probe, four tail 4-12 goodput,
-    reno tail 4-12 probe
+    slow stamp 0-10 goodput, slow stamp 10-40 goodput, hundred stamp 4-12 goodput, probe20 stamp 0-4 goodput,
+    probe200 stamp 0-4 goodput, hundred20 stamp 0-4 goodput, hundred20 stamp 4-12 goodput,
+    hundred200 stamp 0-4 goodput, hundred200 stamp 0-4 probe, hundred200 stamp 4-12 goodput, trips stamp 0-4 goodput,
+    ecnmany stamp 0-4 goodput, tight stamp 4-12 goodput, back stamp 0-4 probe, back stamp 4-12 goodput,
+    back stamp 4-12 probe, reverse stamp 0-5 probe, bbrcubic stamp 0-4 goodput, bbrcubic stamp 4-12 goodput,
+    sixteen stamp 0-4 goodput, sixteen stamp 4-12 goodput, onoff stamp 5-10 goodput, grant30 stamp 0-4 goodput,
+    grant30 stamp 4-12 goodput, gigabit stamp 0-1 goodput, gigabit stamp 0-1 probe, gigabit stamp 1-2 goodput,
+    gigabit stamp 1-2 probe, two pie 0-5 goodput, slow pie 0-10 goodput, slow pie 10-40 goodput,
+    hundred pie 4-12 goodput, trips pie 0-4 goodput, tight pie 4-12 goodput, back pie 4-12 goodput,
+    back pie 4-12 probe, bbrcubic pie 0-4 goodput, bbrcubic pie 4-12 goodput, onoff pie 5-10 goodput,
+    gigabit pie 0-1 goodput, gigabit pie 0-1 probe, gigabit pie 1-2 goodput, gigabit pie 1-2 probe,
+    four tail 4-12 goodput, reno tail 4-12 probe
 """.split(",")]
 
 # scenarios through both bottlenecks with the same algorithm

@@ -5,6 +5,7 @@ means nothing; only `same` and `different` are results.
 
 The numerics are this project's own, because they need nothing beside Python's standard library:
 tests/documents/equivalence.py compares them with published values."""
+import functools
 import math
 from statistics import NormalDist, fmean, variance
 
@@ -41,6 +42,7 @@ def student(t, freedom):
     return 1 - half if t > 0 else half
 
 
+@functools.cache
 def student_quantile(share, freedom):
     least, most = -1e4, 1e4
     for _ in range(200):
@@ -55,7 +57,7 @@ def power(margin, error, freedom, difference=0.0, level=LEVEL):
     if error == 0:
         return float(abs(difference) < margin)
     quantile = student_quantile(1 - level, freedom)
-    most, steps, total = margin / (quantile * error), 4000, 0.0
+    most, steps, total = margin / (quantile * error), 1000, 0.0
     scale = math.log(2) + freedom / 2 * math.log(freedom / 2) - math.lgamma(freedom / 2)
     for step in range(steps):
         u = most * (step + 0.5) / steps

@@ -19,12 +19,12 @@ from statistics import fmean, median, stdev
 ROOT = Path(__file__).resolve().parents[1]
 sys.path[:0] = [str(ROOT / "bench"), str(ROOT / "bench/uml")]
 sys.dont_write_bytecode = True
-from equivalence import compare, compare_pairs, judge, power  # noqa: E402
+from equivalence import compare, compare_pairs, power  # noqa: E402
 from rfc7928 import estimate  # noqa: E402
-from scenarios import FIVE, SCENARIOS, TWICE, queues_of  # noqa: E402
+from scenarios import FIVE, SAME_BLOCKS, SCENARIOS, TWICE, queues_of  # noqa: E402
 
 # numbers of RESULTS.in that are settings of a scenario, a test, or RFC 8033: decimal numbers, and numbers with a unit
-SETTINGS = {"0.5", "0.85", "1.85", "1.5", "3.37", "4.4", "6.1", *(f"{it} ms" for it in (5, 10, 15, 20, 30, 40, 100, 200)),
+SETTINGS = {"0.5", "0.85", "1.85", "1.5", "3.37", "4.4", "6.1", "12.5", "17.5", *(f"{it} ms" for it in (5, 10, 12.5, 15, 17.5, 20, 30, 40, 100, 200)),
             *(f"{it} s" for it in (1.5, 2, 4, 8, 10, 14, 40, 60)), *(f"{it} Mbit/s" for it in (0.5, 2, 10, 12)), *(f"{it} bytes" for it in (64, 1500, 1514, 16384)),
             "4 µs", *(f"{it} %" for it in (1, 5, 10, 80, 84, 90, 100))}
 UNITS = {"goodput": "Mbit/s"}
@@ -32,7 +32,8 @@ DIGITS = {"goodput": 2, "jain": 2, "early": 0, "tail": 0, "marks": 0, "lost": 0,
 NAMES = {"tail": "tail drop, here", "stamp": "PIE, here", "wide": "PIE, here, target 20 ms", "half": "PIE, here, `--decay half`",
          "rate": "PIE, here, departure rate",
          "mtu": "PIE, here, `--mean_pkt 1514b`", "marks": "PIE, here, `--mark_ecnth 100%`", "slowwide": "PIE, here, target 30 ms", "pfifo": "`pfifo`", "pie": "`pie`",
-         "pie-rate": "`pie dq_rate_estimator`", "fq_codel": "`fq_codel`", "cake": "`cake`"}
+         "pie-rate": "`pie dq_rate_estimator`", "pie-low": "`pie`, target 12.5 ms", "pie-high": "`pie`, target 17.5 ms",
+         "fq_codel": "`fq_codel`", "cake": "`cake`"}
 
 
 FIVE_NAMES = list(queues_of(FIVE, 1))
@@ -129,25 +130,72 @@ def difference_of(scenario, one, other, field, part="after", other_scenario=None
     return [ours[it] for it in both], [theirs[it] for it in both]
 
 
-# The margins: half of a difference between queues that are known to differ. Of waits the difference between targets of 20 ms and 15; of goodput,
-# as a share, that between limits of 10 ms and 200.
-def margin(field):
-    if field != "goodput":
-        ours, theirs = difference_of("four", "wide", "stamp", "probe")
-        return abs(fmean(ours) - fmean(theirs)) / 2
-    full, tight = (fmean(RUNS.values(scenario, "stamp", "goodput").values()) for scenario in ("four", "tight"))
-    return abs(full - tight) / full / 2
+# The margins are half the spread of queues that are known to differ and are not compared: of goodput Linux's queues with other algorithms, in the
+# same scenario and part, and of waits Linux's pie with two targets in `four`.
+LINUX = ["pfifo", "pie", "fq_codel", "cake"]
+TARGETS = ("pie-high", "pie-low")
 
 
-def margin_of(field, theirs):
-    """Returns the margin in ms, or in Mbit/s as a share of the other's goodput."""
-    return margin(field) * (fmean(theirs) if field == "goodput" else 1)
+def algorithm(queue):
+    """Returns Linux's queue with the algorithm of this queue."""
+    return "pfifo" if queue == "tail" else queue if queue in LINUX else "pie"
+
+
+def references(one, other):
+    return [queue for queue in LINUX if queue not in (algorithm(one), algorithm(other))]
+
+
+def reference_scenario(scenario, one, other):
+    """Returns the scenario whose reference queues serve: this one, or the one whose blocks it has, or `four`."""
+    for name in (scenario, SAME_BLOCKS.get(scenario)):
+        if name and all(RUNS.rows.get((name, queue)) for queue in references(one, other)):
+            return name
+    return "four"
+
+
+def means_of(scenario, queues, field, part):
+    """Returns the means of queues over the blocks that all of them have."""
+    values = [RUNS.values(scenario, queue, field, part) for queue in queues]
+    both = set.intersection(*(set(it) for it in values))
+    return [fmean(it[block] for block in both) for it in values]
+
+
+def half_spread(scenario, queues, field, part):
+    """Returns half the spread of the means of queues, as a share of their mean."""
+    means = means_of(scenario, queues, field, part)
+    return (max(means) - min(means)) / 2 / fmean(means)
+
+
+@functools.cache
+def goodput_share(scenario, one, other, part):
+    """Returns the margin of goodput as a share: that of the scenario, and at least that of the same part of `four`."""
+    name, kind = reference_scenario(scenario, one, other), "start" if is_start(scenario, RUNS.part(scenario, part)) else "after"
+    own = half_spread(name, references(one, other), "goodput", part if name == scenario else kind)
+    return max(own, half_spread("four", references(one, other), "goodput", kind))
+
+
+@functools.cache
+def wait_share():
+    return half_spread("four", TARGETS, "probe", "after")
+
+
+def wait_margin():
+    """Returns the margin of the waits of tail drop, in ms."""
+    high, low = means_of("four", TARGETS, "probe", "after")
+    return (high - low) / 2
+
+
+def margin_of(scenario, one, other, field, part, theirs):
+    """Returns the margin of a comparison in ms or in Mbit/s."""
+    if field == "goodput":
+        return goodput_share(scenario, one, other, part) * fmean(theirs)
+    return wait_margin() if algorithm(one) == algorithm(other) == "pfifo" else wait_share() * fmean(theirs)
 
 
 @functools.cache
 def test(scenario, one, other, field, part="after", other_scenario=None):
     ours, theirs = difference_of(scenario, one, other, field, part, other_scenario)
-    return compare_pairs(ours, theirs, margin_of(field, theirs)) if len(ours) > 1 else None
+    return compare_pairs(ours, theirs, margin_of(scenario, one, other, field, part, theirs)) if len(ours) > 1 else None
 
 
 def interval(found, field, digits=None):
@@ -220,21 +268,13 @@ def version_of(row):
     return tuple(row["version"].split(".")[:2])
 
 
-@functools.cache
-def earlier():
-    """Returns the scenarios that have a run of an earlier version of network.py or traffic.c than `four` has."""
-    present = {version_of(row) for row in ROWS if row["scenario"] == "four"}
-    return [name for name in SCENARIOS if {version_of(row) for row in ROWS if row["scenario"] == name} - present]
-
-
 def versions():
-    """Returns the number of runs by the present version of network.py and traffic.c, and the scenarios with earlier ones, in words."""
+    """Returns the number of runs, and the version of network.py and traffic.c that made them, in words."""
     made = {(row["scenario"], row["queue"], row["block"]): version_of(row) for row in ROWS}
-    present = next(version for (name, _, _), version in made.items() if name == "four")
-    count = sum(version == present for version in made.values())
-    text = f"{count} of {len(made)} runs have one version of network.py ({present[0]}) and traffic.c ({present[1]})."
-    return text + (f" Those of {', '.join(f'`{name}`' for name in earlier())} have earlier versions, with which TCP flows did not start alike at both "
-                   "bottlenecks. The comparisons below leave these scenarios out." if earlier() else "")
+    if len(set(made.values())) != 1:
+        sys.exit(f"docs/results.py: the runs have several versions: {sorted(set(made.values()))}")
+    network, traffic = next(iter(made.values()))
+    return f"All {len(made)} runs have one version of network.py ({network}) and traffic.c ({traffic})."
 
 
 def not_run():
@@ -251,9 +291,9 @@ def split_parts(scenario):
 
 
 def pairs_of(one="stamp", other="pie"):
-    """Yields scenario and part of each comparison of two queues by runs of the present version."""
+    """Yields scenario and part of each comparison of two queues."""
     for name in SCENARIOS:
-        if name not in earlier() and RUNS.rows.get((name, one)) and RUNS.rows.get((name, other)):
+        if RUNS.rows.get((name, one)) and RUNS.rows.get((name, other)):
             for part in split_parts(name):
                 yield name, f"{part[0]:g}-{part[1]:g}", part
 
@@ -286,50 +326,61 @@ def differing(one="stamp", other="pie"):
     return f"Of all {len(found)} comparisons, {sum(it[1] == 'different' for it in found)} are `different`: {', '.join(names)}."
 
 
-def later_differences(one="stamp", other="pie"):
-    """Returns the mean differences of waits in the parts after a start."""
-    found = [test(name, one, other, "probe", part) for name, part, bounds in pairs_of(one, other) if bounds[0] > 0 and name not in earlier()]
-    return [it[0] for it in found if it]
+def later_waits():
+    """Returns the scenario and the result of each comparison of waits after a start."""
+    return [(name, test(name, "stamp", "pie", "probe", part)) for name, part, bounds in pairs_of() if bounds[0] > 0]
 
 
 def longer():
-    """Returns the number of parts after a start in which the mean wait of a probe is longer here, and the probability of at least this number if
-    none differs, in words."""
-    found = later_differences()
-    most, count = sum(it > 0 for it in found), len(found)
-    chance = sum(math.comb(count, it) for it in range(most, count + 1)) / 2 ** count
-    return (f"{most} of {count} parts. If longer and shorter were equally likely, at least {most} would be longer with a probability of "
-            f"{100 * chance:.{int(chance < 0.01)}f} %")
-
-
-def pooled():
-    """Returns the mean of the differences over all parts after a start, each part with the same weight."""
-    found = later_differences()
-    return interval(judge(fmean(found), stdev(found) / math.sqrt(len(found)), len(found) - 1, margin("probe")), "probe")
+    """Returns the number of parts after a start in which a probe waits longer here, and in which it waits shorter, in words: the whole interval of
+    the difference is above or below 0."""
+    above, below = ([name for name, it in later_waits() if side(it)] for side in (lambda it: it[1] > 0, lambda it: it[2] < 0))
+    names = ", ".join(f"`{name}`" for name in dict.fromkeys(below))
+    return (f"In {len(above)} of {len(later_waits())} parts after a start, the whole interval of the difference of the waits is above 0 (longer here), and in "
+            f"{len(below)} below 0 ({names}). The median of the differences is {shown(median(it[0] for _, it in later_waits()))} ms.")
 
 
 def blocks_needed(scenario, one, other, field, part, most=512):
     """Returns the number of blocks that makes a comparison `same` with a chance of 80 % if there is no difference, by the spread of the stored
     blocks; `most` if it is more."""
     ours, theirs = difference_of(scenario, one, other, field, part)
-    spread_of = stdev(it - other for it, other in zip(ours, theirs))
+    spread_of, margin = stdev(it - their for it, their in zip(ours, theirs)), margin_of(scenario, one, other, field, part, theirs)
     least = 2       # bisection: the power grows with the number of blocks
     while least < most:
         count = (least + most) // 2
-        least, most = (least, count) if power(margin_of(field, theirs), spread_of / math.sqrt(count), count - 1) >= 0.8 else (count + 1, most)
+        least, most = (least, count) if power(margin, spread_of / math.sqrt(count), count - 1) >= 0.8 else (count + 1, most)
     return least
+
+
+PAIRS = [("stamp", "pie"), ("tail", "pfifo"), *((f"{it}-again", it) for it in TWICE)]
 
 
 def print_needs():
     """Prints for each open comparison the blocks that it has, and those that it needs."""
-    pairs = [("stamp", "pie"), ("tail", "pfifo"), *((f"{it}-again", it) for it in TWICE)]
-    for name, part, _, one, other in [(*it, *pair) for pair in pairs for it in pairs_of(*pair)]:
+    for name, part, _, one, other in [(*it, *pair) for pair in PAIRS for it in pairs_of(*pair)]:
         for field in ("goodput", "probe"):
             found = test(name, one, other, field, part)
             if found and found[3] == "open":
                 has = len(difference_of(name, one, other, field, part)[0])
                 print(f"{name}, {part} s, {one} and {other}, {field}: {has} of {blocks_needed(name, one, other, field, part)}")
 
+
+# comparisons of equal queues that are not `same`: scenario, queue, part and measure. docs/RESULTS.in has the reasons, and
+# tests/documents/results.py lets this list only shrink
+NOT_SAME = [tuple(it.split()) for it in """
+    slow stamp 0-10 goodput, slow stamp 10-40 goodput, hundred stamp 4-12 goodput, probe20 stamp 0-4 goodput,
+    probe200 stamp 0-4 goodput, hundred20 stamp 0-4 goodput, hundred20 stamp 4-12 goodput,
+    hundred200 stamp 0-4 goodput, hundred200 stamp 0-4 probe, hundred200 stamp 4-12 goodput, trips stamp 0-4 goodput,
+    ecnmany stamp 0-4 goodput, tight stamp 4-12 goodput, back stamp 0-4 probe, back stamp 4-12 goodput,
+    back stamp 4-12 probe, reverse stamp 0-5 probe, bbrcubic stamp 0-4 goodput, bbrcubic stamp 4-12 goodput,
+    sixteen stamp 0-4 goodput, sixteen stamp 4-12 goodput, onoff stamp 5-10 goodput, grant30 stamp 0-4 goodput,
+    grant30 stamp 4-12 goodput, gigabit stamp 0-1 goodput, gigabit stamp 0-1 probe, gigabit stamp 1-2 goodput,
+    gigabit stamp 1-2 probe, two pie 0-5 goodput, slow pie 0-10 goodput, slow pie 10-40 goodput,
+    hundred pie 4-12 goodput, trips pie 0-4 goodput, tight pie 4-12 goodput, back pie 4-12 goodput,
+    back pie 4-12 probe, bbrcubic pie 0-4 goodput, bbrcubic pie 4-12 goodput, onoff pie 5-10 goodput,
+    gigabit pie 0-1 goodput, gigabit pie 0-1 probe, gigabit pie 1-2 goodput, gigabit pie 1-2 probe,
+    four tail 4-12 goodput, reno tail 4-12 probe
+""".split(",")]
 
 # scenarios through both bottlenecks with the same algorithm
 SAME_ALGORITHM = ["full", "waves", "four", "reno", "short"]
@@ -340,17 +391,17 @@ def same_calibration_table():
     lines = []
     for name in filter(was_run, SAME_ALGORITHM):
         for part in split_parts(name):
-            for field, unit in (("probe", "ms"), ("goodput", "Mbit/s")):
+            for field in ("probe", "goodput"):
                 bounds = f"{part[0]:g}-{part[1]:g}"
                 ours, theirs = difference_of(name, "tail", "pfifo", field, bounds)
                 found = test(name, "tail", "pfifo", field, bounds)
-                lines.append([f"`{name}`", name_of_part(part), f"{'wait' if field == 'probe' else 'goodput'}, {unit}", str(len(ours)),
+                lines.append([f"`{name}`", name_of_part(part), "wait" if field == "probe" else field, str(len(ours)),
                               shown(fmean(ours), field, 3), shown(fmean(theirs), field, 3), plus_minus(found, field, 3)])
     return table(["scenario", "seconds", "measure", "blocks", "tail drop, here", "`pfifo`", "difference"], lines)
 
 
-# ms of a probe's mean wait within which the starts at both bottlenecks are alike
-NEAR = 0.15
+# ms of a probe's mean wait, and share of the goodput, within which the starts at both bottlenecks are alike
+NEAR, NEAR_GOODPUT = 0.15, 0.001
 
 
 @functools.cache
@@ -371,7 +422,8 @@ def alike():
     """Returns the number of starts that are alike at both bottlenecks, in words."""
     others = [it for it in starts() if it[0] > NEAR]
     return (f"In {len(starts()) - len(others)} of {len(starts())} starts the waits differ by at most {NEAR} ms. In {sum(it[2] > 0 for it in others)} of the "
-            f"other {len(others)} one bottleneck dropped more probes. The goodput differs by at most {100 * max(it[1] for it in starts()):.3f} % in each start.")
+            f"other {len(others)} one bottleneck dropped more probes. The goodput differs by less than {100 * NEAR_GOODPUT:.1f} % in "
+            f"{sum(it[1] < NEAR_GOODPUT for it in starts())} starts, and by at most {100 * max(it[1] for it in starts()):.1f} %.")
 
 
 @functools.cache
@@ -392,74 +444,121 @@ def is_start(scenario, part):
     return part == RUNS.part(scenario, "start") and len(RUNS.parts(scenario)) > 1
 
 
+@functools.cache
+def equal_queues():
+    """Returns the comparisons of equal queues: each PIE with itself, and tail drop here with `pfifo`."""
+    found = []
+    for name, part, bounds in pairs_of("tail", "pfifo"):
+        for field in ("goodput", "probe"):
+            found.append((name, "tail", bounds, field, len(difference_of(name, "tail", "pfifo", field, part)[0]),
+                          test(name, "tail", "pfifo", field, part)))
+    return [*repeats(), *found]
+
+
+def not_same():
+    """Returns the comparisons of equal queues whose verdict is not `same`, by the keys of NOT_SAME."""
+    return {(name, queue, f"{part[0]:g}-{part[1]:g}", field): (blocks, found)
+            for name, queue, part, field, blocks, found in equal_queues() if found[3] != "same"}
+
+
 def repeats_count():
-    """Returns the number of 90 % intervals that contain 0, and the verdicts of each queue beside itself at the start and later, in words."""
+    """Returns the number of comparisons of a PIE with itself, of 90 % intervals that contain 0, and of verdicts, in words."""
     inside = sum(it[-1][1] <= 0 <= it[-1][2] for it in repeats())
-    parts = []
-    for words, start in (("At the start", True), ("Later", False)):
-        them = [it[-1][3] for it in repeats() if is_start(it[0], it[2]) == start]
-        parts.append(f"{words}, {them.count('same')} are `same`, {them.count('open')} `open` and {them.count('different')} `different`.")
-    return f"{len(repeats())} comparisons. The 90 % interval contains 0 in {100 * inside / len(repeats()):.0f} % of them. {' '.join(parts)}"
+    same = sum(it[-1][3] == "same" for it in repeats())
+    return f"{same} of {len(repeats())} comparisons are `same`, and the 90 % interval contains 0 in {100 * inside / len(repeats()):.0f} % of them."
 
 
-def repeats_different():
-    """Returns a sentence about the comparisons of a queue with itself whose verdict is `different`, if there are any."""
-    found = [f"`{name}` (`{queue}`, {'wait' if field == 'probe' else 'goodput'} at {name_of_part(part)} s, {blocks} blocks: "
-             f"{interval(it, field, 3 if field == 'goodput' else 1)})"
-             for name, queue, part, field, blocks, it in repeats() if it[3] == "different"]
-    return f"The `different` ones are {', '.join(found)}; no other cause than chance is known. " if found else ""
+def sent(name, one, other, bounds, margin):
+    """Judges the difference of the rates at which the bottleneck sent."""
+    both = difference_of(name, one, other, "sent", f"{bounds[0]:g}-{bounds[1]:g}")
+    return compare_pairs(*([8e-6 * it / (bounds[1] - bounds[0]) for it in them] for them in both), margin)
 
 
-def repeats_table():
-    """Each queue beside itself, in the last part of each scenario. `same` is left out."""
-    found = {}
-    for name, queue, part, field, blocks, it in repeats():
-        if part == split_parts(name)[-1]:
-            ours = RUNS.values(name, queue, "goodput", f"{part[0]:g}-{part[1]:g}").values()
-            digits = 3 if field == "goodput" and fmean(ours) < 3 else None
-            found.setdefault((name, queue), [f"`{name}`", f"`{queue}`", str(blocks)]).append(plus_minus(it, field, digits).removesuffix(" same"))
-    return table(["scenario", "queue", "blocks", "goodput", "wait"], [found[it] for it in sorted(found, key=lambda it: list(SCENARIOS).index(it[0]))])
+@functools.cache
+def not_same_rows():
+    """Returns the rows of equal queues that are not `same`, with the blocks that they need and the difference of what the bottleneck sent; and the
+    number of comparisons of goodput in which the bottleneck sent equally much."""
+    lines, equal = [], 0
+    for name, queue, bounds, field, blocks, found in equal_queues():
+        if found[3] != "same":
+            one, other = ("tail", "pfifo") if queue == "tail" else (f"{queue}-again", queue)
+            part, digits = f"{bounds[0]:g}-{bounds[1]:g}", 3 if field == "goodput" else 1
+            margin = margin_of(name, one, other, field, part, difference_of(name, one, other, field, part)[1])
+            rates = sent(name, one, other, bounds, margin)
+            equal += field == "goodput" and rates[3] == "same"
+            cells = [plus_minus(found, field, digits).rpartition(" ")[0], shown(margin, field, digits), str(blocks)]
+            lines.append([f"`{name}`", f"`{queue}`", name_of_part(bounds), "wait" if field == "probe" else field, *cells,
+                          str(blocks_needed(name, one, other, field, part)), plus_minus(rates, "goodput", 3).rpartition(" ")[0]])
+    return lines, equal
+
+
+def not_same_table():
+    return table(["scenario", "queue", "seconds", "measure", "difference", "margin", "blocks", "needed", "bottleneck sent"], not_same_rows()[0])
 
 
 @functools.cache
 def comparisons():
     """Returns the rows of docs/comparisons.csv: PIE here beside Linux's, tail drop beside pfifo, and both PIEs beside themselves."""
     lines = [["scenario", "from", "to", "measure", "queue", "beside", "blocks", "difference", "least", "most", "margin", "verdict"]]
-    for one, other in (("stamp", "pie"), ("tail", "pfifo"), *((f"{it}-again", it) for it in TWICE)):
+    for one, other in PAIRS:
         for name, part, bounds in pairs_of(one, other):
             for field in ("goodput", "probe"):
                 found, theirs = test(name, one, other, field, part), difference_of(name, one, other, field, part)[1]
                 if found:
-                    lines.append([name, *bounds, field, one, other, len(theirs), *found[:3], margin_of(field, theirs), found[3]])
+                    lines.append([name, *bounds, field, one, other, len(theirs), *found[:3], margin_of(name, one, other, field, part, theirs),
+                                  found[3]])
     measures = {"goodput": "goodput in Mbit/s", "probe": "wait in ms"}
     return "".join(",".join(measures.get(it, it) if isinstance(it, str) else f"{it:g}" if isinstance(it, int) or it == int(it) and abs(it) < 1e6
                             else shown(it, "", 4) for it in line) + "\n" for line in lines)
 
 
+# comparisons of queues that are known to differ, and that give no margin: scenario, queues, measure, part
+CONTROLS = [("four", "wide", "stamp", "probe", "after"), ("far", "wide", "stamp", "probe", "after"), ("four", "tail", "stamp", "probe", "after"),
+            ("udp", "fq_codel", "stamp", "probe", "after"), ("udp", "fq_codel", "stamp", "goodput", "after"),
+            ("step", "rate", "stamp", "goodput", "18-32")]
+
+
 def control_table():
-    """Queues that are known to differ: a target of 20 ms beside 15."""
     lines = []
-    for name, one, other, field in (("four", "wide", "stamp", "probe"), ("far", "wide", "stamp", "probe"), ("slow", "slowwide", "stamp", "probe"),
-                                    ("four", "tail", "stamp", "probe"), ("udp", "fq_codel", "stamp", "probe")):
-        found = test(name, one, other, field)
-        lines.append([f"`{name}`", f"{NAMES[one]}: wait", plus_minus(found, field)])
-    ours, theirs = (list(RUNS.values(name, "stamp", "goodput").values()) for name in ("tight", "four"))
-    found = compare(ours, theirs, margin_of("goodput", theirs))
-    lines.append(["`tight`", "PIE, here, limit 10 ms: goodput", plus_minus(found, "goodput")])
-    return table(["scenario", "queue", "difference from PIE, here"], lines)
+    for name, one, other, field, part in CONTROLS:
+        theirs = difference_of(name, one, other, field, part)[1]
+        words = f"{NAMES[one]}: {'wait' if field == 'probe' else field}"
+        margin = margin_of(name, one, other, field, part, theirs)
+        lines.append([f"`{name}`", words, shown(margin, field), plus_minus(test(name, one, other, field, part), field)])
+    return table(["scenario", "queue", "margin", "difference from PIE, here"], lines)
+
+
+@functools.cache
+def extremes():
+    """Returns for each scenario and part the verdict of its reference queues with the greatest and the least mean goodput, if they differ by more
+    than those of `four`, so that they give the margin."""
+    found, queues = [], references("stamp", "pie")
+    for name, part, _ in pairs_of("stamp", "pie"):
+        is_own = reference_scenario(name, "stamp", "pie") == name
+        if is_own and half_spread(name, queues, "goodput", part) == goodput_share(name, "stamp", "pie", part):
+            means = means_of(name, queues, "goodput", part)
+            most, least = queues[means.index(max(means))], queues[means.index(min(means))]
+            ours, theirs = difference_of(name, most, least, "goodput", part)
+            found.append((name, part, most, least, compare_pairs(ours, theirs, (max(means) - min(means)) / 2)[3]))
+    return found
+
+
+def extremes_count():
+    """Returns the number of parts in which the reference queues with the greatest and the least goodput are found to differ, in words."""
+    return f"{sum(it[-1] == 'different' for it in extremes())} of {len(extremes())}"
 
 
 def base_text():
     """Returns the delay of the empty queue in each kind of bottleneck, in us, and apart from it that of a link which sends at grants."""
     every = [(name, row) for (name, _), parts in RUNS.rows.items() for blocks in parts.values() for row in blocks.values()]
     rows = [row for name, row in every if "--grant" not in SCENARIOS[name]["options"]]
-    granted = {f"`{name}`, {float(row['base']):.1f} ms" for name, row in every if "--grant" in SCENARIOS[name]["options"]}
+    granted = [float(row["base"]) for name, row in every if "--grant" in SCENARIOS[name]["options"]]
     parts = []
     for is_ours in (True, False):
         found = [1e3 * float(row["base"]) for row in rows if (row["audit"] != "-") == is_ours]
         least, most = f"{min(found):.0f}", f"{max(found):.0f}"
         parts.append(f"{least} µs" if least == most else f"{least} to {most} µs")
-    grants = f" (with grants: {'; '.join(sorted(granted))})" if granted else ""
+    grants = f" ({min(granted):.1f} to {max(granted):.1f} ms with the grants of `grant30`)" if granted else ""
     return f"{parts[0]} at the link{grants}, and by {parts[1]}"
 
 
@@ -472,8 +571,9 @@ def queues_table(scenario, queues, more=()):
             start = [value(it, queue, field, "start") for field in ("goodput", "probe")]
             lines.append([NAMES[queue], *start, value(it, queue, "goodput"), value(it, queue, "wait"), spread(it, queue, "probe"),
                           value(it, queue, "probe99", digits=0), value(it, queue, "early"), value(it, queue, "tail")])
-    heads = ["queue", "goodput, start", "wait, start", "goodput, later", "packets' wait, later", "wait, later", "wait, 99th percentile", "early drops"]
-    return table([*heads, "tail drops"], lines)
+    heads = ["queue", "goodput, start", "wait, start", "goodput, later", "packets' wait, later", "wait, later", "wait, 99th percentile",
+             "early drops, later"]
+    return table([*heads, "tail drops, later"], lines)
 
 
 def probes_table():
@@ -565,7 +665,7 @@ def ns3_compare(mbit, flows, ecn, queue, field):
     one, other = ([float(row[field]) for row in ns3_rows(it, mbit, flows, ecn).values()] for it in ("recorded-stamp", queue))
     if min(len(one), len(other)) < 2:
         return None
-    return one, other, compare(one, other, NS3_MARGIN * fmean(other) if field == "link_mbit" else margin("probe"))
+    return one, other, compare(one, other, NS3_MARGIN * fmean(other) if field == "link_mbit" else wait_share() * fmean(other))
 
 
 def ns3_difference(mbit, flows, ecn, queue):
@@ -605,7 +705,8 @@ def burst_sentence():
 # ---- the picture ----
 
 COLOURS = {"stamp": "#1f5fa8", "pie": "#b0303a", "fq_codel": "#2f8a2f", "cake": "#c08020", "tail": "#888888", "pfifo": "#222222", "half": "#7a4fa0",
-           "rate": "#10a0a0", "wide": "#60b0f0", "pie-rate": "#f07878", "marks": "#a0a020", "slowwide": "#60b0f0", "mtu": "#8080ff"}
+           "rate": "#10a0a0", "wide": "#60b0f0", "pie-rate": "#f07878", "pie-low": "#f0b0a0", "pie-high": "#801010", "marks": "#a0a020",
+           "slowwide": "#60b0f0", "mtu": "#8080ff"}
 WIDE, HIGH, ACROSS, HEAD = 310, 200, 3, 44
 LEFT, TOP, INNER_WIDE, INNER_HIGH = 46, 24, 252, 138      # the frame of a panel
 SHORTEST = 0.1      # ms: the axis is logarithmic, and shorter waits are drawn as this one

@@ -7,8 +7,8 @@ usage: bench/uml/beside.py PIE FOLDER [--blocks FIRST-LAST] [--kept COUNT] [NAME
        bench/uml/beside.py PIE FOLDER --queues stamp,pie [--blocks 1-2] OPTIONS         one scenario by options, as scenarios.py has them
   PIE        the built program; build/pie is what make builds
   --queues   of the link: tail, stamp, rate (the delay by the departure rate), half (the other decay), wide (a target of 20 ms), marks (ECN up to any
-             probability), slowwide (a target of 30 ms), mtu (a mean_pkt of 1514 bytes); of the kernel: pfifo, pie, pie-rate (dq_rate_estimator), pie-wide,
-             fq_codel, cake. NAME-again runs the queue once more, with other random words
+             probability), slowwide (a target of 30 ms), mtu (a mean_pkt of 1514 bytes); of the kernel: pfifo, pie, pie-rate (dq_rate_estimator),
+             pie-low and pie-high (targets of 12.5 and 17.5 ms), fq_codel, cake. NAME-again runs the queue once more, with other random words
   --blocks   the blocks of the scenario, as 1-2; all by default
   --kept     the number of blocks of each scenario whose files stay in the folder; 1 by default
   --late     also runs whose traffic began late: for a test in real time on a busy machine
@@ -44,12 +44,16 @@ OURS = {
     "slowwide": ["--target", "30ms"],
     "mtu": ["--mean_pkt", "1514b"],
     "marks": ["--mark_ecnth", "100%"],
+    # wrong bottlenecks, which tests/program/beside.sh must find
+    "late": ["--queue", "tail", "--delivery", "end"],
+    "fast": ["--queue", "tail", "--rate", "10020kbit"],
 }
 THEIRS = {
     "pfifo": "pfifo limit {packets}",
     "pie": "pie limit {packets} target 15ms tupdate 15ms",
     "pie-rate": "pie limit {packets} target 15ms tupdate 15ms dq_rate_estimator",
-    "pie-wide": "pie limit {packets} target 20ms tupdate 15ms",
+    "pie-low": "pie limit {packets} target 12500us tupdate 15ms",
+    "pie-high": "pie limit {packets} target 17500us tupdate 15ms",
     "fq_codel": "fq_codel",
     "cake": "cake unlimited besteffort",
 }

@@ -5,11 +5,12 @@
 #
 # usage: bench/uml/run.sh COMMAND [WORDS..]
 #   UML_MEMORY   its memory, 1024M where it isn't set; UML_SECONDS: it is ended after so many, 3600. Status 125 where it didn't come to an end.
-#   UML_LINUX    another Linux than Debian's: what build.sh made, whose time passes only while all its processes wait
+#   UML_LINUX    another Linux than Debian's: what build.sh made, whose time passes only while all its processes wait; in real time if UML_TIME=real.
+#                If it isn't set and the processor has AMX, with which Debian's can't run, build.sh's of the user's cache runs in real time
 set -u
 here=$(cd "$(dirname "$0")" && pwd)
 if [ $# = 0 ] || [ "$1" = --help ]; then
-    sed -n '2,8s/^# \{0,1\}//p' "$0"
+    sed -n '2,9s/^# \{0,1\}//p' "$0"
     [ "${1:-}" = --help ]
     exit
 fi
@@ -35,15 +36,20 @@ touch "$state/out" "$state/err"
     printf ' %q' "$@"
     echo
 } > "$state/command"
-# (Debian's goes before other work of the machine, so that it is woken in time; one whose time is simulated can wait)
-linux_program=linux.uml words=() before_others=
-if [ -n "${UML_LINUX:-}" ]; then
-    linux_program=$UML_LINUX words=(time-travel=inf-cpu)
+if [ -z "${UML_LINUX:-}" ] && grep -qw amx_tile /proc/cpuinfo; then
+    UML_LINUX=$("$here/build.sh" --kept 2> "$state/built") || { cat "$state/built" >&2; exit 125; }
+    UML_TIME=real
+fi
+# (one in real time goes before other work of the machine, so that it is woken in time; one whose time is simulated can wait)
+linux_program=${UML_LINUX:-linux.uml} words=() before=
+if [ -n "${UML_LINUX:-}" ] && [ "${UML_TIME:-}" != real ]; then
+    # (its processes run one at a time, and switch faster on one processor)
+    words=(time-travel=inf-cpu) before="taskset --cpu-list $(awk '{ print $39 }' /proc/self/stat)"
 elif nice -n -15 true 2> /dev/null && [ "$(id -u)" = 0 ]; then
-    before_others='nice -n -15'
+    before='nice -n -15'
 fi
 # shellcheck disable=SC2086
-$before_others timeout --kill-after=5 "${UML_SECONDS:-3600}" "$linux_program" "${words[@]}" "mem=${UML_MEMORY:-1024M}" \
+$before timeout --kill-after=5 "${UML_SECONDS:-3600}" "$linux_program" "${words[@]}" "mem=${UML_MEMORY:-1024M}" \
     root=/dev/root rootfstype=hostfs rootflags=/ rw "init=$here/boot.sh" "STATE=$state" "uml_dir=$state" con=null con0=null,fd:1 quiet \
     > "$state/kernel" 2>&1 < /dev/null &
 linux=$!

@@ -25,51 +25,51 @@ Options (beside.py takes the same):
 import shlex
 
 # the queues of RFC 7928's suite: this link's PIE, and the kernel's pie, fq_codel, cake and pfifo
-FIVE = "stamp,pie,fq_codel:3,cake:2,pfifo:2"
+FIVE = "stamp,pie,fq_codel:4,cake:4,pfifo:4"
 
 # name, section of RFC 7928, words, queues, blocks, options; the most important ones come first
 TABLE = [
-    ("four", "5.1", "4 CUBIC", "tail,stamp,wide:6,pfifo,pie,fq_codel:6,cake:2", 20, ""),
-    ("full", "", "UDP of 12 Mbit/s alone", "tail,pfifo", 12, "--seconds 8 --from 2 --probe 20ms --flows 1:udp=12mbit:20ms"),
-    ("waves", "", "UDP of 7 Mbit/s, and bursts of 200 packets", "tail,pfifo", 3,
+    ("four", "5.1", "4 CUBIC", "tail:40,stamp,wide:14,pfifo:40,pie,fq_codel:40,cake:40,pie-low:14,pie-high:14", 14, ""),
+    ("full", "", "UDP of 12 Mbit/s alone", "tail,pfifo,pie:4,fq_codel:4,cake:4", 12, "--seconds 8 --from 2 --probe 20ms --flows 1:udp=12mbit:20ms"),
+    ("waves", "", "UDP of 7 Mbit/s, and bursts of 200 packets", "tail,pfifo,pie,fq_codel,cake", 4,
      "--seconds 8 --from 2 --probe 20ms --flows 1:udp=7mbit:20ms 1:burst=200x1s:20ms"),
-    ("reno", "", "4 Reno", "tail,pfifo", 20, "--flows 4:reno:20ms"),
-    ("two", "", "2 Mbit/s, 4 CUBIC", FIVE, 8, "--rate 2mbit --seconds 25 --from 5"),
-    ("slow", "", "0.5 Mbit/s, 4 CUBIC, limit 1 s", f"{FIVE},slowwide:6,mtu", 12, "--rate 500kbit --limit 1s --seconds 40 --from 10"),
-    ("far", "6", "4 CUBIC, 100 ms", f"{FIVE},half:10,wide:4", 18, "--flows 4:cubic:100ms"),
-    ("udp", "5.3", "4 CUBIC, UDP of 12 Mbit/s", FIVE, 20, "--flows 4:cubic:20ms 1:udp=12mbit:20ms"),
-    ("choices", "", "4 CUBIC", "half,rate,pie-rate,cake", 4, ""),
-    ("hundred", "8", "100 CUBIC", FIVE, 8, "--flows 100:cubic:20ms"),
-    ("step", "8.2.6", "10, 2 and 10 Mbit/s, 4 CUBIC", f"{FIVE},rate,pie-rate", 4, "--rate 10mbit,8s:2mbit,18s:10mbit --seconds 32 --from 0"),
-    ("probe20", "", "4 CUBIC, a probe each 20 ms", "stamp,fq_codel", 4, "--probe 20ms"),
-    ("probe200", "", "4 CUBIC, a probe each 200 ms", "stamp,fq_codel", 4, "--probe 200ms"),
-    ("hundred20", "", "100 CUBIC, a probe each 20 ms", "stamp,fq_codel", 4, "--probe 20ms --flows 100:cubic:20ms"),
-    ("hundred200", "", "100 CUBIC, a probe each 200 ms", "stamp,fq_codel", 4, "--probe 200ms --flows 100:cubic:20ms"),
-    ("mixed", "9.1", "2 CUBIC, 2 voice, DNS, web", FIVE, 4,
+    ("reno", "", "4 Reno", "tail,pfifo,pie:4,fq_codel:4,cake:4", 40, "--flows 4:reno:20ms"),
+    ("two", "", "2 Mbit/s, 4 CUBIC", FIVE, 30, "--rate 2mbit --seconds 25 --from 5"),
+    ("slow", "", "0.5 Mbit/s, 4 CUBIC, limit 1 s", f"{FIVE},slowwide:14,mtu:10", 24, "--rate 500kbit --limit 1s --seconds 40 --from 10"),
+    ("far", "6", "4 CUBIC, 100 ms", f"{FIVE},half:12,wide:8", 12, "--flows 4:cubic:100ms"),
+    ("udp", "5.3", "4 CUBIC, UDP of 12 Mbit/s", FIVE, 24, "--flows 4:cubic:20ms 1:udp=12mbit:20ms"),
+    ("choices", "", "4 CUBIC", "half,rate,pie-rate", 4, ""),
+    ("hundred", "8", "100 CUBIC", FIVE, 24, "--flows 100:cubic:20ms"),
+    ("step", "8.2.6", "10, 2 and 10 Mbit/s, 4 CUBIC", f"{FIVE},rate:4,pie-rate:4", 16, "--rate 10mbit,8s:2mbit,18s:10mbit --seconds 32 --from 0"),
+    ("probe20", "", "4 CUBIC, a probe each 20 ms", "stamp,fq_codel:4", 40, "--probe 20ms"),
+    ("probe200", "", "4 CUBIC, a probe each 200 ms", "stamp,fq_codel:4", 40, "--probe 200ms"),
+    ("hundred20", "", "100 CUBIC, a probe each 20 ms", "stamp,fq_codel:4", 24, "--probe 20ms --flows 100:cubic:20ms"),
+    ("hundred200", "", "100 CUBIC, a probe each 200 ms", "stamp,fq_codel:4", 40, "--probe 200ms --flows 100:cubic:20ms"),
+    ("mixed", "9.1", "2 CUBIC, 2 voice, DNS, web", FIVE, 20,
      "--seconds 16 --flows 2:cubic:20ms 2:voice:20ms 1:dns=5:20ms --short 14600x3,146000x0.5"),
-    ("trips", "6", "2 CUBIC each at 10, 50, 200 ms", FIVE, 24, "--seconds 16 --flows 2:cubic:10ms 2:cubic:50ms 2:cubic:200ms"),
-    ("ecn", "4.5", "4 CUBIC, ECN", FIVE, 24, "--ecn"),
-    ("ecnudp", "5.3", "4 CUBIC, ECN, ECN-capable UDP of 12 Mbit/s", f"{FIVE},marks", 3, "--ecn --flows 4:cubic:20ms 1:ect=12mbit:20ms"),
-    ("ecnmany", "4.5", "16 CUBIC, ECN", "stamp,marks", 3, "--ecn --flows 16:cubic:20ms"),
-    ("short", "7", "1 CUBIC, short flows", "stamp:3,pie:3,fq_codel:3,cake:2,pfifo,tail", 20,
+    ("trips", "6", "2 CUBIC each at 10, 50, 200 ms", FIVE, 40, "--seconds 16 --flows 2:cubic:10ms 2:cubic:50ms 2:cubic:200ms"),
+    ("ecn", "4.5", "4 CUBIC, ECN", FIVE, 12, "--ecn"),
+    ("ecnudp", "5.3", "4 CUBIC, ECN, ECN-capable UDP of 12 Mbit/s", f"{FIVE},marks:3", 24, "--ecn --flows 4:cubic:20ms 1:ect=12mbit:20ms"),
+    ("ecnmany", "4.5", "16 CUBIC, ECN", "stamp,marks:3,fq_codel:4,cake:4,pfifo:4", 20, "--ecn --flows 16:cubic:20ms"),
+    ("short", "7", "1 CUBIC, short flows", "stamp,pie,fq_codel:4,cake:4,pfifo:12,tail:12", 20,
      "--seconds 20 --flows 1:cubic:20ms --short 1460x2,14600x2,146000x0.5,730000x0.1"),
     ("one", "8", "1 CUBIC", FIVE, 10, "--flows 1:cubic:20ms"),
-    ("tight", "", "4 CUBIC, limit 10 ms", "stamp,pie", 10, "--limit 10ms"),
-    ("back", "9.2", "4 CUBIC each way", FIVE, 4, "--reverse 10mbit --flows 4:cubic:20ms back:4:cubic:20ms"),
-    ("reverse", "9.2", "2 Mbit/s, 1 CUBIC, and 4 the other way at 10", FIVE, 3,
+    ("tight", "", "4 CUBIC, limit 10 ms", FIVE, 30, "--limit 10ms"),
+    ("back", "9.2", "4 CUBIC each way", FIVE, 30, "--reverse 10mbit --flows 4:cubic:20ms back:4:cubic:20ms"),
+    ("reverse", "9.2", "2 Mbit/s, 1 CUBIC, and 4 the other way at 10", FIVE, 20,
      "--rate 2mbit --reverse 10mbit --seconds 15 --from 5 --flows 1:cubic:20ms back:4:cubic:20ms"),
-    ("bbrcubic", "5.2", "2 CUBIC, 2 BBR", FIVE, 6, "--flows 2:cubic:20ms 2:bbr:20ms"),
-    ("offload", "", "4 CUBIC, segmentation offload", FIVE, 3, "--offload"),
-    ("burst", "7", "1 CUBIC, bursts of 40 packets", FIVE, 15, "--flows 1:cubic:20ms 1:burst=40x1s:20ms"),
-    ("near", "6", "4 CUBIC, 5 ms", FIVE, 20, "--flows 4:cubic:5ms"),
-    ("farther", "6", "4 CUBIC, 500 ms", FIVE, 6, "--seconds 25 --from 10 --flows 4:cubic:500ms"),
-    ("sixteen", "8", "16 CUBIC", FIVE, 10, "--flows 16:cubic:20ms"),
-    ("onoff", "8.2.5", "2 CUBIC, and 16 more from 5 to 10 s", f"{FIVE},half", 3,
+    ("bbrcubic", "5.2", "2 CUBIC, 2 BBR", FIVE, 40, "--flows 2:cubic:20ms 2:bbr:20ms"),
+    ("offload", "", "4 CUBIC, segmentation offload", FIVE, 10, "--offload"),
+    ("burst", "7", "1 CUBIC, bursts of 40 packets", FIVE, 12, "--flows 1:cubic:20ms 1:burst=40x1s:20ms"),
+    ("near", "6", "4 CUBIC, 5 ms", FIVE, 10, "--flows 4:cubic:5ms"),
+    ("farther", "6", "4 CUBIC, 500 ms", FIVE, 14, "--seconds 25 --from 10 --flows 4:cubic:500ms"),
+    ("sixteen", "8", "16 CUBIC", FIVE, 30, "--flows 16:cubic:20ms"),
+    ("onoff", "8.2.5", "2 CUBIC, and 16 more from 5 to 10 s", f"{FIVE},half:3", 24,
      "--seconds 15 --from 0 --flows 2:cubic:20ms 8:cubic:20ms:5s-10s 8:cubic:20ms:5s-10s"),
-    ("grant30", "", "4 CUBIC, grants of 30 ms", "stamp,rate", 2, "--grant 30ms"),
-    ("bucket", "", "2 Mbit/s, 4 CUBIC, a bucket of 1514 bytes in htb", "pie", 4, "--rate 2mbit --seconds 25 --from 5 --bucket 1514"),
-    ("fifty", "", "50 Mbit/s, 4 CUBIC", FIVE, 5, "--rate 50mbit --seconds 7 --from 3 --probe 50ms"),
-    ("gigabit", "", "1 Gbit/s, 16 CUBIC", FIVE, 2, "--rate 1gbit --seconds 5 --from 2 --probe 10ms --flows 16:cubic:20ms"),
+    ("grant30", "", "4 CUBIC, grants of 30 ms", "stamp,rate:12", 20, "--grant 30ms"),
+    ("bucket", "", "2 Mbit/s, 4 CUBIC, a bucket of 1514 bytes in htb", "pie", 16, "--rate 2mbit --seconds 25 --from 5 --bucket 1514"),
+    ("fifty", "", "50 Mbit/s, 4 CUBIC", FIVE, 14, "--rate 50mbit --seconds 7 --from 3 --probe 50ms"),
+    ("gigabit", "", "1 Gbit/s, 16 CUBIC", "stamp,pie,fq_codel:2,cake:2,pfifo:2", 4, "--rate 1gbit --seconds 2 --from 1 --probe 10ms --flows 16:cubic:20ms"),
 ]
 # queues that run each block twice
 TWICE = ["stamp", "pie"]
@@ -83,6 +83,6 @@ def queues_of(text, blocks):
 
 
 SCENARIOS = {name: {"name": name, "section": section, "words": words, "queues": queues_of(queues, blocks), "options": shlex.split(options),
-                    "again": {f"{queue}-again": count for queue, count in queues_of(queues, blocks).items() if queue in TWICE}}
+                    "again": {f"{queue}-again": count for queue, count in queues_of(queues, blocks).items() if queue in TWICE and "tail,pfifo" not in queues}}
              for name, section, words, queues, blocks, options in TABLE}
 SUITE = [name for name, it in SCENARIOS.items() if set(queues_of(FIVE, 1)) <= set(it["queues"])]

@@ -2,8 +2,10 @@
 """Checks docs/RESULTS.md, docs/comparisons.csv and docs/ellipses.svg: docs/results.py computes them from the stored runs. docs/RESULTS.in has no figure
 of its own, and README.md and docs/PARAMETERS.md repeat figures of the runs. A page with a changed figure fails.
 
-The stored A/A runs hold. Tail drop here and pfifo do not differ. Three of four starts agree within 0.15 ms, and all within 0.1 % of goodput. At most
-one in twenty comparisons of a PIE with itself differs, and 84 % of their 90 % intervals contain 0. The page contains every scenario that was run.
+The stored A/A runs hold: each comparison of a PIE with itself, and of tail drop here with pfifo, is `same`, except those that results.NOT_SAME lists
+with a reason. The list may only shrink, and none of them is `different`. 84 % of the 90 % intervals contain 0. Three of four starts agree within
+0.15 ms at both bottlenecks, and 49 of 50 within 0.1 % of goodput. The margins can fail: queues that are known to differ are `different`. The page contains
+every scenario that was run.
 needs: nothing"""
 import os
 import re
@@ -37,16 +39,25 @@ for name, sentence in results.elsewhere():
     check(place >= 0 and results.differences({name: changed}), f"{name}: another figure than {sentence[begin:end]} passes")
 
 
-for name, part, _ in results.pairs_of("tail", "pfifo"):
-    for field in ("probe", "goodput"):
-        found = results.test(name, "tail", "pfifo", field, part)
-        check(found and found[3] != "different", f"{name}, {part} s: tail drop here and pfifo: {field}: {found}")
+# the number of entries of results.NOT_SAME. Lower it when the list shrinks; it must never grow
+MOST_NOT_SAME = 45
+listed, found = results.NOT_SAME, results.not_same()
+for key, (_, it) in found.items():
+    check(key in listed, f"{' '.join(key)}: equal queues are not `same`, but {it[3]}: {results.interval(it, key[-1], 3)}")
+    check(it[3] == "open", f"{' '.join(key)}: equal queues differ: {results.interval(it, key[-1], 3)}")
+for key in listed:
+    check(key in found, f"{' '.join(key)}: these equal queues are `same`; results.NOT_SAME lists them")
+check(len(listed) == len(set(listed)) <= MOST_NOT_SAME, f"results.NOT_SAME has {len(listed)} comparisons, more than {MOST_NOT_SAME}")
+for name, one, other, field, part in results.CONTROLS:
+    it = results.test(name, one, other, field, part)
+    check(it[3] == "different", f"{name}, {part}: {one} and {other} are known to differ, and are {it[3]}: {field}: {results.interval(it, field)}")
+wide = results.test("four", "wide", "stamp", "probe")
+margin = results.margin_of("four", "wide", "stamp", "probe", "after", list(results.RUNS.values("four", "stamp", "probe").values()))
+check(margin < wide[1], f"the margin of waits, {margin}, does not tell targets of 15 and 20 ms apart")
 near = sum(wait <= results.NEAR for wait, _, _ in results.starts())
 check(4 * near >= 3 * len(results.starts()), f"only {near} of {len(results.starts())} starts are alike at both bottlenecks")
-check(all(goodput < 0.001 for _, goodput, _ in results.starts()), "the goodput of a start differs at both bottlenecks")
-# (each comparison is a test at a level of 5 per cent)
-differ = [it[:4] for it in results.repeats() if it[-1][3] == "different"]
-check(20 * len(differ) <= len(results.repeats()), f"queues differ from themselves: {differ}")
+far = sum(goodput >= results.NEAR_GOODPUT for _, goodput, _ in results.starts())
+check(50 * far <= len(results.starts()), f"the goodput of {far} of {len(results.starts())} starts differs at both bottlenecks")
 inside = [it[-1][1] <= 0 <= it[-1][2] for it in results.repeats()]
 check(sum(inside) >= 0.84 * len(inside), f"of {len(inside)} intervals of 90 per cent for no difference only {sum(inside)} contain 0")
 for name, it in results.SCENARIOS.items():

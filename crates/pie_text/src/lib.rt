@@ -25,7 +25,7 @@ pub mod write;
 pub use event::{put_arrival, put_empty, put_event, put_left, put_reset, put_update};
 pub use event_end::put_event_end;
 pub use law::lost_records_are_faults;
-pub use long_row::LongRow;
+pub use long_row::{LongRow, push_numbers};
 pub use note::{put_clock, put_folded, put_lost, put_refused, put_shown, put_tallied};
 pub use opening::put_opening;
 pub use page::Page;

@@ -1,26 +1,19 @@
--- The decrease of the burst allowance from update to update, and the distance of updates.
-use Rattle.pie_guarantees.proofs.Names.{◌≡◌, ◌≤◌, ◌+◌, ◌*◌, ℕ, List, [], ◌∷◌, ◌++◌, true, false, sym, cond, arith, subst, max, All}
-use Rattle.pie_guarantees.proofs.Names.{append_assoc, deed, is_update, after_call, Held, Waiting, Command}
-use Rattle.pie_guarantees.proofs.Names.{Update, Answer, Event, Opening, call_of, is_too_soon, held_after}
-use Rattle.pie_guarantees.proofs.Names.{params_after, parts_after, effective_moment, waiting_after, AllAllow, Allows, IsAllowed, KeepsParams}
-use Rattle.pie_guarantees.proofs.Names.{SetsAllow, nat_tests, burst_left, updates_in, IsLawful, IsEarly, get_or}
-use Rattle.pie_guarantees.proofs.Names.{◌<◌, bytes_of, refl, Reset}
+-- The decrease of the burst allowance from update to update, the distance of updates, and the moments before which they are refused.
+use Rattle.pie_guarantees.proofs.Names.{◌≡◌, ◌≤◌, ◌+◌, ◌*◌, ℕ, List, [], ◌∷◌, ◌++◌, true, false, sym, arith, subst, max, All, append_assoc}
+use Rattle.pie_guarantees.proofs.Names.{deed, is_update, after_call, Held, Waiting, Command, Update, Answer, Event, Opening, call_of, is_too_soon}
+use Rattle.pie_guarantees.proofs.Names.{held_after, params_after, parts_after, effective_moment, waiting_after, AllAllow, Allows, IsAllowed}
+use Rattle.pie_guarantees.proofs.Names.{KeepsParams, SetsAllow, nat_tests, burst_left, updates_in, IsLawful, IsEarly, get_or, ◌<◌, bytes_of}
+use Rattle.pie_guarantees.proofs.Names.{Some, ◌∙◌, AtEachEvent, deed_of, caller_moment, refusal_with, refusal_by_rule, in-range, length}
+use Rattle.pie_guarantees.proofs.Names.{effective_moment-push}
 use Rattle.pie_aqm.specs.Steps as Steps
-use Rattle.pie_guarantees.proofs.LawfulFacts.{IsStep, all_along, along, counted-cons, first-held, sound_at, step_at}
+use Rattle.pie_guarantees.proofs.LawfulFacts.{IsStep, all_along, along, along_updates, counted_with, first-held, sound_at, step_at}
 use Rattle.pie_guarantees.proofs.EarlyFacts.{early_at}
+use Rattle.pie_event.specs.declared.refusal.Refusal.TheVariants.{TooSoon}
 
 -- ---- the controller's numbers from call to call
 
 one-more : (n k : ℕ) → (n + 1) * k ≡ n * k + k
 one-more n k = grind arith
-
--- the number of updates after a command
-abbrev pub counted_with : Command → ℕ → ℕ
-counted_with (Update moment) n = n + 1
-counted_with _ n = n
-
-pub counted-with : (command : Command) (answer : Answer) (n : ℕ) → n + cond (is_update (deed command answer)) 1 0 ≡ counted_with command n
-counted-with command answer n = grind (arith, nat_tests)
 
 module _ (burst least most start last : ℕ) where
   -- after n updates since a moment: the remaining burst allowance, the last update's moment, and the present moment
@@ -54,73 +47,48 @@ module _ (burst least most : ℕ) (opening : Opening) (before between : List Eve
   HoldsAfter n history =
       Holds burst least most (effective_moment opening before) (held_after opening before).control.last n (held_after opening history)
 
-  -- after a history that begins with these events, with others still to come
-  record Since (history left : List Event) : Type 0 where
-    n : ℕ
-    counted : updates_in between ≡ n + updates_in left
-    moment : (held_after opening history).moment ≡ effective_moment opening history
-    holds : HoldsAfter n history
-
-  since-next : (earlier : List Event) (event : Event) (left : List Event) → IsStep opening earlier event
-      → SetsAllow burst least most event.command → Since earlier (event ∷ left) → Since (earlier ++ event ∷ []) left
-  since-next earlier event left step set old =
+  holds-next : (n : ℕ) (earlier : List Event) (event : Event) → IsStep opening earlier event → SetsAllow burst least most event.command
+      → HoldsAfter n earlier → HoldsAfter (counted_with event.command n) (earlier ++ event ∷ [])
+  holds-next n earlier event step set old =
       let h = held_after opening earlier in
       let due : is_too_soon h.moment (Steps.due h) event.command ≡ false =
       subst (λ (m : ℕ). is_too_soon m (Steps.due h) event.command ≡ false) (sym step.same_moment) step.free.in_time in
-      let count = counted-cons event left in
-      let one = counted-with event.command event.answer old.n in
-      record {
-        n = counted_with event.command old.n;
-        counted = omega arith;
-        moment = step.next_moment;
-        holds = subst (Holds burst least most (effective_moment opening before) (held_after opening before).control.last
-            (counted_with event.command old.n)) (sym step.held)
-            (call-holds burst least most (effective_moment opening before) (held_after opening before).control.last old.n h
-            (waiting_after opening earlier) opening.limits.packets event.command old.holds set due);
-      }
+      subst (Holds burst least most (effective_moment opening before) (held_after opening before).control.last (counted_with event.command n))
+      (sym step.held) (call-holds burst least most (effective_moment opening before) (held_after opening before).control.last n h
+      (waiting_after opening earlier) opening.limits.packets event.command old set due)
 
-  since-between : (later : List Event) → IsLawful opening (before ++ between ++ later) → burst ≤ burst_left opening before
-      → AllAllow burst least most opening before between
-      → HoldsAfter (updates_in between) (before ++ between)
-      × ((held_after opening (before ++ between)).moment ≡ effective_moment opening (before ++ between))
-  since-between later lawful left allow =
+  holds-between : (later : List Event) → IsLawful opening (before ++ between ++ later) → burst ≤ burst_left opening before
+      → AllAllow burst least most opening before between → HoldsAfter (updates_in between) (before ++ between)
+  holds-between later lawful left allow =
       let it = sound_at opening before (between ++ later) (rw (append_assoc before between later) at lawful) in
-      let first : Since before between = record {
-        n = 0;
-        counted = omega arith;
-        moment = it.1;
-        holds = record {
-          allows = allow.force;
-          whole = omega arith;
-          apart = omega arith;
-          since = omega arith;
-          later = omega (arith, it.1);
-          sound = it.0.last;
-        };
-      } in
-      let s = along Since (λ earlier event. SetsAllow burst least most event.command) opening since-next before between later lawful
-      (all_along (λ (event : Event). SetsAllow burst least most event.command) before between allow.set) first in
-      let n : s.n ≡ updates_in between = let count = s.counted in omega (arith, count) in
-      (subst (λ (k : ℕ). HoldsAfter k (before ++ between)) n s.holds, s.moment)
+      along_updates HoldsAfter (λ earlier event. SetsAllow burst least most event.command) opening holds-next before between later lawful
+      (all_along (λ (event : Event). SetsAllow burst least most event.command) before between allow.set) (record {
+        allows = allow.force;
+        whole = omega arith;
+        apart = omega arith;
+        since = omega arith;
+        later = omega (arith, it.1);
+        sound = it.0.last;
+      })
 
 module _ (burst least most : ℕ) (opening : Opening) (before between later : List Event) (lawful : IsLawful opening (before ++ between ++ later))
     (left : burst ≤ burst_left opening before) (allow : AllAllow burst least most opening before between) where
   pub updates_apart : effective_moment opening before + updates_in between * least ≤ effective_moment opening (before ++ between) + least
   updates_apart =
-      let s = since-between burst least most opening before between later lawful left allow in
-      omega (arith, s.0.apart, s.0.sound, s.0.later, s.1)
+      let s = holds-between burst least most opening before between later lawful left allow in
+      omega (arith, s.apart, s.sound, s.later, (sound_at opening (before ++ between) later lawful).1)
 
   updates-since : (held_after opening before).control.last + updates_in between * least ≤ effective_moment opening (before ++ between)
   updates-since =
-      let s = since-between burst least most opening before between later lawful left allow in
-      omega (arith, s.0.since, s.0.sound, s.1)
+      let s = holds-between burst least most opening before between later lawful left allow in
+      omega (arith, s.since, s.sound, (sound_at opening (before ++ between) later lawful).1)
 
 module _ (burst least most : ℕ) (opening : Opening) (before between : List Event) (event : Event) (later : List Event)
     (lawful : IsLawful opening (before ++ between ++ event ∷ later)) (left : burst ≤ burst_left opening before)
     (allow : AllAllow burst least most opening before between) (early : IsEarly event) where
   pub updates_before : burst ≤ updates_in between * most
   updates_before =
-      let whole = (since-between burst least most opening before between (event ∷ later) lawful left allow).0.whole in
+      let whole = (holds-between burst least most opening before between (event ∷ later) lawful left allow).whole in
       let none = (early_at opening (before ++ between) event (step_at opening (before ++ between) event later lawful) early).no_burst in
       omega (arith, whole, none)
 
@@ -153,13 +121,11 @@ module _ (opening : Opening) (before : List Event) (between : List Event) (event
   pub earliest_drop : effective_moment opening before + left ≤ effective_moment opening (before ++ between) + t
   earliest_drop =
       let apart = updates_apart left t t opening before between (event ∷ later) lawful (omega arith) own in
-      let used = used in
       omega (arith, apart, used)
 
   pub earliest_since : (parts_after opening before).last + left ≤ effective_moment opening (before ++ between)
   earliest_since =
       let since = updates-since left t t opening before between (event ∷ later) lawful (omega arith) own in
-      let used = used in
       omega (arith, since, used)
 
 -- ---- histories without a change of parameters
@@ -182,10 +148,6 @@ allowed_where_kept opening before later lawful keep =
 
 -- ---- moments with a whole allowance
 
-pub reset-whole : (h : Held) (waiting : List Waiting) (packets moment : ℕ)
-    → (after_call h (call_of waiting packets (Reset moment))).control.burst ≡ (after_call h (call_of waiting packets (Reset moment))).params.max_burst
-reset-whole h waiting packets moment = refl
-
 pub wakes-whole : (h : Held) (waiting : List Waiting) (packets : ℕ) (command : Command) → h.active ≡ false
     → (after_call h (call_of waiting packets command)).active ≡ true
     → (after_call h (call_of waiting packets command)).control.burst ≡ (after_call h (call_of waiting packets command)).params.max_burst
@@ -196,3 +158,52 @@ pub calm-whole : (h : Held) (waiting : List Waiting) (packets : ℕ) (command : 
     → (after_call h (call_of waiting packets command)).control.prob ≡ 0
     → (after_call h (call_of waiting packets command)).control.burst ≡ (after_call h (call_of waiting packets command)).params.max_burst
 calm-whole h waiting packets command answer is on delay old none = grind (arith, nat_tests)
+
+-- ---- refused updates
+
+soon : (now due count events moment why : ℕ) → refusal_with now due count events (Update moment) ≡ Some (TooSoon why) → moment < due
+soon now due count events moment why e = grind (arith, nat_tests)
+
+pub refused_before : (opening : Opening) (before later : List Event) → IsLawful opening (before ++ later) → (moment due : ℕ)
+    → refusal_by_rule opening before (Update moment) ≡ Some (TooSoon due)
+    → moment < effective_moment opening before + (params_after opening before).t_update
+refused_before opening before later lawful moment due e =
+    let it = sound_at opening before later lawful in
+    omega (arith, it.1, it.0.last, soon _ _ _ _ moment due e)
+
+pub refused_ahead : AtEachEvent (λ opening before event. (ahead moment due : ℕ) → caller_moment event.command ≡ effective_moment opening before + ahead
+    → refusal_by_rule opening (before ++ event ∷ []) (Update moment) ≡ Some (TooSoon due)
+    → moment < effective_moment opening before + ahead + (params_after opening (before ++ event ∷ [])).t_update)
+unfolding AtEachEvent
+refused_ahead opening before event later lawful ahead moment due far e =
+    let split : before ++ event ∷ [] ++ later ≡ before ++ (event ∷ later) = append_assoc before (event ∷ []) later in
+    let now = effective_moment-push opening before event in
+    omega (arith, now, far, refused_before opening (before ++ event ∷ []) later (rw (← split) at lawful) moment due e)
+
+-- an update leaves its moment as the last one
+last-is : (h : Held) (waiting : List Waiting) (packets : ℕ) (command : Command) (answer : Answer) → is_update (deed command answer) ≡ true
+    → ((after_call h (call_of waiting packets command)).control.last ≡ (after_call h (call_of waiting packets command)).moment)
+    × ((after_call h (call_of waiting packets command)).params ≡ h.params)
+last-is h waiting packets command answer is = (grind (arith, nat_tests), grind (arith, nat_tests))
+
+pub refused_with : (now due count events moment : ℕ) → moment < 1_152_921_504_606_846_976 → now < due → moment < due
+    → refusal_with now due count events (Update moment) ≡ Some (TooSoon due)
+refused_with now due count events moment within soon early = grind (arith, nat_tests)
+
+pub refused_after : AtEachEvent (λ opening before event. is_update (deed_of event) ≡ true → (moment : ℕ) → moment < 1_152_921_504_606_846_976
+    → moment < effective_moment opening (before ++ event ∷ []) + (params_after opening before).t_update
+    → refusal_by_rule opening (before ++ event ∷ []) (Update moment)
+    ≡ Some (TooSoon (effective_moment opening (before ++ event ∷ []) + (params_after opening before).t_update)))
+unfolding AtEachEvent
+refused_after opening before event later lawful is moment within early =
+    let step = step_at opening before event later lawful in
+    let h = held_after opening before in
+    let g = held_after opening (before ++ event ∷ []) in
+    let left = subst (λ (k : Held). (k.control.last ≡ k.moment) × (k.params ≡ h.params)) (sym step.held)
+    (last-is h (waiting_after opening before) opening.limits.packets event.command event.answer is) in
+    let due : g.control.last + g.params.t_update ≡ effective_moment opening (before ++ event ∷ []) + h.params.t_update =
+    λ i. (left.0 ∙ step.next_moment) i + (left.1 i).t_update in
+    let some = (in-range h.params step.sound.params).t_update in
+    subst (λ (d : ℕ). refusal_with (effective_moment opening (before ++ event ∷ [])) d (length (before ++ event ∷ [])) opening.limits.events
+    (Update moment) ≡ Some (TooSoon (effective_moment opening (before ++ event ∷ []) + h.params.t_update))) (sym due)
+    (refused_with _ _ _ _ moment within (omega (arith, some.0)) early)

@@ -4,7 +4,7 @@ use Rattle.pie_guarantees.proofs.Names.{◌≡◌, ◌<◌, ◌++◌, ◌∷◌,
 use Rattle.pie_guarantees.proofs.Names.{lowered, lowered_opening, flows_in_turn, flows_opening, half_is_reached, last_update}
 use Rattle.pie_guarantees.specs.{picks_of}
 use Rattle.pie_event.specs.declared.refusal.Refusal.TheVariants.{TooSoon}
-use Rattle.pie_guarantees.proofs.ClockFacts.{refused_with}
+use Rattle.pie_guarantees.proofs.BurstFacts.{refused_with}
 use Rattle.pie_guarantees.proofs.LawfulFacts.{all_legal}
 
 pub lowered_below : IsLegal lowered_opening lowered × (bytes_after lowered_opening lowered ≡ 1000)

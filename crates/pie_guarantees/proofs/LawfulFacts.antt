@@ -1,15 +1,14 @@
 -- In a lawful history, a core represents the events before each place, and each event changes the core as its call does.
 use Rattle.pie_guarantees.proofs.Names.{◌≡◌, ◌≤◌, ◌<◌, ◌+◌, ℕ, List, [], ◌∷◌, ◌++◌, false, sym, subst, ap, ◌∙◌, arith, ⊤, All, None, length, ◌^◌}
 use Rattle.pie_guarantees.proofs.Names.{append-nil, append_assoc, All-head, All-tail, first_bad, deed_of, caller_moment, IsTaken, after_call, Held}
-use Rattle.pie_guarantees.proofs.Names.{IsSound, places, place_of, Waiting, Command, Event, Opening, call_of}
-use Rattle.pie_guarantees.proofs.Names.{IsLegalAt, has_bad_size, is_too_soon, refusal_by_rule, due_after, held_after, effective_moment, waiting_after}
-use Rattle.pie_guarantees.proofs.Names.{after_command, call_in, waiting_next, at_place, departed-of-legal, held-is, first_shows, first_core}
-use Rattle.pie_guarantees.proofs.Names.{next-core, next-legal, AllAlong, IsLawful, SetsInRange, nat_tests, map, drop, All-cons, All-nil, Place}
-use Rattle.pie_guarantees.proofs.Names.{decision, Answer, answer_by, Sound_call, Sound_opened, cond, is_update, sum_by-cons, updates_in}
-use Rattle.pie_guarantees.proofs.Names.{drop-append_seam, take-append_seam}
+use Rattle.pie_guarantees.proofs.Names.{IsSound, places, place_of, Waiting, Command, Event, Opening, call_of, IsLegalAt, has_bad_size, is_too_soon}
+use Rattle.pie_guarantees.proofs.Names.{refusal_by_rule, due_after, held_after, effective_moment, waiting_after, after_command, call_in, waiting_next}
+use Rattle.pie_guarantees.proofs.Names.{at_place, departed-of-legal, held-is, first_shows, first_core, next-core, next-legal, AllAlong, IsLawful}
+use Rattle.pie_guarantees.proofs.Names.{SetsInRange, nat_tests, map, drop, All-cons, All-nil, Place, decision, Answer, answer_by, Sound_call}
+use Rattle.pie_guarantees.proofs.Names.{Sound_opened, cond, is_update, sum_by-cons, updates_in, drop-append_seam, take-append_seam, Update, deed}
+use Rattle.pie_guarantees.proofs.Names.{effective_moment-push, waiting_after-push}
 use Rattle.std.proofs.lemmas.List.Elements.{All-drop, All-take}
 use Rattle.pie_book.specs.Core.{CoreView, Represents, closed}
-use Rattle.pie_guarantees.proofs.Names.{effective_moment-push, waiting_after-push}
 use Rattle.pie_event.specs.Opening as Opens
 
 -- ---- accepted commands
@@ -162,6 +161,38 @@ first-held opening = held-is opening (first_core opening) [] (first_shows openin
 -- the updates of events, the first of which is known
 pub counted-cons : (event : Event) (later : List Event) → updates_in (event ∷ later) ≡ cond (is_update (deed_of event)) 1 0 + updates_in later
 counted-cons event later = sum_by-cons (λ (e : Event). cond (is_update (deed_of e)) 1 0) event later
+
+-- the number of updates after a command
+abbrev pub counted_with : Command → ℕ → ℕ
+counted_with (Update moment) n = n + 1
+counted_with _ n = n
+
+counted-with : (command : Command) (answer : Answer) (n : ℕ) → n + cond (is_update (deed command answer)) 1 0 ≡ counted_with command n
+counted-with command answer n = grind (arith, nat_tests)
+
+-- a property between two events: `n` updates were made, and the others follow
+record Counted (P : ℕ → List Event → Type 0) (between earlier left : List Event) : Type 0 where
+  n : ℕ
+  counted : updates_in between ≡ n + updates_in left
+  holds : P n earlier
+
+-- a property of the number of updates so far that is preserved by each event of a lawful history holds after them
+pub along_updates : (P : ℕ → List Event → Type 0) (Q : List Event → Event → Type 0) (opening : Opening)
+    → ((n : ℕ) (earlier : List Event) (event : Event) → IsStep opening earlier event → Q earlier event → P n earlier
+    → P (counted_with event.command n) (earlier ++ event ∷ []))
+    → (before between later : List Event) → IsLawful opening (before ++ between ++ later) → AllAlong Q before between → P 0 before
+    → P (updates_in between) (before ++ between)
+along_updates P Q opening next before between later lawful all first =
+    let next : (earlier : List Event) (event : Event) (left : List Event) → IsStep opening earlier event → Q earlier event
+    → Counted P between earlier (event ∷ left) → Counted P between (earlier ++ event ∷ []) left =
+    λ earlier event left step here old. record {
+      n = counted_with event.command old.n;
+      counted = let was = old.counted in omega (arith, was, counted-cons event left, counted-with event.command event.answer old.n);
+      holds = next old.n earlier event step here old.holds;
+    } in
+    let it = along (Counted P between) Q opening next before between later lawful all (record { n = 0; counted = omega arith; holds = first }) in
+    let whole : it.n ≡ updates_in between = let counted = it.counted in omega (arith, counted) in
+    subst (λ (n : ℕ). P n (before ++ between)) whole it.holds
 
 -- the controller's numbers there are sound, and their moment is the effective one
 pub sound_at : (opening : Opening) (before later : List Event) → IsLawful opening (before ++ later)

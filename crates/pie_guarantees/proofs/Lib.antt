@@ -5,10 +5,7 @@ pub mod CountFacts
 pub mod NextFacts
 pub mod ProbabilityFacts
 pub mod SpacingFacts
-pub mod RateFacts
 pub mod LawfulFacts
-pub mod ClockFacts
 pub mod TextFacts
-pub mod RecoveryFacts
-pub mod DeadlineFacts
+pub mod ResponseFacts
 pub mod Examples

@@ -20,8 +20,7 @@ raw-mono : (params : RawParams) (old old' delay more : ℕ) → delay ≤ more �
 unfolding raw_step
 raw-mono params old old' delay more le change =
     let a = mul-mono params.alpha (pos delay -ℤ pos params.target) (pos more -ℤ pos params.target) (omega (arith, ints)) in
-    let b = mul-mono params.beta (pos delay -ℤ pos old) (pos more -ℤ pos old') change in
-    omega (arith, ints, a, b)
+    omega (arith, ints, a, mul-mono params.beta (pos delay -ℤ pos old) (pos more -ℤ pos old') change)
 
 -- for a delay that stays at the target the step is 0
 raw-zero : (params : RawParams) → raw_step params params.target params.target ≡ pos 0
@@ -114,8 +113,6 @@ next_decays elements params prob delay old is fallen =
     grind (arith, nat_tests, ints, clamps)
 
 -- ---- updates at one delay, by the table of auto-tuning
-
--- ---- the table of auto-tuning
 
 first-divisor : tuning_divisor 0 ≡ 2048
 unfolding tuning_divisor

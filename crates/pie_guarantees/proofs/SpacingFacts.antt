@@ -243,5 +243,4 @@ unfolding BetweenAny
 not_too_far least opening before between later lawful spaced some large on =
     let all = (shared opening before between later lawful spaced).1 in
     let none = continues-unpicked least opening before between some large on in
-    let many = counts-at-least least opening before between large in
-    omega (arith, all, none.0, none.1, many)
+    omega (arith, all, none.0, none.1, counts-at-least least opening before between large)

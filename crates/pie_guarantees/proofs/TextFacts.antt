@@ -9,9 +9,8 @@ use Rattle.pie_record.specs.declared.first_record.Draft.{Draft}
 use Rattle.pie_record.specs.declared.first_record.FirstKind.{FirstKind}
 use Rattle.pie_record.specs.declared.history_record.Line.{Line}
 use Rattle.pie_record.specs.declared.history_record.Line.TheVariants as line
-use Rattle.pie_record.specs.FirstRecord.{first_fields, first_kind}
+use Rattle.pie_record.specs.FirstRecord.{first_fields, first_kind, opening_by, opening_of, opening_read}
 use Rattle.pie_record.specs.HistoryLines.{RemainingLines, after_opening, history_opening, history_version}
-use Rattle.pie_record.specs.FirstRecord.{opening_by, opening_of, opening_read}
 use Rattle.pie_record.specs.ReadBack.{IsHistoryText}
 use Rattle.pie_record.specs.Text.{Row, records_of}
 use Rattle.pie_record.proofs.Laws.{LineFits, lines-fit}

@@ -2,17 +2,13 @@ pub mod Names
 pub mod Lawful
 pub mod Verdicts
 pub mod Bursts
-pub mod Counts
 pub mod Probability
 pub mod Spacing
-pub mod Rates
 pub mod Examples
 unfoldable pub use Names.*
 unfoldable pub use Lawful.*
 unfoldable pub use Verdicts.*
 unfoldable pub use Bursts.*
-unfoldable pub use Counts.*
 unfoldable pub use Probability.*
 unfoldable pub use Spacing.*
-unfoldable pub use Rates.*
 unfoldable pub use Examples.*

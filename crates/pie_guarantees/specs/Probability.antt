@@ -1,9 +1,11 @@
--- The relation of the probability to the delay (RFC 8033, sections 4.2, 5.1 and 5.5).
+-- The relation of the probability to the delay, and the samples of the departure rate (RFC 8033, sections 4.2, 5.1, 5.2 and 5.5).
 use Rattle.std.specs.Prelude.{◌≡◌, ◌≤◌, ◌<◌, ◌+◌, ◌*◌, ◌-◌, ◌/◌, ◌^◌, ◌++◌, ◌∷◌, [], min, ℕ, zero, suc, List, true, false}
 use Rattle.pie_params.specs.declared.elements.Elements.{Elements}
 use Rattle.pie_control.specs.Next.{next, tuning_divisor}
 use Rattle.pie_guarantees.specs.Names.{deed_of, is_update, RawParams, Event, Opening, active_after, delay_after, params_after, parts_after, is_reset}
+use Rattle.pie_guarantees.specs.Names.{departure_inputs, opened_of, controller_events}
 use Rattle.pie_guarantees.specs.Bursts.{IsWhole, KeepsParams}
+use Rattle.pie_rate.specs.Average.{samples}
 
 -- the event is an update, and the controller was active before it
 pub record IsActiveUpdate (opening : Opening) (before : List Event) (event : Event) : Type 0 where
@@ -80,3 +82,12 @@ pub record IsLasting (least : ℕ) (opening : Opening) (before : List Event) (ev
   pub active : active_after opening before ≡ true
   pub delay : is_update (deed_of event) ≡ true → least ≤ delay_after opening before
   pub grows : is_update (deed_of event) ≡ true → old_delay_after opening before ≤ delay_after opening before
+
+-- the samples after a history: for each departure rate cycle since the estimate was cleared, the time in which
+-- `dq_threshold` bytes departed
+abbrev pub samples_after : Opening → List Event → List ℕ
+samples_after opening history = samples (params_after opening history).dq_threshold (departure_inputs (opened_of opening) (controller_events opening history))
+
+-- a time between these two
+abbrev pub IsBetween : ℕ → ℕ → ℕ → Type 0
+IsBetween least most time = (least ≤ time) × (time ≤ most)

@@ -1,4 +1,4 @@
-use Rattle.pie_guarantees.proofs.ClockFacts.{refused_after, refused_ahead, refused_before}
+use Rattle.pie_guarantees.proofs.BurstFacts.{refused_after, refused_ahead, refused_before}
 use Rattle.pie_guarantees.proofs.clock.a_clock_ahead_delays_updates_by_as_much.Goals as goal
 
 pub returns : goal.returns

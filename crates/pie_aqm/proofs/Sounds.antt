@@ -1,5 +1,5 @@
 -- Parameters in their ranges.
-use Rattle.std.proofs.Common.{◌≡◌, ◌≤◌, arith, ◌<◌, ◌-◌, ◌^◌, ◌&&◌, ℕ, ℤ, pos, negsuc, ◌+ℤ◌, Bool, true, false, refl, ap, subst, sym}
+use Rattle.std.proofs.Common.{◌≡◌, ◌≤◌, arith, ◌<◌, ◌-◌, ◌^◌, ◌&&◌, ℕ, ℤ, Bool, true, false, refl, ap, subst, sym}
 use Rattle.std.proofs.Common.{if◌then◌else◌, ◌↔◌, rules}
 use Rattle.std.specs.Prelude.{None, max, Option, Some}
 use Rattle.std.proofs.lemmas.Bool.Decides.{nat_tests}
@@ -10,13 +10,12 @@ use Rattle.pie_aqm.specs.Types.{Elements, departure, Begun, Estimate, Parts, Pro
 use Rattle.pie_rate.specs.Average.{averaged}
 use Rattle.pie_rate.specs.Estimate.{after_departure, step_from}
 use Rattle.pie_control.specs.Delay.{delay_of}
-use Rattle.pie_control.specs.Next.{decayed, decays, next, raw_step, tuned_step}
-use Rattle.pie_early.specs.Decision.{counted}
+use Rattle.pie_control.specs.Next.{next}
 use Rattle.pie_early.proofs.Laws.{accu_below}
 use Rattle.pie_aqm.specs.Calls.{Arrive, Call, Change, Depart, IsTaken, Pass, Restart, Update, after_call}
 use Rattle.pie_aqm.specs.Held.{Held, IsSound, IsWithin}
 use Rattle.pie_aqm.specs.Steps.{accu_left, anew, bytes_with, control_updated, delay_in, is_calm, judged, now_at, keeps_wait}
-use Rattle.pie_aqm.specs.Steps.{measures, offered, opened, opens_active, stays_active, turns_on, verdict, wait_of}
+use Rattle.pie_aqm.specs.Steps.{measures, opened, opens_active, stays_active, turns_on, verdict, wait_of}
 use Rattle.pie_aqm.specs.{first_unsound}
 
 pub in-range : (params : RawParams) → first_bad params ≡ None → IsInRange params
@@ -34,8 +33,7 @@ in-range params e = record {
 
 -- the bounds of the threshold
 pub threshold-holds : (params : RawParams) → first_bad params ≡ None → (1024 ≤ params.dq_threshold) × (params.dq_threshold ≤ 65536)
-threshold-holds params e = let r = in-range params e in let power = r.dq_threshold in
-    (grind (arith, nat_tests, power), grind (arith, nat_tests, power))
+threshold-holds params e = grind (arith, nat_tests, in-range)
 
 -- ---- The state of a controller stays sound at each call
 
@@ -43,12 +41,7 @@ threshold-holds params e = let r = in-range params e in let power = r.dq_thresho
 
 pub accu-small : (h : Held) (a : ArrivingPacket) → h.accu < 8_500_000_000_000 → accu_left h a < 8_500_000_000_000
 unfolding accu_left
-accu-small h a small =
-    grind (
-      arith,
-      nat_tests,
-      accu_below h.elements.picking h.params h.control (counted h.elements h.params h.control (offered a)) a.queued a.word h.accu small,
-    )
+accu-small h a small = grind (arith, nat_tests, accu_below)
 
 -- ---- The departure rate
 
@@ -65,13 +58,11 @@ step-holds threshold average size left now (Some cycle) some small within a w =
 -- ---- The control law
 
 bounded-hold : (z : ℤ) → bounded_of z ≤ 10 ^ 12
-bounded-hold (pos n) = omega arith
-bounded-hold (negsuc n) = omega arith
+bounded-hold z = grind (arith, nat_tests)
 
 pub next-hold : (elements : Elements) (params : RawParams) (prob delay old : ℕ) → next elements params prob delay old ≤ 10 ^ 12
 unfolding next
-next-hold elements params prob delay old =
-    bounded-hold (decayed (decays elements.decay params delay old) (pos prob +ℤ tuned_step elements.step prob (raw_step params delay old)))
+next-hold elements params prob delay old = grind (arith, nat_tests, bounded-hold)
 
 pub delay-hold : (bytes average threshold : ℕ) → delay_of bytes average threshold ≤ 2 ^ 40
 unfolding delay_of
@@ -180,11 +171,7 @@ sound_from h none = record {
 
 pub sound_to : (h : Held) → IsSound h → first_unsound h ≡ None
 unfolding first_unsound
-sound_to h s =
-    let params = s.params in
-    let cycle = s.cycle in
-    let active = s.active in
-    grind (arith, nat_tests)
+sound_to h s = grind (arith, nat_tests, s.params, s.cycle, s.active)
 
 pub sound_is : (h : Held) → (first_unsound h ≡ None) ↔ IsSound h
 sound_is h = (sound_from h, sound_to h)

@@ -1,17 +1,11 @@
 -- A core stays balanced at each command.
-use Rattle.std.proofs.Common.{◌≡◌, ◌≤◌, ◌+◌, ◌*◌, ◌==◌, ◌||◌, ℕ, List, [], ◌∷◌, ◌++◌, length, true, not, refl, sym, arith}
-use Rattle.std.proofs.Common.{length-append, length-drop, subst, None}
+use Rattle.std.proofs.Common.{◌≡◌, ◌≤◌, ◌+◌, ◌*◌, ℕ, List, [], ◌∷◌, ◌++◌, length, true, refl, sym, arith, length-append, length-drop}
+use Rattle.std.proofs.Common.{subst, None}
 use Rattle.std.proofs.lemmas.Bool.Decides.{nat_tests}
-use Rattle.pie_book.specs.{Waiting, Command, Arrive, Depart, CoreView, bytes_of}
-use Rattle.pie_book.specs.{core_after, snapshot_of, IsBalanced, are_balanced, suits_delay, suits_picking, age_of_oldest}
-use Rattle.pie_book.specs.{caller_moment, Opening, opened_by, first_core, end_refusal}
-use Rattle.pie_params.specs.declared.elements.Delay.{Delay}
-use Rattle.pie_params.specs.declared.elements.Delay.TheVariants.{Rate, Stamp}
-use Rattle.pie_params.specs.declared.elements.Picking.{Picking}
-use Rattle.pie_params.specs.declared.elements.Picking.TheVariants.{Derandomized, Random}
+use Rattle.pie_book.specs.{Waiting, Command, Arrive, Depart, CoreView, bytes_of, core_after, snapshot_of, IsBalanced, are_balanced}
+use Rattle.pie_book.specs.{age_of_oldest, caller_moment, Opening, first_core, end_refusal}
 use Rattle.pie_book.specs.declared.snapshot.CoreSnapshot.{CoreSnapshot}
 use Rattle.pie_aqm.specs.Steps as Steps
-use Rattle.pie_early.specs.Decision as Early
 
 -- ---- Numbers and facts
 
@@ -37,16 +31,6 @@ balanced_of s e = record {
 -- ---- One more command
 
 module _ (core : CoreView) where
-  events-next : (command : Command) → IsBalanced (snapshot_of core)
-      → let t = (core_after core command).stats in
-      core.count + 1 ≡ t.arrivals + (t.left + t.empty + t.updates + t.resets + t.changes)
-  events-next command b = let e = b.events in grind (arith, nat_tests, e)
-
-  arrivals-next : (command : Command) → IsBalanced (snapshot_of core)
-      → let t = (core_after core command).stats in
-      t.arrivals ≡ (t.enqueued + t.marked) + (t.early + t.over_bytes + t.over_packets)
-  arrivals-next command b = let e = b.arrivals in grind (arith, nat_tests, e)
-
   queued-next : (command : Command) → IsBalanced (snapshot_of core)
       → let after = core_after core command in
       after.stats.enqueued + after.stats.marked ≡ after.stats.left + length after.waiting
@@ -62,16 +46,6 @@ module _ (core : CoreView) where
       by (oldest ∷ others) e = let rest = length-drop 1 (oldest ∷ others) in omega (arith, e, rest)
   queued-next _ b = b.queued
 
-  largest-queue-next : (command : Command) → bytes_of (core_after core command).waiting ≤ (core_after core command).stats.largest_queue
-  largest-queue-next command = omega arith
-
-  largest-delay-next : (command : Command) → IsBalanced (snapshot_of core)
-      → (core_after core command).held.control.old_delay ≤ (core_after core command).stats.largest_delay
-  largest-delay-next command b = let e = b.largest_delay in grind (arith, nat_tests, e)
-
-  last-wait-next : (command : Command) → IsBalanced (snapshot_of core) → (core_after core command).held.waited ≤ (core_after core command).stats.waited
-  last-wait-next command b = let e = b.last_wait in grind (arith, nat_tests, e)
-
   waits-next : (command : Command) → IsBalanced (snapshot_of core)
       → (core_after core command).stats.waited ≤ (core_after core command).stats.left * (core_after core command).held.moment
   waits-next command b =
@@ -83,42 +57,22 @@ module _ (core : CoreView) where
       let age : age_of_oldest now core.waiting ≤ now = grind (arith, nat_tests) in
       rw moment (grind (arith, nat_tests, e, more, one, age))
 
-  no-update-next : (command : Command) → IsBalanced (snapshot_of core)
-      → let after = core_after core command in (not (after.stats.updates == 0) || (after.held.control.prob == 0)) ≡ true
-  no-update-next command b = let e = b.no_update in grind (arith, nat_tests, e)
-
-  delay-next : (command : Command) → IsBalanced (snapshot_of core)
-      → suits_delay (core_after core command).held.elements.delay (core_after core command).held ≡ true
-  delay-next command b = let e = b.delay in grind (arith, nat_tests, e)
-
-  picking-next : (command : Command) → IsBalanced (snapshot_of core)
-      → suits_picking (core_after core command).held.elements.picking (core_after core command).held ≡ true
-  unfolding Steps.accu_left
-  picking-next command b = let e = b.picking in grind (arith, nat_tests, e)
-
   pub balanced_next : (command : Command) → IsBalanced (snapshot_of core) → IsBalanced (snapshot_of (core_after core command))
+  unfolding Steps.accu_left
   balanced_next command b = record {
-    events = events-next command b;
-    arrivals = arrivals-next command b;
+    events = grind (arith, nat_tests, b.events);
+    arrivals = grind (arith, nat_tests, b.arrivals);
     queued = queued-next command b;
-    largest_queue = largest-queue-next command;
-    largest_delay = largest-delay-next command b;
-    last_wait = last-wait-next command b;
+    largest_queue = omega arith;
+    largest_delay = grind (arith, nat_tests, b.largest_delay);
+    last_wait = grind (arith, nat_tests, b.last_wait);
     waits = waits-next command b;
-    no_update = no-update-next command b;
-    delay = delay-next command b;
-    picking = picking-next command b;
+    no_update = grind (arith, nat_tests, b.no_update);
+    delay = grind (arith, nat_tests, b.delay);
+    picking = grind (arith, nat_tests, b.picking);
   }
 
 -- ---- Without events, and with all packets
-
-first-delay : (delay : Delay) (opening : Opening) → suits_delay delay (opened_by opening) ≡ true
-first-delay Rate opening = refl
-first-delay Stamp opening = refl
-
-first-picking : (picking : Picking) (opening : Opening) → suits_picking picking (opened_by opening) ≡ true
-first-picking Derandomized opening = refl
-first-picking Random opening = refl
 
 pub balanced_first : (opening : Opening) → IsBalanced (snapshot_of (first_core opening))
 balanced_first opening = record {
@@ -130,8 +84,8 @@ balanced_first opening = record {
   last_wait = omega arith;
   waits = omega arith;
   no_update = refl;
-  delay = first-delay opening.choices.elements.delay opening;
-  picking = first-picking opening.choices.elements.picking opening;
+  delay = grind (arith, nat_tests);
+  picking = grind (arith, nat_tests);
 }
 
 -- a resumed core from which no announced packet or byte is missing has a balanced snapshot, if the announced numbers are balanced

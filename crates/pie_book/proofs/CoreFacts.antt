@@ -312,8 +312,6 @@ module _ (opening : Opening) (core : CoreView) (history : List Event) (shows : R
         stats = counts ∙ sym (stats_after-push opening history event);
       }
 
--- ---- Each legal history is represented by a core that executed its commands in order
-
 -- ---- Parameters stay in their ranges
 
 pub good-next : (core : CoreView) (command : Command) → first_bad core.held.params ≡ None → CommandFits command
@@ -331,8 +329,6 @@ pub next_shown : (opening : Opening) (core : CoreView) (history : List Event) �
     → Represents opening (core_after core command) (history ++ event_of caller command (answer_in core command) ∷ [])
 next_shown opening core history shows caller command good free =
     next-shows opening core history shows caller command (threshold_held core.held (call_in core command) good) free
-
--- ---- One more event
 
 -- a legal event after a history is the next event of a core that represents the history
 pub next-legal : (opening : Opening) (core : CoreView) (history : List Event) (event : Event) → Represents opening core history

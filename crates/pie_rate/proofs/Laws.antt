@@ -1,5 +1,5 @@
 -- The change of each definition when a departure is added at the end of the list.
-use Rattle.std.proofs.Common.{◌≡◌, ℕ, zero, suc, ◌+◌, ◌-◌, ◌<◌, ◌≤◌, Bool, true, false, cond, List, [], ◌∷◌, ◌++◌, length, take, drop, Option, Some}
+use Rattle.std.proofs.Common.{◌≡◌, ℕ, zero, suc, ◌+◌, ◌-◌, ◌<◌, ◌≤◌, Bool, true, false, cond, List, [], ◌∷◌, ◌++◌, length, drop, Option, Some}
 use Rattle.std.proofs.Common.{None, refl, ap, ◌∙◌, arith, length-drop, map, sym, fold, ◌↔◌, ◌^◌, max}
 use Rattle.std.specs.Prelude.{find, nat_le, nat_lt, IfSome, if◌then◌else◌, option_map}
 use Rattle.std.specs.List.{range_with_len}
@@ -23,11 +23,7 @@ range-push a (suc n) = let e : (a + 1) + n ≡ a + suc n = omega arith in rw (�
 -- a search depends only on the tests in its range
 find-range-same : (p q : ℕ → Bool) (a n : ℕ) → ((k : ℕ) → a ≤ k → k < a + n → p k ≡ q k) → find p (range_with_len a n) ≡ find q (range_with_len a n)
 find-range-same p q a zero same = refl
-find-range-same p q a (suc n) same =
-    let here : p a ≡ q a = same a (omega arith) (omega arith) in
-    let rest : find p (range_with_len (a + 1) n) ≡ find q (range_with_len (a + 1) n) = find-range-same p q (a + 1) n
-    (λ k l h. same k (omega arith) (omega arith)) in
-    rw (here, rest) refl
+find-range-same p q a (suc n) same = grind (arith, nat_tests, find-range-same p q (a + 1) n (λ k l h. same k (omega arith) (omega arith)))
 
 -- the result of a search is in the range
 find-range-within : (p : ℕ → Bool) (low a n e : ℕ) → low ≤ a → a + n ≤ e → IfSome (find p (range_with_len a n)) (λ k. (low ≤ k) × (k < e))
@@ -38,11 +34,7 @@ find-range-within p low a (suc n) e l h = let later = find-range-within p low (a
 first_position-push : (p q : ℕ → Bool) (from end : ℕ) → from ≤ end → ((k : ℕ) → from ≤ k → k < end → p k ≡ q k)
     → first_position p from (end + 1) ≡ option_or (first_position q from end) (cond (p end) (Some end) None)
 unfolding first_position
-first_position-push p q from end l same =
-    let n : (end + 1) - from ≡ suc (end - from) = omega arith in
-    let e : from + (end - from) ≡ end = omega arith in
-    let f = ap (find p) (range-push from (end - from)) ∙ find-append p (range_with_len from (end - from)) ((from + (end - from)) ∷ []) in
-    rw (n, f, e, find-range-same p q from (end - from) (λ k a b. same k a (omega arith))) refl
+first_position-push p q from end l same = grind (arith, nat_tests, range-push, find-append, find-range-same)
 
 first_position-past : (p : ℕ → Bool) (from end : ℕ) → end ≤ from → first_position p from end ≡ None
 unfolding first_position
@@ -68,14 +60,10 @@ module _ (threshold : ℕ) (ds : List Departure) (d : Departure) where
   bytes_after-push i h = ap bytes_of (drop-append-le (i + 1) ds (d ∷ []) (omega arith)) ∙ sum_by_push (λ e. e.size) (drop (i + 1) ds) d
 
   bytes_after_to-push_old : (i k : ℕ) → i < k → k < length ds → bytes_after_to (ds ++ d ∷ []) i k ≡ bytes_after_to ds i k
-  bytes_after_to-push_old i k a b =
-      ap (λ xs. bytes_of (take (k - i) xs)) (drop-append-le (i + 1) ds (d ∷ []) (omega arith))
-      ∙ ap bytes_of (take-append-le (k - i) (drop (i + 1) ds) (d ∷ []) (omega (arith, length-drop (i + 1) ds)))
+  bytes_after_to-push_old i k a b = grind (arith, nat_tests, drop-append-le, take-append-le, length-drop)
 
   bytes_after_to-push_new : (i : ℕ) → i < length ds → bytes_after_to (ds ++ d ∷ []) i (length ds) ≡ bytes_after ds i + d.size
-  bytes_after_to-push_new i h =
-      ap bytes_of (take_all (length ds - i) (drop (i + 1) (ds ++ d ∷ [])) (omega (arith, length-drop (i + 1) (ds ++ d ∷ []), length_push ds d)))
-      ∙ bytes_after-push i h
+  bytes_after_to-push_new i h = grind (arith, nat_tests, take_all, length-drop, length_push, bytes_after-push)
 
   -- the departure opens a cycle, or closes the cycle that departure i opened
   abbrev pub opens : Option ℕ
@@ -249,10 +237,7 @@ module _ (threshold : ℕ) (ds : List Departure) (t : threshold ≤ 65536) where
   pub average_of-push : (cs : List Cycle) (sample : ℕ)
       → average_of threshold (map (sample_of ds) cs ++ sample ∷ []) ≡ with_sample threshold (average_of threshold (map (sample_of ds) cs)) sample
   average_of-push [] sample = refl
-  average_of-push (cycle ∷ rest) sample =
-      let some = fold-positive (sample_of ds cycle) rest (omega arith) in
-      let more = fold-append (averaged threshold) (sample_of ds cycle) (map (sample_of ds) rest) (sample ∷ []) in
-      grind (arith, nat_tests)
+  average_of-push (cycle ∷ rest) sample = grind (arith, nat_tests, fold-positive, fold-append)
 
   -- an average of departures is 0 exactly if they make no cycle
   pub average_zero : (average threshold ds ≡ 0) ↔ (cycles threshold ds ≡ [])
@@ -272,9 +257,7 @@ none_represented threshold = record { average = refl; begun = refl }
 
 module _ (threshold : ℕ) (ds : List Departure) (d : Departure) where
   begun_at-new : begun_at (ds ++ d ∷ []) (length ds) ≡ record { start = d.moment; count = 0 }
-  begun_at-new =
-      let past = drop_all (length ds + 1) (ds ++ d ∷ []) (omega (arith, length_push ds d)) in
-      rw (departure_at-push_new threshold ds d, past) refl
+  begun_at-new = grind (arith, nat_tests, drop_all, length_push, departure_at-push_new)
 
   begun_at-push : (i : ℕ) → i < length ds → begun_at (ds ++ d ∷ []) i
       ≡ record { start = (departure_at ds i).moment; count = bytes_after ds i + d.size }
@@ -333,16 +316,11 @@ module _ (threshold : ℕ) (d : Departure) (t : threshold ≤ 65536) (m : d.mome
   Holds o = IfSome o (λ cycle. (cycle.start < 2 ^ 60) × (cycle.count < 65536))
 
   to_some : (o : Option Begun) → Holds o → ForSome o (λ cycle. (cycle.start < 2 ^ 60) × (cycle.count < 65536))
-  to_some None h = λ cycle e. absurd (cc)
-  to_some (Some held) h = λ cycle e. let same : held ≡ cycle = cc in rw (← same) h
+  to_some o h = grind (arith, nat_tests)
 
   within-from : (before : ℕ) (o : Option Begun) → before < 2 ^ 60 → ForSome o (λ cycle. (cycle.start < 2 ^ 60) × (cycle.count < 65536))
       → ((step_from threshold before d o).average < 2 ^ 60) × Holds (step_from threshold before d o).begun
-  within-from before None w h = grind (arith, nat_tests)
-  within-from before (Some cycle) w h =
-      let old = h cycle refl in
-      let sample = with_sample-within threshold before (max 1 (d.moment - cycle.start)) t w (omega arith) in
-      grind (arith, nat_tests)
+  within-from before o w h = grind (arith, nat_tests, with_sample-within)
 
   pub within_after : (e : Estimate) → IsWithin e → IsWithin (after_departure threshold e d)
   within_after e w = let h = within-from e.average e.begun w.0 w.1 in (h.0, to_some _ h.1)

@@ -1,12 +1,11 @@
 -- The work of all workers of a storm: it is gathered; no caller stopped early, since a history has no more events than
 -- there are commands; so the storm has the result of its plan.
 use Rattle.pie_storm.proofs.Names.{◌≡◌, ℕ, ◌+◌, ◌<◌, List, [], length, length-append, events_in, refl, ap, sym, ◌∙◌, subst, inl, inr, ⊎_elim, arith}
-use Rattle.pie_storm.proofs.Names.{dite, ℕ_discrete, Bool, true, false, ◌||◌, get_or, is_within, nat_tests, Extends, Event, number_of, EntriesLookBack}
-use Rattle.pie_storm.proofs.Names.{Entry, CallerView, LinkView, Plan, Work, calls_of, folder, opening_of, updater, IsOutcomeOf, HasNoMore, IsWell}
-use Rattle.pie_storm.proofs.Names.{IsWorkBelow, WereFolded, zero, suc, ◌≤◌, cond, ◌∷◌, ◌++◌, All, All-nil, All-cons, All-head, All-tail, own}
-use Rattle.pie_storm.proofs.Names.{own_none, entries_of, Call, IsSound, total, AreMade}
-use Rattle.pie_storm.proofs.Names.{◌⊎◌, AreFolded, IsCutShort, None, Some, Ok, Err, Result, Bounded, Opening, IsLegal, folded_events, senders, IsEndOf, IsFor}
-use Rattle.pie_storm.proofs.Names.{drop-append_seam, tail_in, take-append_seam}
+use Rattle.pie_storm.proofs.Names.{dite, ℕ_discrete, Bool, true, false, ◌||◌, get_or, is_within, nat_tests, Extends, Event, number_of}
+use Rattle.pie_storm.proofs.Names.{EntriesLookBack, Entry, CallerView, LinkView, Plan, Work, calls_of, folder, opening_of, updater, IsOutcomeOf}
+use Rattle.pie_storm.proofs.Names.{HasNoMore, IsWell, IsWorkBelow, WereFolded, zero, suc, ◌≤◌, cond, ◌∷◌, ◌++◌, All, All-nil, All-cons, All-head}
+use Rattle.pie_storm.proofs.Names.{All-tail, own, own_none, entries_of, Call, IsSound, total, AreMade, ◌⊎◌, AreFolded, IsCutShort, None, Some, Ok}
+use Rattle.pie_storm.proofs.Names.{Err, Result, Opening, IsLegal, folded_events, senders, IsEndOf, IsFor, drop-append_seam, take-append_seam}
 use Rattle.pie_lock.specs.Promises.{IsBothOf}
 use Rattle.pie_lock.proofs.Seats.{goes_on, gone_on}
 use Rattle.pie_storm.specs.declared.worker.Folding.{Folding}
@@ -30,26 +29,13 @@ use Rattle.pie_storm.proofs.PlanFacts.{IsCallOf, calls_are, no_calls}
 pub run_fault : (plan : Plan) (result : Result StormEnd StormFault) → IsSound plan → refusal_of plan ≡ None
     → IfErr result (λ why. (why ≡ fault.Memory) ⊎ (why ≡ fault.Thread)) → IfErr result (HasFault plan)
 unfolding HasFault
-run_fault plan (Ok end) sound none faulted = tt
-run_fault plan (Err why) sound none (inl is) = subst (HasFault plan) (sym is) (sound, none)
-run_fault plan (Err why) sound none (inr is) = subst (HasFault plan) (sym is) (sound, none)
+run_fault plan result sound none faulted = grind (arith, nat_tests)
 
 -- the calls of a caller in a history are its calls in a longer one without further entries of it
 came_on : (law : EntriesLookBack) (plan : Plan) (caller : ℕ) (h k : List Entry) (passed : ℕ) → HasNoMore caller h k → IsOutcomeOf plan caller h passed
     → IsOutcomeOf plan caller k passed
 unfolding IsOutcomeOf
-came_on law plan caller h k passed on (inl made) = inl (made_on (opening_of plan) caller [] (calls_of plan caller) h k passed on made)
-came_on law plan caller h k passed on (inr cut) = inr (record {
-  asks = cut.asks;
-  full = omega (
-    arith,
-    cut.full,
-    ap (λ (l : List Entry). length (events_in l)) on.0.1,
-    ap (λ (l : List Event). length l) (law.events h on.0.0),
-    length-append (events_in h) (events_in on.0.0),
-  );
-  fewer = omega (arith, cut.fewer, ap (λ (l : List Entry). length l) on.1);
-})
+came_on law plan caller h k passed on it = grind (arith, nat_tests, made_on, length-append)
 
 other_below : (n caller k : ℕ) → caller < n → is_within 0 n k ≡ false → is_within caller (caller + 1) k ≡ false
 other_below n caller k below out = grind (arith, nat_tests)
@@ -243,16 +229,12 @@ module _ (plan : Plan) (h : List Entry) (sound : IsSound plan) (below : All (IsB
   -- no caller has more entries than calls
   few_of : (caller passed : ℕ) → IsOutcomeOf plan caller h passed → length (entries_of caller h) ≤ length (calls_of plan caller)
   unfolding IsOutcomeOf
-  few_of caller passed (inl made) = omega (arith, few_made (opening_of plan) caller [] (calls_of plan caller) h passed made)
-  few_of caller passed (inr cut) = omega (arith, cut.fewer)
+  few_of caller passed it = grind (arith, nat_tests, few_made)
 
   -- the entries of the folder are folds
   folds_of : (passed : ℕ) → IsOutcomeOf plan (folder plan) h passed → All (IsRight (folder plan)) (entries_of (folder plan) h)
   unfolding IsOutcomeOf
-  folds_of passed (inl made) =
-      all_right_by plan (folder plan) [] (calls_of plan (folder plan)) h passed (calls_are plan sound (folder plan)) made
-      (All-nil (IsRight (folder plan)))
-  folds_of passed (inr cut) = absurd (cut.asks refl)
+  folds_of passed it = grind (arith, nat_tests, all_right_by, calls_are)
 
   -- no caller stopped early
   never_cut : (caller : ℕ) → caller < callers_of_plan plan → IsCutShort plan caller [] (calls_of plan caller) h → ⊥
@@ -273,8 +255,7 @@ module _ (plan : Plan) (h : List Entry) (sound : IsSound plan) (below : All (IsB
   all_made : (caller passed : ℕ) → caller < callers_of_plan plan → IsOutcomeOf plan caller h passed
       → AreMade (opening_of plan) caller [] (calls_of plan caller) h passed
   unfolding IsOutcomeOf
-  all_made caller passed less (inl made) = made
-  all_made caller passed less (inr cut) = absurd (never_cut caller less cut)
+  all_made caller passed less it = grind (arith, nat_tests, never_cut)
 
   -- each caller made all its calls
   each_made : (caller : ℕ)
@@ -325,15 +306,11 @@ module _ (plan : Plan) (link : LinkView) (work : Work) (book : BookView) (link_f
 
   -- the caller closed the link, and has the book that was opened
   opened_so : book.opening ≡ opening_of plan
-  opened_so =
-      let same : Some book.opening ≡ Some (opening_of plan) = sym opened ∙ (ap (λ (l : LinkView). l.origin) worked.lock ∙ link_for.opened) in
-      cc same
+  opened_so = grind (arith, nat_tests)
 
   -- all entries of its front have numbers of the plan's callers, which made permitted calls
   all_below : All (λ (e : Entry). number_of e < callers_of_plan plan) work.caller.front
-  all_below =
-      let all : work.caller.lock.numbers ≡ callers_of_plan plan = omega (arith, ap (λ (l : LinkView). l.numbers) worked.lock, numbers) in
-      subst (λ (n : ℕ). All (λ (e : Entry). number_of e < n) work.caller.front) all (numbered holds_all)
+  all_below = grind (arith, nat_tests, numbered, holds_all)
 
   all_came : IsWell work.folding → (caller : ℕ) → caller < callers_of_plan plan
       → (passed : ℕ) × IsOutcomeOf plan caller work.caller.front passed × (caller ≡ updater plan → passed ≡ work.too_soon)
@@ -353,22 +330,12 @@ module _ (plan : Plan) (link : LinkView) (work : Work) (book : BookView) (link_f
 
   -- the stored events followed by the log are all events
   whole_history : IsWell work.folding → work.folding.events.items ++ book.tail ≡ events_in work.caller.front
-  whole_history fine =
-      let front = work.caller.front in
-      let bounded : book.opening.choices.mode ≡ Bounded = ap (λ (o : Opening). o.choices.mode) opened_so in
-      let all : work.folding.events.items ≡ folded_events book.opening front =
-      all_handed fine ∙ ap (λ (o : Opening). folded_events o front) (sym opened_so) in
-      ap (λ (es : List Event). es ++ book.tail) all ∙ (represents holds_all).nothing_lost bounded
+  whole_history fine = grind (arith, nat_tests, opened_so, all_handed, holds_all)
 
   -- the stored events followed by the log, with their number
   all_parted : IsWell work.folding → (events : List Event) (folded : ℕ) → events ≡ work.folding.events.items ++ book.tail
       → folded ≡ length work.folding.events.items → AreFolded (opening_of plan) work.caller.front events folded
-  all_parted fine events folded are many =
-      let own = work.folding.events.items in record {
-        folds_split = rw (are, many) (sym (all_handed fine) ∙ sym (take-append_seam own book.tail));
-        left = rw (are, many) (ap (λ (o : Opening). tail_in o work.caller.front) (sym opened_so) ∙ (sym (represents holds_all).tail
-            ∙ sym (drop-append_seam own book.tail)));
-      }
+  all_parted fine events folded are many = grind (arith, nat_tests, all_handed, take-append_seam, opened_so, holds_all, drop-append_seam)
 
   -- the result of a storm
   pub ended : (result : Result StormEnd StormFault)

@@ -3,4 +3,3 @@ mod Making
 mod Gathering
 mod PlanFacts
 mod StormFacts
-mod SoundFacts

@@ -1,18 +1,16 @@
 -- The entries of a caller's calls in a growing history, one by one or in bursts; and the events of its folds.
-use Rattle.pie_storm.proofs.Names.{◌≡◌, ℕ, ◌+◌, true, false, List, [], ◌∷◌, ◌++◌, take, refl, ap, sym, ◌∙◌, arith, All}
-use Rattle.pie_storm.proofs.Names.{nat_tests, append-nil, All-head, All-tail, is_within, NoneOwn, gone_on, Event, Opening, folded_for, number_of}
-use Rattle.pie_storm.proofs.Names.{tail_in, EntriesLookBack, Entry, Applied, Folded, HasNoMore, is_number, zero, suc, ◌≤◌, Some, None}
-use Rattle.pie_storm.proofs.Names.{Ok, Err, Option, Result, Vec, drop, min, length, slice_get, subst, inl, inr, length-append, length-drop}
-use Rattle.pie_storm.proofs.Names.{Global, take-add, take-length, length-take, append_assoc, Extends, goes_on_itself, Answer, Command}
-use Rattle.pie_storm.proofs.Names.{Refusal, refusal_by_rule, refusal_with, event_of}
-use Rattle.pie_storm.proofs.Names.{entries_of, events_in, left_in, Told, CallerView, LinkView, Call, Ask, Fold, Plan, IsFair, calls_of, folder}
-use Rattle.pie_storm.proofs.Names.{opening_of, AreMade, IsOutcomeBy, IsOutcomeOf, IsAt, IsCutShort, IsFor, WereFolded, map, IfSome, IsOk, length-map, All-cons}
-use Rattle.pie_storm.proofs.Names.{All-nil, decision, Arrival, Reply, always, arrive, arriving, AddedByAll}
+use Rattle.pie_storm.proofs.Names.{◌≡◌, ℕ, ◌+◌, true, false, List, [], ◌∷◌, ◌++◌, take, refl, ap, sym, ◌∙◌, arith, All, nat_tests, append-nil}
+use Rattle.pie_storm.proofs.Names.{All-head, All-tail, is_within, NoneOwn, gone_on, Event, Opening, folded_for, number_of, tail_in, EntriesLookBack}
+use Rattle.pie_storm.proofs.Names.{Entry, Applied, Folded, HasNoMore, is_number, zero, suc, ◌≤◌, Some, None, Ok, Err, Option, Result, Vec, drop, min}
+use Rattle.pie_storm.proofs.Names.{length, slice_get, subst, inl, inr, length-append, length-drop, Global, take-add, take-length, length-take}
+use Rattle.pie_storm.proofs.Names.{append_assoc, Extends, goes_on_itself, Answer, Command, Refusal, refusal_by_rule, event_of, entries_of, events_in}
+use Rattle.pie_storm.proofs.Names.{Told, CallerView, LinkView, Call, Ask, Fold, Plan, IsFair, calls_of, folder, opening_of, AreMade, IsOutcomeBy}
+use Rattle.pie_storm.proofs.Names.{IsOutcomeOf, IsAt, IsCutShort, IsFor, WereFolded, map, IfSome, IsOk, length-map, All-cons, All-nil, Arrival, Reply}
+use Rattle.pie_storm.proofs.Names.{always, arrive, arriving, AddedByAll, decision}
 use Rattle.std.proofs.lemmas.List.Elements.{filter-append, All-drop, All-take}
 use Rattle.pie_event.specs.declared.refusal.FoldRefusal.{FoldRefusal}
 use Rattle.pie_event.specs.declared.refusal.FoldRefusal.TheVariants.{TooMany, Memory}
 use Rattle.pie_event.specs.declared.refusal.Refusal.TheVariants.{TooSoon, Moment, Size, Exhausted, HistoryFull}
-use Rattle.pie_book.specs.Decision.{is_too_soon}
 use Rattle.pie_link.specs.Commands.{Answers}
 use Rattle.pie_link.specs.CallerFolds.{Folds}
 use Rattle.pie_storm.specs.Storms.{IsEntryOf, TakenIn, WasPassedOver, added_by}
@@ -24,8 +22,7 @@ use Rattle.pie_storm.proofs.PlanFacts.{IsCallOf, all_at, calls_are}
 -- one more fold of the caller
 pub folded_more : (law : EntriesLookBack) (opening : Opening) (caller : ℕ) (g : List Entry) (n who : ℕ) → who ≡ caller
     → folded_for (is_number caller) opening [] (g ++ Folded who n ∷ []) ≡ folded_for (is_number caller) opening [] g ++ take n (tail_in opening g)
-folded_more law opening caller g n who is =
-    let both = law.folds_split (is_number caller) opening [] g (Folded who n ∷ []) in grind (arith, nat_tests, append-nil)
+folded_more law opening caller g n who is = grind (arith, nat_tests, append-nil)
 
 -- without further entries of the caller its folds return no more events
 folded_none : (opening : Opening) (caller : ℕ) (before xs : List Entry) → NoneOwn number_of caller (caller + 1) xs
@@ -89,11 +86,8 @@ module _ (opening : Opening) (caller : ℕ) where
   made_both front [] later mid h p q m n =
       let none : q ≡ p + q = omega (arith, m.1) in
       subst (λ (t : ℕ). AreMade opening caller front later h t) none (made_from front mid later h q m.0 n)
-  made_both front (call ∷ calls) later mid h p q (inl m) n =
-      inl (m.0, m.1, m.2, m.3, made_both (m.0 ++ m.1 ∷ []) calls later mid h p q m.4 n)
-  made_both front (call ∷ calls) later mid h p q (inr m) n =
-      let sum : p + q ≡ m.1 + q + 1 = omega (arith, m.4) in
-      inr (m.0, m.1 + q, m.2, m.3, sum, made_both m.0 calls later mid h m.1 q m.5 n)
+  made_both front (call ∷ calls) later mid h p q (inl m) n = grind (arith, nat_tests, made_both (m.0 ++ m.1 ∷ []) calls later mid h p q m.4 n)
+  made_both front (call ∷ calls) later mid h p q (inr m) n = grind (arith, nat_tests, made_both m.0 calls later mid h m.1 q m.5 n)
 
   -- calls in a longer history without further entries of the caller
   pub made_on : (front : List Entry) (calls : List Call) (h k : List Entry) (passed : ℕ) → HasNoMore caller h k
@@ -107,10 +101,7 @@ module _ (opening : Opening) (caller : ℕ) where
       → length (entries_of caller h) ≤ length (entries_of caller front) + length calls
   few_made front [] h passed m = let same = m.0.1 in grind arith
   few_made front (call ∷ calls) h passed (inl m) =
-      let rest = few_made (m.0 ++ m.1 ∷ []) calls h passed m.4 in
-      let one = own_entry caller m.0 m.1 (numbered caller opening m.0 call m.1 m.3) in
-      let same = m.2.1 in
-      grind (arith, length-append)
+      grind (arith, nat_tests, own_entry, numbered, length-append, few_made (m.0 ++ m.1 ∷ []) calls h passed m.4)
   few_made front (call ∷ calls) h passed (inr m) = let rest = few_made m.0 calls h m.1 m.5 in let same = m.2.1 in grind arith
 
 -- the element at the place at which the list is cut
@@ -135,15 +126,9 @@ pub too_soon_by_rule : (opening : Opening) (history : List Entry) (command : Com
     → refusal_by_rule opening (events_in history) command ≡ Some (TooSoon due)
 too_soon_by_rule opening history command due why = grind (arith, nat_tests)
 
--- a command in time is not refused as too soon
-pub never_soon : (before due count events : ℕ) (command : Command) (d : ℕ) → is_too_soon before due command ≡ false
-    → refusal_with before due count events command ≡ Some (TooSoon d) → ⊥
-never_soon before due count events command d calm e = grind (arith, nat_tests, calm, e)
-
 pub full_after : (opening : Opening) (history : List Entry) (command : Command) (why : Refusal) → IsFair command → refusal_in opening history command ≡ Some why
     → ((d : ℕ) → why ≡ TooSoon d → ⊥) → min opening.limits.tail opening.limits.events ≤ length (events_in history)
-full_after opening history command why fair is not_soon =
-    let few = length-drop (left_in opening history) (events_in history) in grind (arith, nat_tests)
+full_after opening history command why fair is not_soon = grind (arith, nat_tests, length-drop)
 
 -- ---- the calls of a turn
 
@@ -152,9 +137,7 @@ module _ (plan : Plan) (number : ℕ) where
   pub came_from : (front before : List Entry) (calls : List Call) (after : List Entry) (passed : Option ℕ) → HasNoMore number front before
       → IsOutcomeBy plan number before calls after passed → IsOutcomeBy plan number front calls after passed
   unfolding IsOutcomeBy
-  came_from front before calls after (Some passed) on came = made_from (opening_of plan) number front before calls after passed on came
-  came_from front before calls after None on came =
-      record { asks = came.asks; full = came.full; fewer = omega (arith, came.fewer, ap (λ (l : List Entry). length l) on.1) }
+  came_from front before calls after passed on came = grind (arith, nat_tests, made_from)
 
   -- a front is this history
   shows : (h front : List Entry) → front ≡ h → HasNoMore number h front
@@ -194,9 +177,7 @@ module _ (plan : Plan) (number k : ℕ) (link : LinkView) (link_for : IsFor plan
 
   one_came : (call : Call) (history : List Entry) (passed : Option ℕ) → slice_get (calls_of plan number) k ≡ Some call
       → Extends number_of before.first before.limit before.front history → IsOutcomeBy plan number history (call ∷ []) after.front passed → Came passed
-  one_came call history passed there on came =
-      subst (λ (calls : List Call). IsOutcomeBy plan number before.front calls after.front passed) (sym (one_at (calls_of plan number) k call there))
-      (came_from plan number before.front history (call ∷ []) after.front passed (has_front link number before history at on) came)
+  one_came call history passed there on came = grind (arith, nat_tests, one_at, came_from, has_front)
 
   pub asked_next : (command : Command) → slice_get (calls_of plan number) k ≡ Some (Ask command) → (answer : Result (Told Answer) Refusal)
       → Answers link before command answer after → Came (added_by answer)
@@ -256,37 +237,18 @@ module _ (plan : Plan) (number k : ℕ) (front : List Entry) (passed : ℕ)
   pub made_more : (n : ℕ) (after : List Entry) (more : ℕ) → IsOutcomeBy plan number front (take n (drop k (calls_of plan number))) after (Some more)
       → AreMade (opening_of plan) number [] (take (k + n) (calls_of plan number)) after (passed + more)
   unfolding IsOutcomeBy
-  made_more n after more came =
-      let all = calls_of plan number in
-      subst (λ (calls : List Call). AreMade (opening_of plan) number [] calls after (passed + more)) (sym (take-add k n all))
-      (made_both (opening_of plan) number [] (take k all) (take n (drop k all)) front after passed more made came)
+  made_more n after more came = grind (arith, nat_tests, take-add, made_both)
 
   -- after its first k calls a caller stopped early
   pub came_cut : k ≤ length (calls_of plan number) → (n : ℕ) (after : List Entry)
       → IsCutShort plan number front (take n (drop k (calls_of plan number))) after → IsOutcomeOf plan number after passed
   unfolding IsOutcomeOf
-  came_cut within n after cut =
-      let all = calls_of plan number in
-      inr (record {
-        asks = cut.asks;
-        full = cut.full;
-        fewer = omega (
-          arith,
-          within,
-          cut.fewer,
-          few_made (opening_of plan) number [] (take k all) front passed made,
-          length-take k all,
-          length-take n (drop k all),
-          length-drop k all,
-        );
-      })
+  came_cut within n after cut = grind (arith, nat_tests, few_made, length-take, length-drop)
 
   -- a caller made all its calls
   pub came_of_all : k ≡ length (calls_of plan number) → IsOutcomeOf plan number front passed
   unfolding IsOutcomeOf
-  came_of_all all =
-      inl (subst (λ (calls : List Call). AreMade (opening_of plan) number [] calls front passed)
-      (ap (λ (n : ℕ). take n (calls_of plan number)) all ∙ take-length (calls_of plan number)) made)
+  came_of_all all = grind (arith, nat_tests, take-length)
 
 -- an arrival is never too soon
 arrives_in_time : (opening : Opening) (h : List Entry) (a : Arrival) (why : Refusal) → refusal_in opening h (arrive a) ≡ Some why
@@ -337,16 +299,12 @@ module _ (law : EntriesLookBack) (plan : Plan) (caller : ℕ) where
       (length (entries_of caller end) ≤ length (entries_of caller g) + count) × (length (events_in g) ≤ length (events_in end))
 
   grows_by : (g : List Entry) (a : Arrival) (reply : Reply) → Grows g 1 (grown g a reply)
-  grows_by g a reply =
-      let more = law.events g (entries_by caller (arrive a) reply) in
-      (grind (arith, nat_tests, length-append, filter-append), grind (arith, nat_tests, length-append))
+  grows_by g a reply = grind (arith, nat_tests, length-append, filter-append)
 
   grows : (g : List Entry) (burst : List Arrival) → Grows g (length burst) (after_all g burst)
   grows g [] = (omega arith, omega arith)
   grows g (a ∷ later) =
-      let reply = reply_to g a in
-      let one = grows_by g a reply in
-      let rest = grows (grown g a reply) later in
+      let one = grows_by g a (reply_to g a) in let rest = grows (grown g a (reply_to g a)) later in
       (omega (arith, one.0, rest.0), omega (arith, one.1, rest.1))
 
   -- an arrival, followed by those after it

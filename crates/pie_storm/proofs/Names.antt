@@ -2,23 +2,22 @@
 pub use Rattle.std.proofs.Common.{Bool, Err, List, None, Ok, Option, Result, Some, Vec, [], ap, append_assoc, arith, cond, drop, false, get_or, inl}
 pub use Rattle.std.proofs.Common.{inr, length, length-append, length-drop, map, min, nat_le, refl, rules, slice_get, subst, suc, sym, take, true}
 pub use Rattle.std.proofs.Common.{zero, ℕ, ⊎_elim, ◌*◌, ◌++◌, ◌+◌, ◌-◌, ◌/◌, ◌<◌, ◌==◌, ◌^◌, ◌∙◌, ◌∷◌, ◌≡◌, ◌≤◌, ◌⊎◌}
-pub use Rattle.std.proofs.Math.Seq.{drop-append_seam, take-add, take-append_seam, take-length, take-suc}
+pub use Rattle.std.proofs.Math.Seq.{drop-append_seam, take-add, take-append_seam, take-length}
 pub use Rattle.std.proofs.lemmas.Bool.Decides.{nat_tests}
 pub use Rattle.std.proofs.lemmas.List.{append-nil, length-map, length-take, map-append}
 pub use Rattle.std.proofs.lemmas.List.Elements.{All-cons, All-head, All-nil, All-tail}
 pub use Rattle.std.specs.List.{All, drop-map, range_with_len, take-map}
 pub use Rattle.std.specs.Prelude.{IfSome, IsOk, if◌then◌else◌, ◌||◌}
 pub use Rattle.std.specs.declared.alloc.Global.{Global}
-pub use Rattle.pie_book.specs.Decision.{IsLegal, IsLegalAt, decision, refusal_by_rule, refusal_with}
+pub use Rattle.pie_book.specs.Decision.{IsLegal, IsLegalAt, decision, refusal_by_rule}
 pub use Rattle.pie_book.specs.Run.{event_of}
 pub use Rattle.pie_event.specs.declared.command.Answer.{Answer}
 pub use Rattle.pie_event.specs.declared.command.Command.{Command}
 pub use Rattle.pie_event.specs.declared.command.Event.{Event}
-pub use Rattle.pie_event.specs.declared.opening.Mode.TheVariants.{Bounded}
 pub use Rattle.pie_event.specs.declared.opening.Opening.{Opening}
 pub use Rattle.pie_event.specs.declared.refusal.Refusal.{Refusal}
 pub use Rattle.pie_link.specs.Bursts.{Reply, always, arrive}
-pub use Rattle.pie_link.specs.Entries.{entries_of, events_in, folded_events, folded_for, left_in, number_of, tail_in}
+pub use Rattle.pie_link.specs.Entries.{entries_of, events_in, folded_events, folded_for, number_of, tail_in}
 pub use Rattle.pie_link.specs.EntryLaws.{EntriesLookBack}
 pub use Rattle.pie_link.specs.declared.arrival.Arrival.{Arrival}
 pub use Rattle.pie_link.specs.declared.entry.Entry.{Entry}

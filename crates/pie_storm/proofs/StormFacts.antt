@@ -1,12 +1,30 @@
--- The events of a legal history have the kinds of their commands, and are few; their text is clean.
-use Rattle.pie_storm.proofs.Names.{◌≡◌, ◌≤◌, ◌<◌, ◌^◌, ℕ, List, [], ◌∷◌, ◌++◌, map, length, true, refl, ap, sym, subst, ◌∙◌, arith, IfSome, Option}
-use Rattle.pie_storm.proofs.Names.{nat_tests, Some, None, Result, Ok, Err, append-nil, Command, Event, Opening, IsLegal, IsLegalAt, decision, Plan, opening_of}
-use Rattle.std.specs.Prelude.{All, OnOk}
+-- A plan from numbers in their ranges is sound, and its link is opened if there is memory. The events of a legal history
+-- have the kinds of their commands, and are few; their text is clean.
+use Rattle.pie_storm.proofs.Names.{◌≡◌, ◌≤◌, ◌<◌, ◌+◌, ◌*◌, ◌-◌, ◌/◌, ◌∙◌, ℕ, zero, suc, List, Vec, Global, All, map, length, refl, sym, ap, subst}
+use Rattle.pie_storm.proofs.Names.{⊎_elim, arith, ◌^◌, ◌∷◌, [], nat_tests, range_with_len, slice_get, Some, None, Arrival, Call, Plan, IsSound, arrivals_of}
+use Rattle.pie_storm.proofs.Names.{held_by, length-map, arriving, planned_arrival, sender_words, senders, total, calls_of, ◌++◌, true, IfSome, Option}
+use Rattle.pie_storm.proofs.Names.{Result, Ok, Err, append-nil, Command, Event, Opening, IsLegal, IsLegalAt, decision, opening_of}
+use Rattle.pie_storm.proofs.PlanFacts.{all_at, sender_has, total_more, all_of}
+use Rattle.pie_storm.specs.Plans.{IsMoment, IsSoundArrival, planned}
+use Rattle.pie_storm.specs.StormPlan.{HasStormRange, IsStormPlan, change_at, command_count, words_after}
+use Rattle.pie_storm.specs.Storms.{refusal_of}
+unfoldable use Rattle.pie_storm.specs.Storms.{CanStop, HasFault}
+use Rattle.pie_storm.specs.declared.storm_end.StormFault.{StormFault}
+use Rattle.pie_storm.specs.declared.storm_end.StormFault.TheVariants as fault
+use Rattle.pie_event.specs.declared.opening.Limits.{Limits}
+use Rattle.pie_link.specs.Opening.{link_refusal}
+use Rattle.rand_core.specs.Stream.{next_u64}
+use Rattle.pie_storm.specs.declared.plan_numbers.StormNumbers.{StormNumbers}
+use Rattle.pie_storm.specs.declared.plan.Change.{Change}
+use Rattle.std.proofs.lemmas.Option.{slice_get_cases}
+use Rattle.std.proofs.Math.Nat.{div-le_self, mod-lt, mul-le-mul, mul_assoc, suc-mul}
+use Rattle.std.proofs.Math.ListN.{get_or-map}
+use Rattle.std.proofs.lemmas.List.FromFn.{get_or-map-range_with_len, length-map-range_with_len}
+use Rattle.std.specs.Prelude.{OnOk}
 use Rattle.std.specs.Io.KnownBytes.{Appends}
 use Rattle.pie_aqm.specs.Places.{Place, after, places}
 use Rattle.pie_event.specs.Deed.{fits}
 use Rattle.pie_event.specs.Opening.{opening_refusal}
-use Rattle.pie_event.specs.declared.opening.Limits.{Limits}
 use Rattle.pie_record.specs.ReadBack.{IsHistoryText}
 use Rattle.pie_record.specs.Text.{Row, records_of, rows_text}
 use Rattle.pie_excerpt.specs.Preamble.{resumed_of}
@@ -15,12 +33,124 @@ use Rattle.pie_record.specs.declared.history_record.Line.{Line}
 use Rattle.pie_record.specs.declared.history_record.Line.TheVariants.{Valid}
 use Rattle.pie_audit.specs.Auditor.{Audits, AuditorView}
 use Rattle.pie_audit.specs.Finding.{events_of, finding, first_difference}
-use Rattle.pie_audit.specs.Legal.{EventsAreLines}
-use Rattle.pie_audit.specs.Legal.{AreLegal}
+use Rattle.pie_audit.specs.Legal.{EventsAreLines, AreLegal}
 use Rattle.pie_audit.specs.Text.{excerpt_lines, text_finding, whole_finding}
 use Rattle.pie_audit.specs.declared.auditor.Finding.TheVariants.{Clean, Differs}
 use Rattle.pie_storm.specs.StormHistory.{WritesHistory}
-use Rattle.pie_storm.proofs.PlanFacts.{all_of}
+
+-- ---- lists
+
+of_range : {A : Type 0} (P : A → Type 0) (f : ℕ → A) (a n : ℕ) → ((j : ℕ) → j < a + n → P (f j)) → All P (map f (range_with_len a n))
+of_range P f a n each = grind (arith, nat_tests, length-map-range_with_len, get_or-map-range_with_len)
+
+-- a fact about the lists of vectors
+of_held : (Q : List Arrival → Type 0) (lists : List (Vec Arrival Global)) → All Q (map held_by lists) → All (λ (l : Vec Arrival Global). Q l.items) lists
+of_held Q lists all = λ k d within.
+    subst Q (get_or-map held_by lists k d) (all k (held_by d) (omega (arith, within, length-map lists held_by)))
+
+there : {A : Type 0} (xs : List A) (k : ℕ) → k < length xs → (x : A) × (slice_get xs k ≡ Some x)
+there xs k within = ⊎_elim (λ has. (has.0, has.2)) (λ past. absurd (omega (arith, within, past.0))) (slice_get_cases xs k).1
+
+-- ---- limits
+
+abbrev limits_of : ℕ → Limits
+limits_of count = record { packets = 1024; tail = count; events = count }
+
+opens : (count callers : ℕ) → 1 ≤ count → count ≤ 2 ^ 20 → link_refusal (limits_of count) 0 (callers + 5) ≡ None
+opens count callers one few = grind (arith, nat_tests)
+
+module _ (n : StormNumbers) (plan : Plan) (range : HasStormRange n) (is : IsStormPlan n plan) where
+  senders_are : senders plan ≡ n.senders
+  senders_are = grind (arith, nat_tests, length-map, length-map-range_with_len)
+
+  few : n.senders * n.packets ≤ 8 * 10_000
+  few = mul-le-mul range.senders range.packets
+
+  -- ---- moments and sizes
+
+  arrival_sound : (sender i : ℕ) → IsSoundArrival (planned_arrival n.packets n.burst sender (sender_words n.seed sender) i)
+  arrival_sound sender i = (grind (arith, nat_tests, range.packets), omega arith, omega (arith, mod-lt (next_u64 (words_after i (sender_words n.seed sender))).0 {m = 1437} (omega arith)))
+
+  arrivals_sound : All (λ (list : Vec Arrival Global). All IsSoundArrival list.items) plan.arrivals.items
+  arrivals_sound =
+      of_held (All IsSoundArrival) plan.arrivals.items
+      (subst (All (All IsSoundArrival)) (sym is.arrivals)
+      (of_range (All IsSoundArrival) (arrivals_of n.packets n.burst n.seed) 1 n.senders
+      (λ sender less. of_range IsSoundArrival (planned_arrival n.packets n.burst sender (sender_words n.seed sender)) 0 n.packets
+      (λ i within. arrival_sound sender i))))
+
+  departs_sound : All IsMoment plan.departs.items
+  departs_sound =
+      subst (All IsMoment) (sym is.departs)
+      (of_range IsMoment (λ j. (j + 1) * n.load * 10_000 / n.senders) 0 (n.senders * n.packets)
+      (λ j less.
+      let one : j + 1 ≤ 80_000 = omega (arith, less, few) in
+      omega (arith, div-le_self ((j + 1) * n.load * 10_000) n.senders, mul-le-mul one range.load)))
+
+  updates_sound : All IsMoment plan.updates.items
+  updates_sound =
+      subst (All IsMoment) (sym is.updates)
+      (of_range IsMoment (λ j. (j + 1) * 15_000_000) 0 (n.packets / 15 + 1)
+      (λ j less. omega (arith, less, div-le_self n.packets 15, range.packets)))
+
+  changes_sound : All (λ (c : Change). IsMoment c.moment) plan.changes.items
+  changes_sound =
+      subst (All (λ (c : Change). IsMoment c.moment)) (sym is.changes)
+      (of_range (λ (c : Change). IsMoment c.moment) (change_at n.packets n.changes) 0 n.changes
+      (λ k less.
+      let one : k + 1 ≤ 100 = omega (arith, less, range.changes) in
+      omega (arith, div-le_self ((k + 1) * n.packets * 1_000_000) (n.changes + 1), mul-le-mul one range.packets)))
+
+  -- ---- the number of commands
+
+  abbrev many : ℕ → ℕ
+  many caller = length (calls_of plan caller)
+
+  sent_many : (k : ℕ) → k < n.senders → many (k + 1) ≡ n.packets
+  sent_many k less =
+      let within : k < length plan.arrivals.items = omega (arith, less, senders_are) in
+      let it = there plan.arrivals.items k within in
+      let long : length it.0.items ≡ n.packets =
+      all_at (λ (l : Vec Arrival Global). length l.items ≡ n.packets) plan.arrivals.items k it.0
+      (of_held (λ (l : List Arrival). length l ≡ n.packets) plan.arrivals.items
+      (subst (All (λ (l : List Arrival). length l ≡ n.packets)) (sym is.arrivals)
+      (of_range (λ (l : List Arrival). length l ≡ n.packets) (arrivals_of n.packets n.burst n.seed) 1 n.senders
+      (λ sender below. length-map-range_with_len (planned_arrival n.packets n.burst sender (sender_words n.seed sender)) 0 n.packets)))) it.1 in
+      let place : slice_get plan.arrivals.items (k + 1 - 1) ≡ Some it.0 =
+      ap (λ (p : ℕ). slice_get plan.arrivals.items p) (omega arith) ∙ it.1 in
+      ap (λ (l : List Call). length l) (sender_has plan (k + 1) it.0 (omega arith) (omega (arith, within)) place)
+      ∙ (length-map it.0.items arriving ∙ long)
+
+  none_many : many 0 ≡ 0
+  unfolding calls_of
+  none_many = refl
+
+  all_sent : (k : ℕ) → k ≤ n.senders → total many (k + 1) ≡ k * n.packets
+  all_sent zero within = omega (arith, total_more many 0, none_many)
+  all_sent (suc k) within = grind (arith, nat_tests, sent_many, total_more, suc-mul, all_sent k (omega (arith, within)))
+
+  after_many : (many (n.senders + 1) ≡ n.senders * n.packets) × (many (n.senders + 2) ≡ n.packets / 15 + 1) × (many (n.senders + 3) ≡ n.changes)
+  unfolding calls_of
+  after_many = grind (arith, nat_tests, length-map, senders_are, length-map-range_with_len)
+
+  planned_are : planned plan ≡ command_count n
+  planned_are = grind (arith, nat_tests, senders_are, total_more, all_sent, after_many, mul_assoc)
+
+  -- ---- the plan is sound
+
+  pub made_sound : IsSound plan
+  made_sound = grind (arith, nat_tests, senders_are, arrivals_sound, departs_sound, updates_sound, changes_sound, planned_are)
+
+  few_commands : (1 ≤ command_count n) × (command_count n ≤ 2 ^ 20)
+  few_commands = (omega arith, omega (arith, few, mul_assoc 2 n.senders n.packets, div-le_self n.packets 15, range.packets, range.changes))
+
+  pub made_opens : refusal_of plan ≡ None
+  made_opens = grind (arith, nat_tests, opens, few_commands)
+
+  -- its storm fails only for lack of memory or of a thread
+  pub can_stop : (why : StormFault) → HasFault plan why → CanStop why
+  unfolding HasFault CanStop
+  can_stop why has = grind (arith, nat_tests, made_sound, made_opens)
 
 -- ---- the kind of each answer suits its command
 
@@ -72,10 +202,7 @@ clean-legal are_lines whole opening events legal =
 
 pub differs-never : EventsAreLines → WholeIsClean → (opening own : Opening) (events : List Event) (event : ℕ) → opening ≡ own → IsLegal own events
     → Differs event ≡ finding opening (map Valid events) → ⊥
-differs-never are_lines whole opening own events event is legal differs =
-    let wrong : Differs event ≡ Clean (length events) = differs ∙ ap (λ (o : Opening). finding o (map Valid events)) is
-    ∙ clean-legal are_lines whole own events legal in
-    cc
+differs-never are_lines whole opening own events event is legal differs = grind (arith, nat_tests, clean-legal)
 
 no-difference : (opening : Opening) (lines : List Line) (events : ℕ) → finding opening lines ≡ Clean events → first_difference opening lines ≡ None
 no-difference opening lines events is = grind (arith, nat_tests)
@@ -100,12 +227,7 @@ LegalIsClean = (text : List ℕ) (opening : Opening) (lines : List Line) → IsH
 clean-written : EventsAreLines → LegalIsClean → (opening : Opening) (events : List Event) (known : Option (List ℕ)) → IsLegal opening events
     → IfSome known (λ text. IsHistoryText text opening (map Valid events))
     → IfSome known (λ text. text_finding (records_of text) ≡ Ok (Clean (length events)))
-clean-written are_lines is_clean opening events None legal is_legal = tt
-clean-written are_lines is_clean opening events (Some text) legal is_legal =
-    let same = are_lines.events events in
-    is_clean text opening (map Valid events) is_legal
-    (record { made = are_lines.made events; legal = subst (λ (es : List Event). IsLegal opening es) (sym same) legal })
-    ∙ ap (λ (es : List Event). Ok (Clean (length es))) same
+clean-written are_lines is_clean opening events known legal is_legal = grind (arith, nat_tests)
 
 pub writes-answered : {A E : Type 0} → EventsAreLines → LegalIsClean → WholeIsClean → (given : Result A E) (plan : Plan) (events : List Event)
     (auditor : AuditorView) (opening : Opening) (before now : Option (List ℕ)) → opening ≡ opening_of plan

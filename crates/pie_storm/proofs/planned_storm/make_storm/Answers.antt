@@ -1,4 +1,4 @@
-use Rattle.pie_storm.proofs.SoundFacts.{can_stop}
+use Rattle.pie_storm.proofs.StormFacts.{can_stop}
 unfoldable use Rattle.pie_storm.specs.Storms.{CanStop}
 use Rattle.pie_storm.proofs.planned_storm.make_storm.Goals as goal
 

@@ -1,40 +1,31 @@
 -- An audit of one file after another, of any or of those of one history.
-use Rattle.std.proofs.Common.{arith}
+use Rattle.std.proofs.Common.{arith, append_assoc, true}
 use Rattle.std.proofs.lemmas.Bool.Decides.{nat_tests}
-use Rattle.pie_commands.proofs.Names.{◌≡◌, ◌∙◌, ◌+◌, ◌<◌, ℕ, List, [], ◌∷◌, ◌++◌, add-one, get_or, length, take, Bool, false, Option, Some}
-use Rattle.pie_commands.proofs.Names.{None, inl, inr, refl, ap, subst, ◌||◌, Appends, Appends-nil, Appends-trans, append-nil, map-append}
-use Rattle.pie_commands.proofs.Names.{flat_map, flat_map-append, list_any, Text, Joined, EndView, Fault, ReadsNamed, text_given, IfSome, Result, Ok, Err, FindsEither, JoinsText, records_of, sym, map, reads-given}
-use Rattle.pie_commands.proofs.Names.{HaveOutcomes, AuditsFiles, EndsFiles, HasReadOutcome, HasTextOutcome, FileOutcome, is_broken, is_unfound, lines_of, outcome_lines, worst}
-use Rattle.pie_commands.proofs.FileFacts.{IsLeft, left-stays, opens-left}
-use Rattle.pie_commands.specs.Files.{CanOpen, opens_after}
-use Rattle.pie_commands.specs.declared.file_audits.Unaudited.{Unaudited}
-use Rattle.pie_commands.specs.declared.file_audits.Unaudited.TheVariants.{Unopened, Faulty}
-use Rattle.std.proofs.Common.{append_assoc, true}
+use Rattle.pie_commands.proofs.Names.{◌≡◌, ◌∙◌, ◌+◌, ◌<◌, ℕ, List, [], ◌∷◌, ◌++◌, add-one, get_or, length, take, Bool, false, Option, Some, None, inl}
+use Rattle.pie_commands.proofs.Names.{inr, refl, ap, subst, ◌||◌, Appends, Appends-nil, Appends-trans, append-nil, map-append, flat_map}
+use Rattle.pie_commands.proofs.Names.{flat_map-append, list_any, Text, Joined, EndView, Fault, ReadsNamed, text_given, IfSome, Result, Ok, Err}
+use Rattle.pie_commands.proofs.Names.{FindsEither, JoinsText, records_of, sym, map, HaveOutcomes, AuditsFiles, EndsFiles, HasReadOutcome}
+use Rattle.pie_commands.proofs.Names.{HasFileOutcome, FileOutcome, is_broken, is_unfound, lines_of, outcome_lines, worst}
+use Rattle.pie_commands.proofs.FileFacts.{IsLeft, left-stays, opens-left, reads-given}
+use Rattle.pie_commands.specs.Files.{CanOpen}
+use Rattle.pie_commands.specs.declared.audit.Unaudited.{Unaudited}
+use Rattle.pie_commands.specs.declared.audit.Unaudited.TheVariants.{Unopened, Faulty}
+use Rattle.std.specs.Prelude.{is_err}
 use Rattle.std.proofs.Math.Seq.{take-suc}
 use Rattle.std.proofs.lemmas.List.Folds.{list_any-append}
 use Rattle.pie_record.specs.declared.fault.TraceFault.TheVariants as trace_fault
 
 -- the result of a file is the result of its text
-pub tells-given : {R : Type 0} (works joined : Bool) (remaining : R → Option (List ℕ)) (first : R) (input : Option R)
+pub outcome-given : {R : Type 0} (works joined : Bool) (remaining : R → Option (List ℕ)) (first : R) (input : Option R)
     (files : Text → Option (List ℕ)) (earlier : List Text) (name : Text) (before : Option EndView) (outcome : Result Joined Unaudited)
     (after : Option EndView) → IsLeft first earlier input
     → HasReadOutcome joined ((works ≡ true) × CanOpen input (files name) name) (ReadsNamed remaining input files name) before outcome after
-    → HasTextOutcome joined ((works ≡ true) × (opens_after files earlier name ≡ true)) (text_given (remaining first) files (Some name)) before outcome after
-tells-given {R} works joined remaining first input files earlier name before outcome after left tells = by joined outcome tells
-  where
-    is : (known : Option (List ℕ)) → ReadsNamed remaining input files name known → known ≡ text_given (remaining first) files (Some name)
-    is known reads = reads-given remaining first input files name known (left-stays first earlier input left) reads
+    → HasFileOutcome works joined (remaining first) files earlier name before outcome after
+outcome-given works joined remaining first input files earlier name before outcome after left has = grind (arith, nat_tests, reads-given, left-stays, opens-left)
 
-    by : (joined : Bool) (outcome : Result Joined Unaudited)
-        → HasReadOutcome joined ((works ≡ true) × CanOpen input (files name) name) (ReadsNamed remaining input files name) before outcome after
-        → HasTextOutcome joined ((works ≡ true) × (opens_after files earlier name ≡ true)) (text_given (remaining first) files (Some name)) before outcome after
-    by joined (Err Unopened) tells = (λ opens. tells.0 (opens.0, opens-left first files earlier input name left opens.1), tells.1)
-    by joined (Err (Faulty why)) tells =
-        (subst (λ (k : Option (List ℕ)). IfSome k (λ text. FindsEither (records_of text) (Err why))) (is tells.0 tells.1) tells.2.0, tells.2.1)
-    by true (Ok found) tells =
-        (tells.2.0, subst (λ (k : Option (List ℕ)). IfSome k (λ text. JoinsText (records_of text) before found after)) (is tells.0 tells.1) tells.2.1)
-    by false (Ok found) tells =
-        (tells.2.0, subst (λ (k : Option (List ℕ)). IfSome k (λ text. FindsEither (records_of text) (Ok found.finding))) (is tells.0 tells.1) tells.2.1)
+pub unfound-is : (outcome : Result Joined Unaudited) → is_err outcome ≡ is_unfound outcome
+unfound-is (Ok found) = refl
+unfound-is (Err why) = refl
 
 -- true if an element of the list with one more at its end passes
 any-more : {X : Type 0} (test : X → Bool) (xs : List X) (x : X) (before : Bool) → before ≡ list_any test xs
@@ -48,24 +39,18 @@ lines-more outcomes one =
 
 -- one file more at the end
 outcomes-more : (works joined : Bool) (input : Option (List ℕ)) (files : Text → Option (List ℕ)) (earlier : List Text) (before : Option EndView)
-    (outcomes : List FileOutcome) (between : Option EndView) (one : FileOutcome) (after : Option EndView) → HaveOutcomes works joined input files earlier before outcomes between
-    → HasTextOutcome joined ((works ≡ true) × (opens_after files (earlier ++ map (λ t. t.0) outcomes) one.0 ≡ true)) (text_given input files (Some one.0)) between
-    one.1 after
+    (outcomes : List FileOutcome) (between : Option EndView) (one : FileOutcome) (after : Option EndView)
+    → HaveOutcomes works joined input files earlier before outcomes between
+    → HasFileOutcome works joined input files (earlier ++ map (λ t. t.0) outcomes) one.0 between one.1 after
     → HaveOutcomes works joined input files earlier before (outcomes ++ one ∷ []) after
 outcomes-more works joined input files earlier before [] between one after have is =
-    let first : HasTextOutcome joined ((works ≡ true) × (opens_after files earlier one.0 ≡ true)) (text_given input files (Some one.0)) between one.1 after =
-    subst (λ (e : List Text). HasTextOutcome joined ((works ≡ true) × (opens_after files e one.0 ≡ true)) (text_given input files (Some one.0)) between one.1
-    after) (append-nil earlier) is in
-    let here : HasTextOutcome joined ((works ≡ true) × (opens_after files earlier one.0 ≡ true)) (text_given input files (Some one.0)) before one.1 after =
-    subst (λ (e : Option EndView). HasTextOutcome joined ((works ≡ true) × (opens_after files earlier one.0 ≡ true)) (text_given input files (Some one.0)) e
-    one.1 after) have first in (after, here, refl)
-outcomes-more works joined input files earlier before (first ∷ more) between one after have is = (
-  have.0,
-  have.1,
-  outcomes-more works joined input files (earlier ++ first.0 ∷ []) have.0 more between one after have.2
-      (subst (λ (e : List Text). HasTextOutcome joined ((works ≡ true) × (opens_after files e one.0 ≡ true)) (text_given input files (Some one.0)) between one.1
-      after) (sym (append_assoc earlier (first.0 ∷ []) (map (λ t. t.0) more))) is),
-)
+    let here : HasFileOutcome works joined input files earlier one.0 between one.1 after =
+    subst (λ (e : List Text). HasFileOutcome works joined input files e one.0 between one.1 after) (append-nil earlier) is in
+    (after, subst (λ (e : Option EndView). HasFileOutcome works joined input files earlier one.0 e one.1 after) have here, refl)
+outcomes-more works joined input files earlier before (first ∷ more) between one after have is =
+    let next = subst (λ (e : List Text). HasFileOutcome works joined input files e one.0 between one.1 after)
+    (sym (append_assoc earlier (first.0 ∷ []) (map (λ t. t.0) more))) is in
+    (have.0, have.1, outcomes-more works joined input files (earlier ++ first.0 ∷ []) have.0 more between one after have.2 next)
 
 pub audits-none : (works joined : Bool) (input : Option (List ℕ)) (files : Text → Option (List ℕ)) (before : Option (List ℕ))
     → AuditsFiles works joined input files [] false false None before before
@@ -81,15 +66,14 @@ audits-none works joined input files before = record {
 pub audits-more : (works joined : Bool) (input : Option (List ℕ)) (files : Text → Option (List ℕ)) (names : List Text) (unfound broken : Bool)
     (end after : Option EndView) (before mid now : Option (List ℕ)) (name : Text) (outcome : Result Joined Unaudited)
     → AuditsFiles works joined input files names unfound broken end before mid
-    → HasTextOutcome joined ((works ≡ true) × (opens_after files names name ≡ true)) (text_given input files (Some name)) end outcome after
+    → HasFileOutcome works joined input files names name end outcome after
     → Appends mid now (lines_of name outcome)
     → AuditsFiles works joined input files (names ++ name ∷ []) (unfound || is_unfound outcome) (broken || is_broken outcome) after before now
-audits-more works joined input files names unfound broken end after before mid now name outcome audits tells written = record {
+audits-more works joined input files names unfound broken end after before mid now name outcome audits has written = record {
   outcomes = audits.outcomes ++ (name, outcome) ∷ [];
   in_order = map-append (λ (t : FileOutcome). t.0) audits.outcomes ((name, outcome) ∷ []) ∙ ap (λ (all : List Text). all ++ name ∷ []) audits.in_order;
   audited = outcomes-more works joined input files [] None audits.outcomes end (name, outcome) after audits.audited
-      (subst (λ (e : List Text). HasTextOutcome joined ((works ≡ true) × (opens_after files e name ≡ true)) (text_given input files (Some name)) end outcome after)
-      (sym audits.in_order) tells);
+      (subst (λ (e : List Text). HasFileOutcome works joined input files e name end outcome after) (sym audits.in_order) has);
   written = rw (lines-more audits.outcomes (name, outcome)) (Appends-trans before mid now (flat_map outcome_lines audits.outcomes) (lines_of name outcome)
       audits.written written);
   any_unaudited = any-more (λ (t : FileOutcome). is_unfound t.1) audits.outcomes (name, outcome) unfound audits.any_unaudited;

@@ -1,4 +1,6 @@
 -- Facts about the text that is read for a named file.
+use Rattle.std.proofs.lemmas.Bool.Decides.{nat_tests}
+use Rattle.std.proofs.Common.{arith}
 use Rattle.std.proofs.Common.{◌≡◌, ◌∙◌, ℕ, List, [], ◌∷◌, ◌++◌, Bool, true, false, not, Option, Some, None, ap, codes, refl, inl, inr, subst, sym}
 use Rattle.std.specs.List.{list_any}
 use Rattle.std.proofs.lemmas.List.Folds.{list_any-append}
@@ -17,35 +19,16 @@ abbrev pub IsLeft : {R : Type 0} → R → List Name → Option R → Type 0
 IsLeft first earlier input = input ≡ (if list_any is_dash earlier then None else Some first)
 
 pub left-stays : {R : Type 0} (first : R) (earlier : List Name) (input : Option R) → IsLeft first earlier input → Stays first input
-left-stays {R} first earlier input is = subst (λ (i : Option R). Stays first i) (sym is) (go (list_any is_dash earlier))
-  where
-    go : (dash : Bool) → Stays first (if dash then None else Some first)
-    go true = inr refl
-    go false = inl refl
+left-stays first earlier input is = grind (arith, nat_tests)
 
 pub left-on : {R : Type 0} (first : R) (earlier : List Name) (name : Name) (old new : Option R) → IsLeft first earlier old → new ≡ left_for name old
     → IsLeft first (earlier ++ name ∷ []) new
-left-on {R} first earlier name old new is taken =
-    taken ∙ ap (left_for name) is ∙ go (list_any is_dash earlier) (is_dash name)
-    ∙ sym (ap (λ (b : Bool). if b then None else Some first) (list_any-append is_dash earlier (name ∷ [])))
-  where
-    go : (before dash : Bool) → (if dash then None else (if before then None else Some first)) ≡ (if before || (dash || false) then None else Some first)
-    go true true = refl
-    go true false = refl
-    go false true = refl
-    go false false = refl
+left-on first earlier name old new is taken = grind (arith, nat_tests, list_any-append)
 
 -- the input that can be opened after files of these names
 pub opens-left : {R : Type 0} (first : R) (files : Name → Option (List ℕ)) (earlier : List Name) (input : Option R) (name : Name)
     → IsLeft first earlier input → opens_after files earlier name ≡ true → CanOpen input (files name) name
-opens-left {R} first files earlier input name is opens = subst (λ (i : Option R). CanOpen i (files name) name) (sym is)
-    (go (is_dash name) (list_any is_dash earlier) (files name) opens)
-  where
-    go : (dash before : Bool) (held : Option (List ℕ)) → (if dash then not before else is_some held) ≡ true
-        → opens_by dash (if before then None else Some first) held
-    go true true held opens = cc
-    go true false held opens = refl
-    go false before held opens = opens
+opens-left first files earlier input name is opens = grind (arith, nat_tests)
 
 -- ---- inputs that can be opened
 
@@ -59,29 +42,16 @@ opens-file input held name other opens = rw other at opens
 
 pub can-open : {R : Type 0} (input : R) (files : Name → Option (List ℕ)) (name : Name) → CanRead files (Some name)
     → CanOpen (Some input) (files name) name
-can-open {R} input files name reads = go (bytes_eq name (codes "-")) reads
-  where
-    go : (dash : Bool) → IfSome (if dash then None else Some name) (λ n. IsSome (files n)) → opens_by dash (Some input) (files name)
-    go true reads = refl
-    go false reads = reads
+can-open input files name reads = grind (arith, nat_tests, codes)
 
 pub reads-given : {R : Type 0} (remaining : R → Option (List ℕ)) (first : R) (input : Option R) (files : Name → Option (List ℕ)) (name : Name)
     (known : Option (List ℕ))
     → Stays first input → ReadsNamed remaining input files name known → known ≡ text_given (remaining first) files (Some name)
-reads-given {R} remaining first input files name known stays reads = go (bytes_eq name (codes "-")) input stays reads
-  where
-    go : (dash : Bool) (input : Option R) → Stays first input → reads_by dash remaining input (files name) known
-        → known ≡ (if dash then remaining first else files name)
-    go false input stays reads = reads
-    go true None stays reads = absurd reads
-    go true (Some reader) (inl same) reads = cc
-    go true (Some reader) (inr none) reads = cc
+reads-given remaining first input files name known stays reads = grind (arith, nat_tests, codes)
 
 -- the reader of a subcommand that takes one file
 pub reader-given : {R F : Type 0} (remaining : R → Option (List ℕ)) (held : F → Option (List ℕ)) (input : R) (files : Name → Option (List ℕ))
     (name : Name) (file : Option Name)
     (reader : Option (Either R F)) → file ≡ Some name → IfSome reader (λ r. ReadsNamed remaining (Some input) files name (either remaining held r))
     → IfSome reader (λ r. either remaining held r ≡ text_given (remaining input) files file)
-reader-given remaining held input files name file None is reads = tt
-reader-given remaining held input files name file (Some r) is reads =
-    rw is (reads-given remaining input (Some input) files name (either remaining held r) (inl refl) reads)
+reader-given remaining held input files name file reader is reads = grind (arith, nat_tests, reads-given)

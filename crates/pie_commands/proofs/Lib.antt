@@ -1,16 +1,8 @@
 mod Names
-mod OptionNames
-mod CommandFacts
-mod CutFacts
 mod EndFacts
-mod ExamplesChoice
-mod ExamplesJoined
-mod ExamplesWords
+mod Examples
 mod FileAuditFacts
 mod FileFacts
 mod GivenFacts
-mod MomentFacts
-mod OutputFacts
-mod StormEndFacts
 mod SubcommandFacts
 mod WordFacts

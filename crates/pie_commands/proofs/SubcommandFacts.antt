@@ -4,24 +4,24 @@ use Rattle.std.proofs.Common.{arith}
 use Rattle.std.proofs.lemmas.Bool.Decides.{nat_tests}
 use Rattle.pie_commands.proofs.Names.{◌≡◌, ◌∙◌, ℕ, List, [], ◌∷◌, Option, Some, Bool, true, subst, sym, IfErr, IfOk, Result, Ok, Err, option_map, App}
 use Rattle.pie_commands.proofs.Names.{HasMatchesOf, Text, kind_of, subcommand_name_of, subcommand_rows_of, takes, End, Unable, Failed, Audit, file_in}
-use Rattle.pie_commands.proofs.Names.{files_in, is_forced, is_joined, options_in, pie_app, subcommand_in, name-found, options-in, same-word, Joined}
-use Rattle.pie_commands.proofs.Names.{EndView, text_given, Held, Keeps, HaveOutcomes, FileOutcome, HasTextOutcome, EndsEither, EndsFiles, Answers, EndsAs, EndsTask}
-use Rattle.pie_commands.proofs.Names.{EndsTo, Finds, may_differ, output_for}
-use Rattle.pie_commands.proofs.Names.{FindsEither, JoinsText, records_of, list_any, not, ◌++◌, ap, refl, false, None, if◌then◌else◌, ◌&&◌}
+use Rattle.pie_commands.proofs.Names.{files_in, is_forced, is_joined, options_in, pie_app, subcommand_in, Joined, EndView, text_given, Held, Keeps}
+use Rattle.pie_commands.proofs.Names.{HaveOutcomes, FileOutcome, HasFileOutcome, EndsEither, EndsFiles, Answers, EndsAs, EndsTask, EndsTo, Finds}
+use Rattle.pie_commands.proofs.Names.{may_differ, output_for, FindsEither, JoinsText, records_of, list_any, not, ◌++◌, ap, refl, false, None}
+use Rattle.pie_commands.proofs.Names.{if◌then◌else◌, ◌&&◌, IfSome}
 use Rattle.std.specs.Prelude.{is_some}
 use Rattle.pie_commands.specs.Files.{is_dash, opens_after}
-use Rattle.pie_commands.specs.declared.file_audits.Unaudited.{Unaudited}
-use Rattle.pie_commands.specs.declared.file_audits.Unaudited.TheVariants.{Unopened, Faulty}
+use Rattle.pie_commands.specs.declared.audit.Unaudited.{Unaudited}
+use Rattle.pie_commands.specs.declared.audit.Unaudited.TheVariants.{Unopened, Faulty}
 use Rattle.clap.specs.Words.{Row}
 use Rattle.clap.specs.declared.error.Error.{Error}
 use Rattle.clap.specs.declared.error.kind.ErrorKind.TheVariants.{OutOfMemory}
 use Rattle.clap.specs.declared.parser.matches.ArgMatches.{ArgMatches}
 use Rattle.pie_commands.specs.declared.options.subcommand.Subcommand.{Subcommand}
-use Rattle.pie_commands.specs.SubcommandWords.{word_of}
+use Rattle.pie_commands.specs.Words.{word_of}
 use Rattle.pie_commands.specs.declared.end.End.TheVariants.{Differs}
-use Rattle.pie_commands.specs.declared.tasks.Task.{Task}
-use Rattle.pie_commands.proofs.EndFacts.{IsKept, by-kept, known-kept}
-use Rattle.pie_commands.proofs.OutputFacts.{ends-keep, keeps-same}
+use Rattle.pie_commands.specs.declared.perform.Task.{Task}
+use Rattle.pie_commands.proofs.EndFacts.{IsKept, by-kept, known-kept, ends-keep, keeps-same}
+use Rattle.pie_commands.proofs.WordFacts.{name-found, options-in, same-word}
 
 -- a subcommand that could not begin wrote nothing
 pub EndsTask-unable : (task : Task) (options : List Row) (known before now : Option (List ℕ)) → now ≡ before
@@ -44,33 +44,24 @@ given-kept input old new file keeps = grind (arith, nat_tests)
 
 -- if a file can be opened, it can also be opened with more known files
 opens-kept : (old new : Held) (earlier : List Text) (name : Text) → Keeps old new → opens_after old earlier name ≡ true → opens_after new earlier name ≡ true
-opens-kept old new earlier name keeps opens = go (is_dash name) (old name) refl opens
-  where
-    go : (dash : Bool) (held : Option (List ℕ)) → old name ≡ held → (if dash then not (list_any is_dash earlier) else is_some (old name)) ≡ true
-        → (if dash then not (list_any is_dash earlier) else is_some (new name)) ≡ true
-    go true held is opens = opens
-    go false None is opens = let wrong : false ≡ true = rw is at opens in cc
-    go false (Some text) is opens = ap is_some (keeps name text is)
+opens-kept old new earlier name keeps opens = grind (arith, nat_tests)
 
-outcome-kept : (joined : Bool) (input : Option (List ℕ)) (old new : Held) → Keeps old new → (opens more : Type 0) → (opens → more) → (name : Text)
+text-still : (input : Option (List ℕ)) (old new : Held) (name : Text) (P : List ℕ → Type 0) → Keeps old new
+    → IfSome (text_given input new (Some name)) P → IfSome (text_given input old (Some name)) P
+text-still input old new name P keeps so =
+    known-kept (text_given input old (Some name)) (text_given input new (Some name)) P (given-kept input old new (Some name) keeps) so
+
+outcome-kept : (works joined : Bool) (input : Option (List ℕ)) (old new : Held) → Keeps old new → (earlier : List Text) (name : Text)
     (before : Option EndView) (outcome : Result Joined Unaudited) (after : Option EndView)
-    → HasTextOutcome joined more (text_given input new (Some name)) before outcome after → HasTextOutcome joined opens (text_given input old (Some name)) before outcome after
-outcome-kept joined input old new keeps opens more first name before (Err Unopened) after tells = (λ o. tells.0 (first o), tells.1)
-outcome-kept joined input old new keeps opens more first name before (Err (Faulty why)) after tells = (
-  known-kept (text_given input old (Some name)) (text_given input new (Some name)) (λ text. FindsEither (records_of text) (Err why))
-      (given-kept input old new (Some name) keeps) tells.0,
-  tells.1,
-)
-outcome-kept true input old new keeps opens more first name before (Ok outcome) after tells = (
-  tells.0,
-  known-kept (text_given input old (Some name)) (text_given input new (Some name)) (λ text. JoinsText (records_of text) before outcome after)
-      (given-kept input old new (Some name) keeps) tells.1,
-)
-outcome-kept false input old new keeps opens more first name before (Ok outcome) after tells = (
-  tells.0,
-  known-kept (text_given input old (Some name)) (text_given input new (Some name)) (λ text. FindsEither (records_of text) (Ok outcome.finding))
-      (given-kept input old new (Some name) keeps) tells.1,
-)
+    → HasFileOutcome works joined input new earlier name before outcome after → HasFileOutcome works joined input old earlier name before outcome after
+outcome-kept works joined input old new keeps earlier name before (Err Unopened) after has =
+    (λ opens. has.0 (opens.0, opens-kept old new earlier name keeps opens.1), has.1)
+outcome-kept works joined input old new keeps earlier name before (Err (Faulty why)) after has =
+    (text-still input old new name (λ text. FindsEither (records_of text) (Err why)) keeps has.0, has.1)
+outcome-kept works true input old new keeps earlier name before (Ok found) after has =
+    (has.0, text-still input old new name (λ text. JoinsText (records_of text) before found after) keeps has.1)
+outcome-kept works false input old new keeps earlier name before (Ok found) after has =
+    (has.0, text-still input old new name (λ text. FindsEither (records_of text) (Ok found.finding)) keeps has.1)
 
 all-kept : (works joined : Bool) (input : Option (List ℕ)) (old new : Held) → Keeps old new → (earlier : List Text) (before : Option EndView)
     (outcomes : List FileOutcome) (after : Option EndView) → HaveOutcomes works joined input new earlier before outcomes after
@@ -78,44 +69,43 @@ all-kept : (works joined : Bool) (input : Option (List ℕ)) (old new : Held) �
 all-kept works joined input old new keeps earlier before [] after have = have
 all-kept works joined input old new keeps earlier before (one ∷ more) after have = (
   have.0,
-  outcome-kept joined input old new keeps ((works ≡ true) × (opens_after old earlier one.0 ≡ true)) ((works ≡ true) × (opens_after new earlier one.0 ≡ true))
-      (λ opens. (opens.0, opens-kept old new earlier one.0 keeps opens.1)) one.0 before one.1 have.0 have.1,
+  outcome-kept works joined input old new keeps earlier one.0 before one.1 have.0 have.1,
   all-kept works joined input old new keeps (earlier ++ one.0 ∷ []) have.0 more after have.2,
 )
 
 files-kept : (works joined : Bool) (input : Option (List ℕ)) (old new : Held) (names : List Text) (end : End) (before now : Option (List ℕ))
     → Keeps old new → EndsFiles works joined input new names end before now → EndsFiles works joined input old names end before now
-files-kept works joined input old new names end before now keeps report_end = grind (arith, all-kept)
+files-kept works joined input old new names end before now keeps promise = grind (arith, all-kept)
 
 either-kept : (works joined : Bool) (input : Option (List ℕ)) (old new : Held) (names : List Text) (end : End) (before now : Option (List ℕ))
     → Keeps old new → EndsEither works joined input new names end before now → EndsEither works joined input old names end before now
-either-kept works joined input old new [] end before now keeps report_end = report_end
-either-kept works joined input old new (name ∷ names) end before now keeps report_end =
-    files-kept works joined input old new (name ∷ names) end before now keeps report_end
+either-kept works joined input old new [] end before now keeps promise = promise
+either-kept works joined input old new (name ∷ names) end before now keeps promise =
+    files-kept works joined input old new (name ∷ names) end before now keeps promise
 
 -- a subcommand other than an audit reads one text: its promise also holds of the old files
 text-kept : (subcommand : Subcommand) (options : List Row) (works : Bool) (input : Option (List ℕ)) (old new : Held) (end : End) (before now : Option (List ℕ))
     → (subcommand ≡ Audit → ⊥) → Keeps old new → EndsAs subcommand options works input new end before now
     → EndsAs subcommand options works input old end before now
-text-kept subcommand options works input old new end before now other keeps report_end = grind (arith, by-kept, given-kept)
+text-kept subcommand options works input old new end before now other keeps promise = grind (arith, by-kept, given-kept)
 
 pub EndsAs-kept : (subcommand : Subcommand) (options : List Row) (works : Bool) (input : Option (List ℕ)) (old new : Held) (end : End)
     (before now : Option (List ℕ)) → Keeps old new → EndsAs subcommand options works input new end before now
     → EndsAs subcommand options works input old end before now
-EndsAs-kept Audit options works input old new end before now keeps report_end =
-    either-kept works (is_joined options) input old new (files_in options) end before now keeps report_end
-EndsAs-kept other options works input old new end before now keeps report_end =
-    text-kept other options works input old new end before now (λ is. cc) keeps report_end
+EndsAs-kept Audit options works input old new end before now keeps promise =
+    either-kept works (is_joined options) input old new (files_in options) end before now keeps promise
+EndsAs-kept other options works input old new end before now keeps promise =
+    text-kept other options works input old new end before now (λ is. cc) keeps promise
 
 -- ---- the three subcommands whose text can have an event that differs
 
 differs-as : (subcommand : Subcommand) (options : List Row) (works : Bool) (input : Option (List ℕ)) (files : Held) (before now : Option (List ℕ))
     → EndsAs subcommand options works input files Differs before now → may_differ subcommand ≡ true
-differs-as subcommand options works input files before now report_end = grind (arith, nat_tests)
+differs-as subcommand options works input files before now promise = grind (arith, nat_tests)
 
 differs-to : (subcommand : Subcommand) (options : List Row) (works : Bool) (input fresh : Option (List ℕ)) (old new : Held) (before now : Option (List ℕ))
     → EndsTo subcommand options works input fresh old new Differs before now → may_differ subcommand ≡ true
-differs-to subcommand options works input fresh old new before now report_end = grind (arith, differs-as)
+differs-to subcommand options works input fresh old new before now promise = grind (arith, differs-as)
 
 -- ---- the program over words
 
@@ -131,27 +121,27 @@ pub answers-performed : (words : List Text) (matches : ArgMatches) (subcommand :
     → Some (word_of subcommand) ≡ subcommand_name_of matches
     → Some rows ≡ option_map (λ (given : Text × List Row). given.1) (subcommand_rows_of matches)
     → EndsTo subcommand rows works input fresh old new end before now → Answers words works input fresh old new end before now
-answers-performed words matches subcommand rows works input fresh old new end before now matched name given report_end =
+answers-performed words matches subcommand rows works input fresh old new end before now matched name given promise =
     let found : subcommand_in words ≡ Some (word_of subcommand) = sym (name ∙ name-found words matches matched) in
     record {
       keeps = λ one. ends-keep works (output_for subcommand rows) (file_in rows) (is_forced rows) fresh old new (EndsAs subcommand rows works input old) end before now
-          one report_end;
-      differs = λ is. (subcommand, differs-to subcommand rows works input fresh old new before now (rw is at report_end), found);
+          one promise;
+      differs = λ is. (subcommand, differs-to subcommand rows works input fresh old new before now (rw is at promise), found);
       ends = λ other asks.
           subst (λ (s : Subcommand). EndsTo s (options_in words) works input fresh old new end before now)
           (same-word subcommand other (sym found ∙ asks.found))
           (subst (λ (options : List Row). EndsTo subcommand options works input fresh old new end before now)
-          (sym (options-in words matches rows matched given)) report_end);
+          (sym (options-in words matches rows matched given)) promise);
     }
 
 -- no subcommand began: memory was short, or the words select none
 pub answers-unable : (words : List Text) (works : Bool) (input fresh : Option (List ℕ)) (held : Held) (end : End) (before now : Option (List ℕ))
     → (end ≡ Differs → ⊥) → (takes pie_app words ≡ true → (end ≡ Unable) × (now ≡ before)) → Answers words works input fresh held held end before now
-answers-unable words works input fresh held end before now same end_unable = record {
+answers-unable words works input fresh held end before now same unable = record {
   keeps = λ one. keeps-same held;
   differs = λ is. absurd (same is);
   ends = λ subcommand asks.
-      let is = end_unable asks.taken in
+      let is = unable asks.taken in
       rw is.0 (EndsTo-unable subcommand (options_in words) works input fresh held before now is.1);
 }
 

@@ -1,12 +1,55 @@
--- The parse by `clap` of words that select a subcommand.
-use Rattle.pie_commands.proofs.OptionNames.{◌≡◌, ◌∙◌, List, [], Option, Some, None, true, false, codes, refl, sym, ap, option_and_then}
-use Rattle.pie_commands.proofs.OptionNames.{option_map, unwrap_or, if◌then◌else◌, bytes_eq, HasMatchesOf, Row, Text, found_of, is_simple, rows_of}
-use Rattle.pie_commands.proofs.OptionNames.{subcommand_rows_of, subcommand_name_of, clap_on_literals, Subcommand, Run, Audit, Explain, Cut, Migrate}
-use Rattle.pie_commands.proofs.OptionNames.{Storm, Params, options_in, pie_app, subcommand_in}
+-- The construction of the command of `clap` from arguments and subcommands, and its parse of words that select one.
+use Rattle.pie_commands.proofs.Names.{◌≡◌, ◌∙◌, ◌+◌, ◌<◌, ℕ, List, ◌∷◌, IfOk, Result, suc, add-one, drop, drop-cons, get_or, length, Bool, true}
+use Rattle.pie_commands.proofs.Names.{false, refl, ap, ◌&&◌, not, AddsSubcommand, App, app_of, with_subcommand, Subcommand, Run, Wants, app_for}
+use Rattle.pie_commands.proofs.Names.{with_subcommands, [], Option, Some, None, codes, sym, option_and_then, option_map, unwrap_or, if◌then◌else◌}
+use Rattle.pie_commands.proofs.Names.{bytes_eq, HasMatchesOf, Row, Text, found_of, is_simple, rows_of, subcommand_rows_of, subcommand_name_of}
+use Rattle.pie_commands.proofs.Names.{clap_on_literals, Audit, Explain, Cut, Migrate, Storm, Params, options_in, pie_app, subcommand_in}
+use Rattle.std.proofs.Math.Seq.{drop-length}
+use Rattle.clap.specs.declared.builder.command.Command.{Command}
 use Rattle.std.specs.Box.{box_value}
 use Rattle.clap.specs.declared.parser.matches.ArgMatches.{ArgMatches}
 use Rattle.clap.specs.declared.parser.matches.ArgMatches.TheViews.{out-ArgMatches, out-SubCommand}
-use Rattle.pie_commands.specs.SubcommandWords.{word_of}
+use Rattle.pie_commands.specs.Words.{word_of}
+
+-- ---- one after the other
+
+-- one of the remaining arguments or subcommands is added
+pub wants-more : {A E : Type 0} (add : App → A → App) (begun next : Result Command E) (all : List A) (place : ℕ) (one other : A) (whole : App)
+    → place < length all → one ≡ get_or all place other
+    → ((rest : List A) (made : App) → Wants add (one ∷ rest) made begun → Wants add rest made next)
+    → Wants add (drop place all) whole begun → Wants add (drop (place + 1) all) whole next
+wants-more add begun next all place one other whole within is adds so =
+    rw add-one (adds (drop (suc place) all) whole (rw is (rw (drop-cons all place other) at so)))
+
+pub wants-none : {A E : Type 0} (add : App → A → App) (made : Result Command E) (all : List A) (whole : App)
+    → Wants add (drop (length all) all) whole made → IfOk made (λ command. app_of command ≡ whole)
+wants-none add made all whole so = rw (drop-length all) at so
+
+-- ---- subcommands
+
+-- a plain command has no global options
+third : (a b c d : Bool) → (a && (b && (not c && d))) ≡ true → c ≡ false
+third true true false d e = refl
+third true true true d e = cc
+third true false c d e = cc
+third false b c d e = cc
+
+plain-for : (subcommand : Subcommand) → (app_for subcommand).top.is_plain ≡ true
+plain-for Run = refl
+plain-for _ = refl
+
+-- one more subcommand, which is plain
+adds_subcommand : {above sub with_it : Command} (sub_app : App) → app_of sub ≡ sub_app → sub_app.top.is_plain ≡ true
+    → AddsSubcommand above sub with_it
+    → app_of with_it ≡ with_subcommand (app_of above) sub_app.top
+adds_subcommand {above} {sub} sub_app sub_is plain added =
+    added.shape (third _ _ _ _ (ap (λ (a : App). a.top.is_plain) sub_is ∙ plain))
+    ∙ ap (λ (a : App). with_subcommand (app_of above) a.top) sub_is
+
+pub subcommands-more : {above sub with_it : Command} (one : Subcommand) (rest : List Subcommand) (whole : App) → app_of sub ≡ app_for one
+    → AddsSubcommand above sub with_it → with_subcommands (app_of above) (one ∷ rest) ≡ whole → with_subcommands (app_of with_it) rest ≡ whole
+subcommands-more {above} {sub} {with_it} one rest whole made added so =
+    rw (adds_subcommand {above = above} {sub = sub} {with_it = with_it} (app_for one) made (plain-for one) added) so
 
 -- ---- the parse by `clap`
 

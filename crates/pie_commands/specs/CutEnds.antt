@@ -21,7 +21,7 @@ use Rattle.pie_commands.specs.declared.cut.Pieces.{Pieces}
 use Rattle.pie_commands.specs.declared.cut.Pieces.TheVariants.{Every, Part}
 use Rattle.pie_commands.specs.declared.cut.CutRequest.{CutRequest}
 use Rattle.pie_commands.specs.declared.cut.CutRequest.TheVariants.{Last, Once}
-use Rattle.pie_commands.specs.Choice.{bound_given, in_order}
+use Rattle.pie_commands.specs.Explanations.{bound_given, in_order}
 use Rattle.pie_commands.specs.Ends.{EndsBy, WritesNothing}
 
 -- ---- the choice

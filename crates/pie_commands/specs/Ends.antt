@@ -45,8 +45,8 @@ WritesNothing end before now = ((end ≡ Unable) ⊎ (end ≡ Failed)) × (now �
 -- text, if the text is known
 abbrev pub EndsBy : {A : Type 0} → (A → End) → (List Row → A → Option (List ℕ) → Option (List ℕ) → Type 0) → Option (List ℕ) → End → Option (List ℕ)
     → Option (List ℕ) → Type 0
-EndsBy {A} end_for tells known end before now = ((end ≡ Unable) × (now ≡ before))
-    ⊎ ((given : A) × (end ≡ end_for given) × IfSome known (λ text. tells (records_of text) given before now))
+EndsBy {A} end_for has_result known end before now = ((end ≡ Unable) × (now ≡ before))
+    ⊎ ((given : A) × (end ≡ end_for given) × IfSome known (λ text. has_result (records_of text) given before now))
 
 -- ---- `pie run`
 

@@ -14,8 +14,8 @@ use Rattle.pie_cut.specs.declared.joint_audit.Joint.{Joint}
 use Rattle.pie_cut.specs.declared.joint_audit.Joint.TheVariants.{Follows, Gap, Unlike}
 use Rattle.pie_cut.specs.Joined.{EndView, IsLeftBy, JoinsText}
 use Rattle.pie_commands.specs.Files.{opens_after, text_given}
-use Rattle.pie_commands.specs.declared.file_audits.Unaudited.{Unaudited}
-use Rattle.pie_commands.specs.declared.file_audits.Unaudited.TheVariants.{Unopened, Faulty}
+use Rattle.pie_commands.specs.declared.audit.Unaudited.{Unaudited}
+use Rattle.pie_commands.specs.declared.audit.Unaudited.TheVariants.{Unopened, Faulty}
 use Rattle.pie_commands.specs.declared.end.End.{End}
 use Rattle.pie_commands.specs.declared.end.End.TheVariants.{Done, Differs, Fault, Unable, Failed}
 use Rattle.pie_commands.specs.Ends.{EndsAudit}
@@ -97,12 +97,18 @@ abbrev pub HasReadOutcome : Bool → Type 0 → (Option (List ℕ) → Type 0) �
 HasReadOutcome joined opens reads before (Err Unopened) after = (opens → ⊥) × (joined ≡ true → after ≡ None)
 HasReadOutcome joined opens reads before outcome after = (known : Option (List ℕ)) × reads known × HasTextOutcome joined opens known before outcome after
 
--- the results of one file after another, after files of the names `earlier`. If `works`, each file with a known
--- text can be opened, and standard input once
+-- the result of the file `name` after files of the names `earlier`. If `works`, a file with a known text can be opened,
+-- and standard input once
+abbrev pub HasFileOutcome : Bool → Bool → Option (List ℕ) → (Text → Option (List ℕ)) → List Text → Text → Option EndView → Result Joined Unaudited
+    → Option EndView → Type 0
+HasFileOutcome works joined input files earlier name =
+    HasTextOutcome joined ((works ≡ true) × (opens_after files earlier name ≡ true)) (text_given input files (Some name))
+
+-- the results of one file after another, after files of the names `earlier`
 abbrev pub HaveOutcomes : Bool → Bool → Option (List ℕ) → (Text → Option (List ℕ)) → List Text → Option EndView → List FileOutcome → Option EndView → Type 0
 HaveOutcomes works joined input files earlier before [] after = after ≡ before
 HaveOutcomes works joined input files earlier before (first ∷ more) after = (between : Option EndView)
-    × HasTextOutcome joined ((works ≡ true) × (opens_after files earlier first.0 ≡ true)) (text_given input files (Some first.0)) before first.1 between
+    × HasFileOutcome works joined input files earlier first.0 before first.1 between
     × HaveOutcomes works joined input files (earlier ++ first.0 ∷ []) between more after
 
 -- each of these files was audited in turn, and the lines of each were written; no end comes before the first

@@ -7,19 +7,19 @@ use Rattle.clap.specs.declared.error.kind.ErrorKind.TheVariants.{OutOfMemory}
 use Rattle.clap.specs.declared.parser.matches.ArgMatches.{ArgMatches}
 use Rattle.pie_commands.specs.declared.options.subcommand.Subcommand.{Subcommand}
 use Rattle.pie_commands.specs.declared.options.subcommand.Subcommand.TheVariants.{Run, Audit, Explain, Cut, Migrate, Storm, Params}
-use Rattle.pie_commands.specs.SubcommandWords.{word_of}
+use Rattle.pie_commands.specs.Words.{word_of}
 use Rattle.pie_commands.specs.Words.{Asks, file_in, files_in, is_forced, is_joined, options_in, output_in, pie_app, subcommand_in}
 use Rattle.pie_commands.specs.Files.{text_given}
-use Rattle.pie_commands.specs.Output.{Held, Keeps}
+use Rattle.pie_commands.specs.Files.{Held, Keeps}
 use Rattle.pie_commands.specs.declared.end.End.{End}
-use Rattle.pie_commands.specs.declared.tasks.Task.{Task}
-use Rattle.pie_commands.specs.declared.tasks.Task.TheVariants as task
+use Rattle.pie_commands.specs.declared.perform.Task.{Task}
+use Rattle.pie_commands.specs.declared.perform.Task.TheVariants as task
 use Rattle.pie_commands.specs.declared.end.End.TheVariants.{Differs}
 use Rattle.pie_commands.specs.CutEnds.{CutsInto, EndsCut, HasSome, end_of_cut}
 use Rattle.pie_commands.specs.Ends.{EndsAudit, EndsBy, EndsMigrate, EndsRun, status_of}
-use Rattle.pie_commands.specs.ExplainEnds.{EndsExplain}
+use Rattle.pie_commands.specs.Explanations.{EndsExplain}
 use Rattle.pie_commands.specs.FileAudits.{EndsEither}
-use Rattle.pie_commands.specs.Outputs.{EndsIn}
+use Rattle.pie_commands.specs.Files.{EndsIn}
 use Rattle.pie_commands.specs.StormEnds.{EndsStorm}
 use Rattle.pie_commands.specs.Tuning.{EndsParams}
 

@@ -13,6 +13,8 @@ use Rattle.pie_units.specs.declared.options.TuningOptions.{TuningOptions}
 use Rattle.pie_units.specs.declared.option_units.OptionFault.{OptionFault}
 use Rattle.pie_record.specs.Text.{text_of}
 use Rattle.pie_record.specs.Write.{opening_row}
+use Rattle.pie_units.specs.declared.unit.Quantity.{Quantity}
+use Rattle.pie_units.specs.declared.unit.Quantity.TheVariants.{Packets, Rate}
 use Rattle.pie_units.specs.Opening.{elements_for, gain_of, opening_for, params_for}
 use Rattle.pie_units.specs.Units.{packets_of, rate_of, time_of}
 use Rattle.pie_commands.specs.Words.{flag_given, number_or}
@@ -25,6 +27,12 @@ use Rattle.pie_commands.specs.declared.end.End.TheVariants.{Done, Differs, Fault
 abbrev pub given_or : {A : Type 0} → (Text → Result A OptionFault) → A → Option Text → Result A OptionFault
 given_or reads unnamed None = Ok unnamed
 given_or reads unnamed (Some text) = reads text
+
+-- the number of a text of this kind: packets, a rate or a time
+abbrev pub number_by : Quantity → Text → Result ℕ OptionFault
+number_by Rate = rate_of
+number_by Packets = packets_of
+number_by _ = time_of
 
 -- the link layer of this name, or Ethernet without a name
 abbrev pub link_layer_by : Option Text → Option LinkLayer

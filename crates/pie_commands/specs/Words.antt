@@ -1,18 +1,22 @@
 -- The command line: the arguments that `pie` takes, the subcommand that a command line selects, and the values of
 -- its options.
 use Rattle.std.specs.Prelude.{ℕ, ◌≡◌, ◌-◌, ◌^◌, List, [], ◌∷◌, Bool, true, false, Option, Some, None, option_and_then, option_map, unwrap_or, codes}
-use Rattle.std.specs.Prelude.{if◌then◌else◌, max, min}
+use Rattle.std.specs.Prelude.{if◌then◌else◌, max, min, IfOk, Result}
 use Rattle.std.specs.Option.{option_map_or}
 use Rattle.std.specs.Str.{bytes_eq}
 use Rattle.std.specs.Str.Parse.{digits_value, without_leading_plus}
 use Rattle.clap.specs.ValueTests.{accepts}
 use Rattle.clap.specs.Words.{App, Row, Rule, Text, all_of, first_of, new_app, new_rule, one_of, subcommand_of, takes, with_rule, with_subcommand}
+use Rattle.clap.specs.Words.{app_of}
 use Rattle.clap.specs.declared.builder.action.ArgAction.TheVariants.{Append, SetTrue}
 use Rattle.clap.specs.declared.builder.value_parser.ValueParser.TheVariants.{Unsigned}
 use Rattle.pie_commands.specs.declared.options.subcommand.Subcommand.{Subcommand}
 use Rattle.pie_commands.specs.declared.options.subcommand.Subcommand.TheVariants.{Run, Audit, Explain, Cut, Migrate, Storm, Params}
-use Rattle.pie_commands.specs.SubcommandWords.{word_of}
 use Rattle.pie_commands.specs.Files.{file_of}
+use Rattle.pie_commands.specs.declared.options.argument.Argument.{Argument}
+use Rattle.pie_commands.specs.declared.options.argument.ValueKind.{ValueKind}
+use Rattle.pie_commands.specs.declared.options.argument.ValueKind.TheVariants.{Nothing, Number, Value, Lettered, File, Files}
+use Rattle.clap.specs.declared.builder.command.Command.{Command}
 
 -- `pie`, which has a version and requires a subcommand
 abbrev pub pie_alone : App
@@ -29,6 +33,18 @@ flag_rule name = record (new_rule name) { long = Some name; action = Some SetTru
 -- an option whose value is a text
 abbrev pub text_rule : Text → Rule
 text_rule name = record (new_rule name) { long = Some name; value_names = 1 }
+
+-- the rule of `clap` for an argument in a table
+abbrev pub rule_taking : ValueKind → Text → Rule
+rule_taking Nothing name = flag_rule name
+rule_taking (Number least most) name = number_rule name least most
+rule_taking (Value value) name = text_rule name
+rule_taking (Lettered letter value) name = record (text_rule name) { short = Some letter }
+rule_taking File name = record (new_rule name) { value_names = 1 }
+rule_taking Files name = record (new_rule name) { value_names = 1; action = Some Append }
+
+abbrev pub rule_for : Argument → Rule
+rule_for argument = rule_taking argument.takes argument.name.now
 
 -- the argument of an optional file
 abbrev pub file_rule : Rule
@@ -52,6 +68,10 @@ force_rule = flag_rule (codes "force")
 abbrev pub with_all_subcommands : {A : Type 0} → (App → A → App) → App → List A → App
 with_all_subcommands add app [] = app
 with_all_subcommands add app (one ∷ more) = with_all_subcommands add (add app one) more
+
+-- with each of these added, the command is complete
+abbrev pub Wants : {A E : Type 0} → (App → A → App) → List A → App → Result Command E → Type 0
+Wants add left whole begun = IfOk begun (λ command. with_all_subcommands add (app_of command) left ≡ whole)
 
 -- a command with these rules
 abbrev pub with_rules : App → List Rule → App
@@ -78,6 +98,16 @@ rules_for Params = text_rule (codes "rate") ∷ text_rule (codes "target") ∷ t
     ∷ number_rule (codes "mtu") 1 65535 ∷ flag_rule (codes "dq_rate_estimator") ∷ flag_rule (codes "no_derandomization")
     ∷ flag_rule (codes "no_cap_drop_adjustment") ∷ text_rule (codes "decay") ∷ text_rule (codes "overhead") ∷ number_rule (codes "mpu") 0 65535
     ∷ text_rule (codes "linklayer") ∷ []
+
+-- the name of each subcommand
+abbrev pub word_of : Subcommand → Text
+word_of Run = codes "run"
+word_of Audit = codes "audit"
+word_of Explain = codes "explain"
+word_of Cut = codes "cut"
+word_of Migrate = codes "migrate"
+word_of Storm = codes "storm"
+word_of Params = codes "params"
 
 abbrev pub app_for : Subcommand → App
 app_for subcommand = with_rules (new_app (word_of subcommand)) (rules_for subcommand)

@@ -1,22 +1,28 @@
-//! `pie audit`: of one history, or of any number of files.
-ghost use Rattle.std.specs.Prelude.{◌≡◌, map};
+//! `pie audit`: of one history, or of files, each in turn; with `--joined` of the files of one history, in its order.
+ghost use Rattle.std.specs.Prelude.{◌≡◌, ◌<◌, ◌||◌, [], Err, IfErr, IfOk, IfSome, None, Ok, OnErr, OnOk, get_or, length, map, true, ⊤};
+ghost use Rattle.std.specs.Io.KnownBytes.{Appends};
 ghost use Rattle.clap.specs.Words.{found_of, rows_of};
+ghost use Rattle.pie_audit.specs.Text.{FindsEither};
 ghost use Rattle.pie_commands.specs.Ends.{WritesFinding, end_found};
-ghost use Rattle.pie_commands.specs.FileAudits.{EndsEither};
+ghost use Rattle.pie_commands.specs.FileAudits.{EndsEither, EndsFiles, HasReadOutcome, HasTextOutcome, is_broken, line_of_joint, lines_of, named_line, worst};
+ghost use Rattle.pie_commands.specs.Files.{CanOpen, ReadsNamed, left_for};
 ghost use Rattle.pie_commands.specs.Words.{files_in, is_joined};
+ghost use Rattle.pie_record.specs.Text.{records_of};
 
-use crate::end::{End, end_with_fault};
-use crate::file_audits::audit_files;
-use crate::files::NamedFiles;
+use crate::end::{End, end_with_fault, named_fault};
+use crate::files::{NamedFiles, reader_named};
 use crate::options::flag;
-use crate::tasks::{Task, perform_task_on};
-use crate::terminals::{Screen, shows_progress};
+use crate::perform::{Task, perform_task_on};
+use crate::progress::{ProgressReader, Screen, shows_progress};
 use clap::ArgMatches;
 use either::{Either, Left};
 use pie_audit::{Finding, write_finding};
+use pie_cut::{Joined, Joint, TextEnd, audit_joined};
 use pie_trace::TraceFault;
 use std::alloc::Global;
+use std::io;
 use std::io::{Read, Write};
+use std::time::Clock;
 
 /// Returns the end of an audit with this finding.
 fn end_of(found: Finding) -> End
@@ -46,6 +52,199 @@ pub(crate) fn report_end<W: Write, E: Write>(
     }
 }
 
+/// The reason why a file was not audited.
+#[derive(Clone, Copy)]
+pub enum Unaudited {
+    /// The file could not be opened.
+    Unopened,
+    /// The file's text has this fault, or the reader or memory failed.
+    Faulty(TraceFault),
+}
+
+/// Audits one text. If `are_joined`, also compares its beginning with `end`, the end of the text before it, and
+/// stores the end of this text in `end`.
+fn found_in<R: Read + Drop>(
+    alloc: Global,
+    are_joined: bool,
+    reader: R,
+    end: &mut Option<TextEnd>,
+) -> Result<Joined, TraceFault>
+    ensures writes_line { IfOk result (λ joined. HasTextOutcome are_joined ⊤ (R.remaining reader) end.old (Ok joined) end.new) }
+    ensures fault { IfSome (R.remaining reader) (λ text. IfErr result (λ why. FindsEither (records_of text) (Err why))) }
+    ensures none { OnErr result (are_joined ≡ true → end.new ≡ None) }
+{
+    if are_joined {
+        return audit_joined(alloc, reader, end);
+    }
+    match pie_audit::audit(alloc, reader) {
+        Ok(finding) => Ok(Joined {
+            finding,
+            joint: None,
+        }),
+        Err(why) => Err(why),
+    }
+}
+
+/// Audits the file of this name. Returns the reason why it was not audited, with a line on `errors`, if it can't be opened or read, or has a fault.
+fn outcome_of_named<H: NamedFiles + Clock, R: Read + Drop, E: Write>(
+    rt: &H,
+    alloc: Global,
+    is_shown: bool,
+    are_joined: bool,
+    name: &str,
+    input: &mut Option<R>,
+    end: &mut Option<TextEnd>,
+    errors: &mut E,
+) -> Result<Joined, Unaudited>
+    ensures writes_line { HasReadOutcome are_joined ((H.works ≡ true) × CanOpen input.old (H.holds rt.now name.now) name.now)
+        (ReadsNamed R.remaining input.old (H.holds rt.now) name.now) end.old result end.new }
+    ensures input { input.new ≡ left_for name.now input.old }
+{
+    let Some(reader) = reader_named(rt, name, input, errors) else {
+        *end = None;
+        return Err(Unaudited::Unopened);
+    };
+    let watched = ProgressReader::new(reader, &mut *errors, rt, is_shown);
+    match found_in(alloc, are_joined, watched, end) {
+        Ok(joined) => Ok(joined),
+        Err(why) => {
+            named_fault(errors, name, why);
+            Err(Unaudited::Faulty(why))
+        }
+    }
+}
+
+/// Writes the line of a finding, behind the name of its file.
+fn put_finding<W: Write>(name: &str, found: Finding, output: &mut W) -> io::Result<()>
+    ensures { OnOk result (Appends (W.contents output.old) (W.contents output.new) (named_line name.now found)) }
+{
+    match found {
+        Finding::Clean { events } => writeln!(output, "{name}: clean,{events}"),
+        Finding::Differs { event } => writeln!(output, "{name}: differs,{event}"),
+    }
+}
+
+/// Writes the line of a joint, if there is one, after the name of the second of the two files.
+fn put_joint<W: Write>(name: &str, joint: Option<Joint>, output: &mut W) -> io::Result<()>
+    ensures { OnOk result (Appends (W.contents output.old) (W.contents output.new) (line_of_joint name.now joint)) }
+{
+    match joint {
+        None => Ok(()),
+        Some(Joint::Follows) => writeln!(output, "{name}: follows"),
+        Some(Joint::Gap { last, first }) => writeln!(output, "{name}: gap,{last},{first}"),
+        Some(Joint::Unlike { last }) => writeln!(output, "{name}: unlike,{last}"),
+    }
+}
+
+/// Writes the line of a file's finding and the line of its joint, and flushes the writer.
+fn write_joined<W: Write>(name: &str, joined: Joined, output: &mut W) -> io::Result<()>
+    ensures { OnOk result (Appends (W.contents output.old) (W.contents output.new) (lines_of name.now (Ok joined))) }
+{
+    put_finding(name, joined.finding, output)?;
+    put_joint(name, joined.joint, output)?;
+    output.flush()
+}
+
+/// Audits the file `name` after a file that ended with `end`, and writes the lines of the result.
+fn audit_named<H: NamedFiles + Clock, R: Read + Drop, W: Write, E: Write>(
+    rt: &H,
+    alloc: Global,
+    is_shown: bool,
+    are_joined: bool,
+    name: &str,
+    input: &mut Option<R>,
+    end: &mut Option<TextEnd>,
+    output: &mut W,
+    errors: &mut E,
+) -> io::Result<Result<Joined, Unaudited>>
+    ensures writes_line { IfOk result (λ outcome. HasReadOutcome are_joined ((H.works ≡ true) × CanOpen input.old (H.holds rt.now name.now) name.now)
+        (ReadsNamed R.remaining input.old (H.holds rt.now) name.now) end.old outcome end.new) }
+    ensures written { IfOk result (λ outcome. Appends (W.contents output.old) (W.contents output.new) (lines_of name.now outcome)) }
+    ensures input { input.new ≡ left_for name.now input.old }
+{
+    match outcome_of_named(rt, alloc, is_shown, are_joined, name, input, end, errors) {
+        Ok(joined) => {
+            write_joined(name, joined, output)?;
+            Ok(Ok(joined))
+        }
+        Err(why) => Ok(Err(why)),
+    }
+}
+
+/// Returns true if an event of the file differs, or if the file does not continue at the end of the file before it.
+fn is_broken(outcome: Result<Joined, Unaudited>) -> bool
+    ensures { result ≡ is_broken outcome }
+{
+    match outcome {
+        Err(_) => false,
+        Ok(joined) => match joined.finding {
+            Finding::Differs { .. } => true,
+            Finding::Clean { .. } => match joined.joint {
+                None | Some(Joint::Follows) => false,
+                Some(Joint::Gap { .. }) | Some(Joint::Unlike { .. }) => true,
+            },
+        },
+    }
+}
+
+/// Returns the worst end: `unfound` is true if a file could not be audited, `different` if an event or a joint differs.
+fn worst(unfound: bool, different: bool) -> End
+    ensures { result ≡ worst unfound different }
+{
+    match (unfound, different) {
+        (true, _) => End::Failed,
+        (false, true) => End::Differs,
+        (false, false) => End::Done,
+    }
+}
+
+/// Returns the name at this place.
+fn name_at<'a>(names: &[&'a str], place: usize) -> &'a str
+    requires { place < length names.now }
+    ensures { result.now ≡ get_or (map (λ name. name.now) names.now) place [] }
+{
+    names[place]
+}
+
+/// `pie audit FILE..`: audits each file in turn and writes its finding. With `--joined` also writes the joint
+/// of the file with the file before it, if that file was clean. If a file has a fault or can't be read, a line is written to
+/// `errors`. Returns the worst end of all files; a gap or a difference at a joint counts as a difference. If a line
+/// can't be written, returns the writer's fault.
+pub(crate) fn audit_files<H: NamedFiles + Clock, R: Read + Drop, W: Write, E: Write>(
+    rt: &H,
+    alloc: Global,
+    is_shown: bool,
+    are_joined: bool,
+    names: &[&str],
+    input: R,
+    output: &mut W,
+    errors: &mut E,
+) -> End
+    ensures { EndsFiles H.works are_joined (R.remaining input) (H.holds rt.now) (map (λ name. name.now) names.now) result (W.contents output.old)
+        (W.contents output.new) }
+{
+    let mut given = Some(input);
+    let mut end: Option<TextEnd> = None;
+    let mut unfound = false;
+    let mut broken = false;
+    for place in 0..names.len() {
+        let name = name_at(names, place);
+        let outcome = match audit_named(
+            rt, alloc, is_shown, are_joined, name, &mut given, &mut end, output, errors,
+        ) {
+            Ok(outcome) => outcome,
+            Err(_) => {
+                drop(end);
+                return end_with_fault(errors, TraceFault::Write);
+            }
+        };
+        unfound |= outcome.is_err();
+        broken |= is_broken(outcome);
+    }
+    drop(end);
+    worst(unfound, broken)
+}
+
 /// Audits the files `names`. With `--joined` they are the files of one history. If `names` is empty, audits
 /// `input`.
 fn audit_any<H: NamedFiles + Screen, R: Read + Drop, W: Write, E: Write>(
@@ -64,16 +263,8 @@ fn audit_any<H: NamedFiles + Screen, R: Read + Drop, W: Write, E: Write>(
     if names.is_empty() {
         // The type equals the type of a file's reader, so an audit is compiled once.
         let given: Either<R, H::File> = Left(input);
-        return perform_task_on(
-            rt,
-            alloc,
-            Task::Audit,
-            options,
-            is_shown,
-            given,
-            output,
-            errors,
-        );
+        let task = Task::Audit;
+        return perform_task_on(rt, alloc, task, options, is_shown, given, output, errors);
     }
     let are_joined = flag(options, "joined");
     audit_files(

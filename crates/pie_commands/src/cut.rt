@@ -1,23 +1,19 @@
 //! `pie cut`: the selection by its options, and its end.
-ghost use Rattle.std.specs.Prelude.{◌≡◌, false, Some, IfSome, codes, option_map};
+ghost use Rattle.std.specs.Prelude.{◌≡◌, false, Some, IfSome, codes};
 ghost use Rattle.std.specs.Str.{bytes_eq};
 ghost use Rattle.clap.specs.Words.{found_of, rows_of};
 ghost use Rattle.pie_record.specs.Text.{records_of};
 ghost use Rattle.pie_cut.specs.Last.{LastEither};
 ghost use Rattle.pie_commands.specs.Files.{text_given};
 ghost use Rattle.pie_commands.specs.Words.{file_in};
-ghost use Rattle.pie_commands.specs.CutEnds.{CutsInto, CutsLast, EndsCut, HasSome, WantsSome, chosen, end_of_cut, ends_last, is_named};
-ghost use Rattle.pie_commands.specs.CutEnds.{cut_request_of, within};
+ghost use Rattle.pie_commands.specs.CutEnds.{CutsInto, CutsLast, EndsCut, HasSome, WantsSome, chosen, end_of_cut, cut_request_of, within};
 ghost use Rattle.pie_commands.specs.Ends.{EndsBy};
 
-use crate::end::{End, end_failed, end_with_fault};
-use crate::faults::{fault, named_fault};
+use crate::end::{End, end_failed, end_with_fault, fault, named_fault};
 use crate::files::NamedFiles;
-use crate::moments::{NO_ORDER, bound, in_order, parsed};
-use crate::options::{file, number};
-use crate::progress_reader::ProgressReader;
-use crate::tasks::{Task, perform_task};
-use crate::terminals::{Screen, shows_progress};
+use crate::options::{NO_ORDER, bound, file, in_order, number, parsed};
+use crate::perform::{Task, perform_task};
+use crate::progress::{ProgressReader, Screen, shows_progress};
 use clap::ArgMatches;
 use either::{Either, Right};
 use pie_cut::{CutFault, Span, cut_every, last_number};
@@ -94,8 +90,8 @@ fn cut_request_of<E: Write>(options: &ArgMatches<'_>, errors: &mut E) -> Option<
     ensures chosen { result ≡ cut_request_of (rows_of (found_of options.now)) }
     ensures some { IfSome result WantsSome }
 {
-    let from = parsed(bound(options, "from"), "from", errors)?;
-    let to = parsed(bound(options, "to"), "to", errors)?;
+    let from = parsed(bound(options, "from"), "--from:", errors)?;
+    let to = parsed(bound(options, "to"), "--to:", errors)?;
     if !in_order(from, to) {
         fault(errors, NO_ORDER);
         return None;
@@ -190,34 +186,6 @@ fn cut_last<H: NamedFiles + Screen, R: Read + Drop, W: Write, E: Write>(
     }
 }
 
-/// Cuts the last `many` events out of the named file. If the options name no file, or `-`, writes a line to
-/// `errors`: standard input can't be read twice.
-fn cut_last_of<H: NamedFiles + Screen, R: Read + Drop, W: Write, E: Write>(
-    rt: &H,
-    alloc: Global,
-    options: &ArgMatches<'_>,
-    many: u64,
-    name: Option<&str>,
-    input: R,
-    output: &mut W,
-    errors: &mut E,
-) -> End
-    ensures { file_in (rows_of (found_of options.now)) ≡ option_map (λ name. name.now) name.entry
-        → ends_last (is_named (option_map (λ name. name.now) name.entry)) many
-        (text_given (R.remaining input) (H.holds rt.now) (option_map (λ name. name.now) name.entry)) result (W.contents output.old)
-        (W.contents output.new) }
-{
-    match name {
-        Some(name) => {
-            if name == "-" {
-                return end_failed(errors, NO_NAME);
-            }
-            cut_last(rt, alloc, options, many, name, input, output, errors)
-        }
-        None => end_failed(errors, NO_NAME),
-    }
-}
-
 /// `pie cut`: cuts the pieces that the options choose.
 pub(crate) fn cut<H: NamedFiles + Screen, R: Read + Drop, W: Write, E: Write>(
     rt: &H,
@@ -235,10 +203,11 @@ pub(crate) fn cut<H: NamedFiles + Screen, R: Read + Drop, W: Write, E: Write>(
         Some(CutRequest::Once(pieces)) => {
             perform_task(rt, alloc, Task::Cut(pieces), options, input, output, errors)
         }
-        Some(CutRequest::Last(many)) => {
-            let name = file(options);
-            cut_last_of(rt, alloc, options, many, name, input, output, errors)
-        }
+        Some(CutRequest::Last(many)) => match file(options) {
+            Some("-") => end_failed(errors, NO_NAME),
+            Some(name) => cut_last(rt, alloc, options, many, name, input, output, errors),
+            None => end_failed(errors, NO_NAME),
+        },
         None => End::Failed,
     }
 }

@@ -1,10 +1,9 @@
-//! The end of the program and its exit status.
+//! The end of the program, its exit status, and the lines on the error stream.
 ghost use Rattle.std.specs.Prelude.{◌≡◌, [], OnOk};
 ghost use Rattle.std.specs.Io.KnownBytes.{Appends};
 ghost use Rattle.pie_commands.specs.Ends.{end_of, end_report, end_status, is_unwritten};
-ghost use Rattle.pie_commands.specs.Outputs.{is_whole, after_output};
+ghost use Rattle.pie_commands.specs.Files.{is_whole, after_output};
 
-use crate::faults::fault;
 use pie_trace::TraceFault;
 use std::fmt::Display;
 use std::io;
@@ -119,4 +118,14 @@ pub(crate) fn end_failed<E: Write, D: Display + Drop>(errors: &mut E, text: D) -
 {
     fault(errors, text);
     End::Failed
+}
+
+/// Writes the line of a fault. A line that can't be written is passed over.
+pub(crate) fn fault<E: Write, D: Display + Drop>(errors: &mut E, text: D) {
+    let _ = writeln!(errors, "pie: {text}");
+}
+
+/// Writes the line of a fault of the file `name`.
+pub(crate) fn named_fault<E: Write, D: Display + Drop>(errors: &mut E, name: &str, text: D) {
+    let _ = writeln!(errors, "pie: {name}: {text}");
 }

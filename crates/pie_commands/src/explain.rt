@@ -3,14 +3,11 @@ ghost use Rattle.std.specs.Prelude.{◌≡◌, IfSome};
 ghost use Rattle.clap.specs.Words.{found_of, rows_of};
 ghost use Rattle.pie_record.specs.Text.{records_of};
 ghost use Rattle.pie_explain.specs.Either.{ExplainsEither};
-ghost use Rattle.pie_commands.specs.Choice.{choice_of, chosen, each_kind, every_of, form_of, is_either, is_summary, lasts, output_kind_by, output_kind_of, output_text, which_of};
-ghost use Rattle.pie_commands.specs.ExplainEnds.{EndsExplain, end_of_explain};
+ghost use Rattle.pie_commands.specs.Explanations.{choice_of, chosen_events, every_of, is_summary, output_kind_of, output_text, EndsExplain, end_of_explain};
 
-use crate::end::{End, end_failed, end_with_fault};
-use crate::faults::fault;
-use crate::moments::{NO_ORDER, bound, in_order, moment, parsed};
-use crate::options::{flag, number};
-use crate::progress_reader::ProgressReader;
+use crate::end::{End, end_failed, end_with_fault, fault};
+use crate::options::{NO_ORDER, bound, flag, in_order, moment, number, parsed};
+use crate::progress::ProgressReader;
 use clap::ArgMatches;
 use pie_explain::{ExplainFault, Form, Records, Selection, Which, Words};
 use pie_summary::{ByFlow, Summary, SumsAlone};
@@ -27,28 +24,6 @@ const NO_PERIOD: &str = "--every: the interval must be at least 1 ns";
 
 /// The message for `--flows` together with `--digest`.
 const NOT_BOTH: &str = "--flows cannot be combined with --digest";
-
-/// Returns the chosen events, if exactly one of the five options chooses some. Without any of them a summary is of all events.
-fn chosen(
-    summary: bool,
-    event: Option<u64>,
-    tag: Option<u64>,
-    lost: bool,
-    marked: bool,
-    all: bool,
-) -> Option<Which>
-    ensures { result ≡ chosen summary event tag lost marked all }
-{
-    match (event, tag, lost, marked, all) {
-        (Some(event), None, false, false, false) => Some(Which::Number(event)),
-        (None, Some(tag), false, false, false) => Some(Which::Tag(tag)),
-        (None, None, true, false, false) => Some(Which::Lost),
-        (None, None, false, true, false) => Some(Which::Marked),
-        (None, None, false, false, true) => Some(Which::All),
-        (None, None, false, false, false) => { if summary { Some(Which::All) } else { None } }
-        _ => None,
-    }
-}
 
 /// Returns the length of an interval in these options, if it is valid.
 fn every_of(options: &ArgMatches<'_>) -> Option<u64>
@@ -68,52 +43,42 @@ fn is_summary(options: &ArgMatches<'_>) -> bool
     (flag(options, "summary") || every_of(options).is_some()) || (digest || flows)
 }
 
-/// Returns true unless a digest and sums by flow are both requested.
-fn is_either(digest: bool, flows: Option<u64>) -> bool
-    ensures { result ≡ is_either digest flows }
+/// Returns the chosen events, if exactly one of the five options chooses some. Without any of them a summary is of all events.
+fn chosen_events(options: &ArgMatches<'_>) -> Option<Which>
+    ensures { result ≡ chosen_events (rows_of (found_of options.now)) }
 {
-    !(digest && flows.is_some())
-}
-
-/// Returns true if the length of an interval, if one is given, is above 0.
-fn lasts(every: Option<u64>) -> bool
-    ensures { result ≡ lasts every }
-{
-    match every {
-        Some(every) => every != 0,
-        None => true,
-    }
-}
-
-/// Returns the choice of events by these options.
-fn which_of(options: &ArgMatches<'_>) -> Option<Which>
-    ensures { result ≡ which_of (rows_of (found_of options.now)) }
-{
-    let event = number(options, "event");
-    let tag = number(options, "tag");
+    let (event, tag) = (number(options, "event"), number(options, "tag"));
     let (lost, marked) = (flag(options, "lost"), flag(options, "marked"));
     let (all, summary) = (flag(options, "all"), is_summary(options));
-    chosen(summary, event, tag, lost, marked, all)
+    match (event, tag, lost, marked, all) {
+        (Some(event), None, false, false, false) => Some(Which::Number(event)),
+        (None, Some(tag), false, false, false) => Some(Which::Tag(tag)),
+        (None, None, true, false, false) => Some(Which::Lost),
+        (None, None, false, true, false) => Some(Which::Marked),
+        (None, None, false, false, true) => Some(Which::All),
+        (None, None, false, false, false) => { if summary { Some(Which::All) } else { None } }
+        _ => None,
+    }
 }
 
 /// Returns the selection of these options. If they are not valid together, writes a line to `errors` and returns
 /// `None`.
-#[tactic(auto, unfolding(crate::specs::Choice::choice_of))]
+#[tactic(auto, unfolding(crate::specs::Explanations::choice_of))]
 fn choice_of<E: Write>(options: &ArgMatches<'_>, errors: &mut E) -> Option<Selection>
     ensures { result ≡ choice_of (rows_of (found_of options.now)) }
 {
-    let Some(which) = which_of(options) else {
+    let Some(which) = chosen_events(options) else {
         fault(errors, NO_CHOICE);
         return None;
     };
-    let from = parsed(bound(options, "from"), "from", errors)?;
-    let to = parsed(bound(options, "to"), "to", errors)?;
-    let every = parsed(moment(options, "every"), "every", errors)?;
-    if !lasts(every) {
+    let from = parsed(bound(options, "from"), "--from:", errors)?;
+    let to = parsed(bound(options, "to"), "--to:", errors)?;
+    let every = parsed(moment(options, "every"), "--every:", errors)?;
+    if matches!(every, Some(0)) {
         fault(errors, NO_PERIOD);
         return None;
     }
-    if !is_either(flag(options, "digest"), number(options, "flows")) {
+    if flag(options, "digest") && number(options, "flows").is_some() {
         fault(errors, NOT_BOTH);
         return None;
     }
@@ -122,16 +87,6 @@ fn choice_of<E: Write>(options: &ArgMatches<'_>, errors: &mut E) -> Option<Selec
         return None;
     }
     Some(Selection { which, from, to })
-}
-
-/// Returns the form of the explanations by these options.
-fn form_of(options: &ArgMatches<'_>) -> Form
-    ensures { result ≡ form_of (rows_of (found_of options.now)) }
-{
-    Form {
-        csv: flag(options, "csv"),
-        by_wall: flag(options, "wall"),
-    }
 }
 
 /// The kind of output about the chosen events.
@@ -148,29 +103,14 @@ pub(crate) enum OutputKind {
     Flows(ByFlow),
 }
 
-/// Returns the kind of output that has each event by itself.
-fn each_kind(form: Form) -> OutputKind
-    ensures { result ≡ each_kind form }
+/// Returns the kind of output that these options request: each event, or sums over the events.
+fn output_kind_of(options: &ArgMatches<'_>) -> OutputKind
+    ensures { result ≡ output_kind_of (rows_of (found_of options.now)) }
 {
-    let by_wall = form.by_wall;
-    if form.csv {
-        OutputKind::Records(Records { by_wall })
-    } else {
-        OutputKind::Words(Words { by_wall })
-    }
-}
-
-/// Returns the kind of output: each event, or sums over the events as these options choose.
-fn output_kind_by(
-    summary: bool,
-    packets: bool,
-    flows: Option<u64>,
-    every: Option<u64>,
-    form: Form,
-) -> OutputKind
-    ensures { result ≡ output_kind_by summary packets flows every form }
-{
-    match (summary, packets, flows) {
+    let (csv, by_wall) = (flag(options, "csv"), flag(options, "wall"));
+    let (packets, flows) = (flag(options, "digest"), number(options, "flows"));
+    let (every, form) = (every_of(options), Form { csv, by_wall });
+    match (is_summary(options), packets, flows) {
         (true, _, Some(most)) => OutputKind::Flows(ByFlow { form, every, most }),
         (true, true, None) => OutputKind::Digest(Summary {
             form,
@@ -178,17 +118,14 @@ fn output_kind_by(
             packets: true,
         }),
         (true, false, None) => OutputKind::Sums(SumsAlone { form, every }),
-        (false, _, _) => each_kind(form),
+        (false, _, _) => {
+            if csv {
+                OutputKind::Records(Records { by_wall })
+            } else {
+                OutputKind::Words(Words { by_wall })
+            }
+        }
     }
-}
-
-/// Returns the kind of output that these options request.
-fn output_kind_of(options: &ArgMatches<'_>) -> OutputKind
-    ensures { result ≡ output_kind_of (rows_of (found_of options.now)) }
-{
-    let (packets, flows) = (flag(options, "digest"), number(options, "flows"));
-    let (every, form) = (every_of(options), form_of(options));
-    output_kind_by(is_summary(options), packets, flows, every, form)
 }
 
 /// Writes the explanations of the chosen events.
@@ -197,12 +134,12 @@ fn explain_with<R: Read + Drop, W: Write>(
     input: R,
     output: &mut W,
     choice: Selection,
-    tale: OutputKind,
+    kind: OutputKind,
 ) -> Result<u64, ExplainFault>
-    ensures { IfSome (R.remaining input) (λ text. ExplainsEither choice (output_text tale) (records_of text) result (W.contents output.old)
+    ensures { IfSome (R.remaining input) (λ text. ExplainsEither choice (output_text kind) (records_of text) result (W.contents output.old)
         (W.contents output.new)) }
 {
-    match tale {
+    match kind {
         OutputKind::Records(each) => pie_explain::explain(alloc, input, output, choice, each),
         OutputKind::Words(each) => pie_explain::explain(alloc, input, output, choice, each),
         OutputKind::Sums(sums) => pie_explain::explain(alloc, input, output, choice, sums),

@@ -1,6 +1,5 @@
-//! The command line of `pie`. `options` parses the arguments, `files` opens and creates the named files, `perform`
-//! runs a subcommand, `tasks` processes one text, and `file_audits` audits several files. `command` runs the whole
-//! program.
+//! The command line of `pie`. `options` parses the arguments, `files` opens and creates the named files, and `perform`
+//! runs a subcommand. `command` runs the whole program.
 //!
 //! Each subcommand returns an `End`. Contracts relate the end to the text that was read, the text that was written
 //! and the exit status. The output goes to the caller's writer, or to a file that `perform_to_file` creates. This file
@@ -20,24 +19,17 @@ mod audit;
 mod cut;
 mod end;
 mod explain;
-mod faults;
-mod file_audits;
 mod files;
-mod moments;
 mod options;
-mod output;
 mod params;
 mod perform;
 mod program;
-mod progress_reader;
-mod reading;
+mod progress;
 mod storm;
 mod system_files;
-mod tasks;
-mod terminals;
 
 pub use end::End;
 pub use files::NamedFiles;
 pub use program::command;
+pub use progress::Screen;
 pub use system_files::Output;
-pub use terminals::Screen;

@@ -5,17 +5,14 @@
 //! returns the subcommand of a name.
 
 mod argument;
-mod audit;
 mod command_line;
-mod cut;
-mod explain;
 mod given;
-mod migrate;
-mod params;
-mod run;
-mod storm;
+mod history_pages;
 mod subcommand;
+mod trace_pages;
 
 pub(crate) use command_line::options;
-pub(crate) use given::{file, file_of, flag, number, number_or, output, text};
+pub(crate) use given::{
+    NO_ORDER, bound, file, file_of, flag, in_order, moment, number, number_or, output, parsed, text,
+};
 pub(crate) use subcommand::Subcommand;

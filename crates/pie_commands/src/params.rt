@@ -1,53 +1,42 @@
 //! `pie params`: converts options of `tc` to the record that opens a book.
-ghost use Rattle.std.specs.Prelude.{◌≡◌, IfSome, None, Ok, codes, option_map};
+ghost use Rattle.std.specs.Prelude.{◌≡◌, IfSome, None, codes, option_map};
 ghost use Rattle.clap.specs.Words.{first_of, found_of, rows_of};
-ghost use Rattle.pie_units.specs.Units.{packets_of, rate_of, time_of};
 ghost use Rattle.pie_units.specs.Layer.{overhead_of};
 ghost use Rattle.pie_units.specs.declared.layer.Layer.{Layer};
 ghost use Rattle.pie_units.specs.declared.layer.Overhead.{Overhead};
 ghost use Rattle.pie_units.specs.declared.options.TuningOptions.{TuningOptions};
-ghost use Rattle.pie_commands.specs.Tuning.{AsksFor, AsksForLayer, EndsParams, given_or, link_layer_by};
+ghost use Rattle.pie_commands.specs.Tuning.{AsksFor, AsksForLayer, EndsParams, given_or, link_layer_by, number_by};
 
 use crate::end::{End, end_failed, end_with_fault};
-use crate::options::{flag, number, number_or, text};
+use crate::options::{flag, number, number_or, parsed, text};
 use crate::storm::decay_of;
 use clap::ArgMatches;
 use pie_book::Limits;
 use pie_params::{Params, RawParams};
 use pie_trace::TraceFault;
 use pie_units::{
-    Layer, LinkLayer, OptionFault, Overhead, TuningOptions, can_stall, elements_for, gain_of,
-    is_short, opening_for, overhead_of, packets_of, params_for, rate_of, time_of, write_opening,
+    Layer, LinkLayer, OptionFault, Overhead, Quantity, TuningOptions, can_stall, elements_for,
+    gain_of, is_short, opening_for, overhead_of, packets_of, params_for, rate_of, time_of,
+    write_opening,
 };
 use std::io::Write;
 
-/// Returns the rate of the option `--rate`, or 0 if it isn't given.
-fn rate_in(options: &ArgMatches<'_>) -> Result<u64, OptionFault>
-    ensures { result ≡ given_or rate_of 0 (first_of (codes "rate") (rows_of (found_of options.now))) }
-{
-    match text(options, "rate") {
-        Some(text) => rate_of(text),
-        None => Ok(0),
-    }
-}
-
-/// Returns the time of the option `name` in nanoseconds, or 15 ms if it isn't given.
-fn time_in(options: &ArgMatches<'_>, name: &str) -> Result<u64, OptionFault>
-    ensures { result ≡ given_or time_of 15_000_000 (first_of name.now (rows_of (found_of options.now))) }
+/// Returns the number of the option `name`, which is of this kind, or `unnamed` if the option isn't given.
+fn number_in(
+    options: &ArgMatches<'_>,
+    name: &str,
+    kind: Quantity,
+    unnamed: u64,
+) -> Result<u64, OptionFault>
+    ensures { result ≡ given_or (number_by kind) unnamed (first_of name.now (rows_of (found_of options.now))) }
 {
     match text(options, name) {
-        Some(text) => time_of(text),
-        None => Ok(15_000_000),
-    }
-}
-
-/// Returns the number of packets of the option `--limit`, or 1000 if it isn't given.
-fn packets_in(options: &ArgMatches<'_>) -> Result<u64, OptionFault>
-    ensures { result ≡ given_or packets_of 1000 (first_of (codes "limit") (rows_of (found_of options.now))) }
-{
-    match text(options, "limit") {
-        Some(text) => packets_of(text),
-        None => Ok(1000),
+        None => Ok(unnamed),
+        Some(text) => match kind {
+            Quantity::Rate => rate_of(text),
+            Quantity::Packets => packets_of(text),
+            _ => time_of(text),
+        },
     }
 }
 
@@ -66,30 +55,9 @@ fn link_layer_by(name: Option<&str>) -> Option<LinkLayer>
     ensures { result ≡ link_layer_by (option_map (λ name. name.now) name.entry) }
 {
     match name {
-        None => Some(LinkLayer::Ethernet),
-        Some(name) => {
-            if name == "ethernet" {
-                Some(LinkLayer::Ethernet)
-            } else if name == "atm" || name == "adsl" {
-                Some(LinkLayer::Atm)
-            } else {
-                None
-            }
-        }
-    }
-}
-
-/// Returns the value of the option `name`. If its text is not valid, writes a line to `errors` and returns `None`.
-fn read_of<T: Copy, E: Write>(read: Result<T, OptionFault>, name: &str, errors: &mut E) -> Option<T>
-    ensures read { IfSome result (λ value. read ≡ Ok value) }
-    ensures none { result ≡ None → (value : T) → read ≡ Ok value → ⊥ }
-{
-    match read {
-        Ok(value) => Some(value),
-        Err(why) => {
-            let _ = writeln!(errors, "pie: --{name} {why}");
-            None
-        }
+        None | Some("ethernet") => Some(LinkLayer::Ethernet),
+        Some("atm" | "adsl") => Some(LinkLayer::Atm),
+        Some(_) => None,
     }
 }
 
@@ -98,7 +66,7 @@ fn layer_in<E: Write>(options: &ArgMatches<'_>, errors: &mut E) -> Option<Layer>
     ensures requested { IfSome result (AsksForLayer (rows_of (found_of options.now))) }
     ensures none { result ≡ None → (layer : Layer) → AsksForLayer (rows_of (found_of options.now)) layer → ⊥ }
 {
-    let overhead = read_of(overhead_in(options), "overhead", errors)?;
+    let overhead = parsed(overhead_in(options), "--overhead", errors)?;
     let Some(format) = link_layer_by(text(options, "linklayer")) else {
         let _ = writeln!(errors, "pie: --linklayer must be ethernet, atm or adsl");
         return None;
@@ -116,10 +84,26 @@ fn tuning_in<E: Write>(options: &ArgMatches<'_>, errors: &mut E) -> Option<Tunin
     ensures requested { IfSome result (AsksFor (rows_of (found_of options.now))) }
     ensures none { result ≡ None → (asked : TuningOptions) → AsksFor (rows_of (found_of options.now)) asked → ⊥ }
 {
-    let rate = read_of(rate_in(options), "rate", errors)?;
-    let target = read_of(time_in(options, "target"), "target", errors)?;
-    let t_update = read_of(time_in(options, "tupdate"), "tupdate", errors)?;
-    let packets = read_of(packets_in(options), "limit", errors)?;
+    let rate = parsed(
+        number_in(options, "rate", Quantity::Rate, 0),
+        "--rate",
+        errors,
+    )?;
+    let target = parsed(
+        number_in(options, "target", Quantity::Time, 15_000_000),
+        "--target",
+        errors,
+    )?;
+    let t_update = parsed(
+        number_in(options, "tupdate", Quantity::Time, 15_000_000),
+        "--tupdate",
+        errors,
+    )?;
+    let packets = parsed(
+        number_in(options, "limit", Quantity::Packets, 1000),
+        "--limit",
+        errors,
+    )?;
     let layer = layer_in(options, errors)?;
     let Some(decay) = decay_of(options) else {
         let _ = writeln!(errors, "pie: --decay must be zero or half");
@@ -143,8 +127,14 @@ fn tuning_in<E: Write>(options: &ArgMatches<'_>, errors: &mut E) -> Option<Tunin
     })
 }
 
-/// Warns of each gain that is rounded.
-fn report_rounded<E: Write>(options: &ArgMatches<'_>, errors: &mut E) {
+/// Warns of each gain that is rounded, if the queue is full before the delay reaches the target, and if the estimator of
+/// the departure rate can stall.
+fn warn<E: Write>(
+    options: &ArgMatches<'_>,
+    asked: &TuningOptions,
+    params: &RawParams,
+    errors: &mut E,
+) {
     for name in ["alpha", "beta"] {
         if number(options, name).unwrap_or(0) % 2 == 1 {
             let _ = writeln!(
@@ -153,23 +143,14 @@ fn report_rounded<E: Write>(options: &ArgMatches<'_>, errors: &mut E) {
             );
         }
     }
-}
-
-/// Warns if the queue is full before the delay reaches the target.
-fn report_short<E: Write>(asked: &TuningOptions, params: &RawParams, errors: &mut E) {
+    let (limit, threshold) = (params.limit_bytes, params.dq_threshold);
     if is_short(asked.rate, params) {
-        let limit = params.limit_bytes;
         let _ = writeln!(
             errors,
             "pie: warning: limit_bytes ({limit}) is below rate x target: the queue is full before the delay reaches the target, and all losses are tail drops"
         );
     }
-}
-
-/// Warns if the estimator of the departure rate can stall.
-fn report_stall<E: Write>(asked: &TuningOptions, params: &RawParams, errors: &mut E) {
     if can_stall(asked, params) {
-        let threshold = params.dq_threshold;
         let _ = writeln!(
             errors,
             "pie: warning: dq_threshold ({threshold}) is above half of rate x target: the departure rate may not be measured for a long time"
@@ -195,9 +176,7 @@ pub(crate) fn params<W: Write, E: Write>(
     if asked.packets == 0 || u64::from(Limits::MOST_PACKETS) < asked.packets {
         return end_failed(errors, "--limit must be 1 to 1048576 packets");
     }
-    report_rounded(options, errors);
-    report_short(&asked, &params.raw(), errors);
-    report_stall(&asked, &params.raw(), errors);
+    warn(options, &asked, &params.raw(), errors);
     let opening = opening_for(asked.packets as u32, elements_for(&asked), params);
     match write_opening(&opening, output) {
         Ok(()) => End::Done,

@@ -1,8 +1,7 @@
 //! `pie storm`: generates the storm that the options request, and writes its history.
-ghost use Rattle.std.specs.Prelude.{◌≡◌, Some, codes, option_map};
+ghost use Rattle.std.specs.Prelude.{◌≡◌, option_map};
 ghost use Rattle.clap.specs.Words.{found_of, rows_of};
-ghost use Rattle.pie_commands.specs.StormEnds.{EndsStorm, choice_by, decay_in, elements_in, numbers_in, profile_by};
-ghost use Rattle.pie_commands.specs.Words.{number_or};
+ghost use Rattle.pie_commands.specs.StormEnds.{EndsStorm, choice_by, decay_in, elements_in, numbers_in};
 ghost use Rattle.pie_storm.specs.StormPlan.{HasStormRange};
 
 use crate::end::{End, end_failed, end_unable, end_with_fault};
@@ -70,17 +69,6 @@ fn elements_of(options: &ArgMatches<'_>) -> Option<Elements>
     })
 }
 
-/// Returns the profile that these options choose.
-fn profile_of(options: &ArgMatches<'_>) -> Profile
-    ensures { result ≡ profile_by (number_or (codes "profile") 1 2 1 (rows_of (found_of options.now))) }
-{
-    if number_or(options, "profile", 1, 2, 1) == 1 {
-        Profile::One
-    } else {
-        Profile::Two
-    }
-}
-
 /// Returns the numbers of the plan that these options request, with these elements. Each number has a default for a command line without it.
 fn numbers_of(options: &ArgMatches<'_>, elements: Elements) -> StormNumbers
     ensures requested { result ≡ numbers_in elements (rows_of (found_of options.now)) }
@@ -94,7 +82,11 @@ fn numbers_of(options: &ArgMatches<'_>, elements: Elements) -> StormNumbers
         load: number_or(options, "load", 50, 200, 100),
         changes: number_or(options, "changes", 0, 100, 0),
         folds: number_or(options, "folds", 0, 100, 0),
-        profile: profile_of(options),
+        profile: if number_or(options, "profile", 1, 2, 1) == 1 {
+            Profile::One
+        } else {
+            Profile::Two
+        },
         elements,
     }
 }

@@ -2,7 +2,7 @@
 ghost use Rattle.std.specs.Prelude.{◌≡◌, None, false};
 ghost use Rattle.std.specs.Io.{WritesAtMost};
 ghost use Rattle.std.specs.Io.KnownBytes.{WriteAppends};
-ghost use Rattle.pie_commands.specs.Host.{has_closed, is_closed};
+ghost use Rattle.pie_commands.specs.Parts.{has_closed, is_closed};
 
 use crate::files::NamedFiles;
 use either::{Either, Left, Right};

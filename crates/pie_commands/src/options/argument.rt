@@ -1,8 +1,7 @@
 //! The arguments of a subcommand as data: its options and the files that it reads.
 ghost use Rattle.std.specs.Prelude.{◌≡◌, false};
 ghost use Rattle.clap.specs.Words.{new_rule, rule_of};
-ghost use Rattle.pie_commands.specs.Arguments.{rule_for};
-ghost use Rattle.pie_commands.specs.Words.{text_rule};
+ghost use Rattle.pie_commands.specs.Words.{rule_for, text_rule};
 
 use clap::builder::ValueParser;
 use clap::{Arg, ArgAction};

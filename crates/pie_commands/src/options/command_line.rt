@@ -1,14 +1,12 @@
 //! The command of `clap` for the command line, built from the tables of the subcommands.
 ghost use Rattle.std.specs.Prelude.{◌≡◌, ◌<◌, ◌∷◌, IfOk, List, [], get_or, length, map};
 ghost use Rattle.clap.specs.Words.{App, Rule, app_of, new_app, new_rule, with_rule};
-ghost use Rattle.pie_commands.specs.Arguments.{rule_for};
-ghost use Rattle.pie_commands.specs.Building.{Wants};
-ghost use Rattle.pie_commands.specs.SubcommandWords.{word_of};
-ghost use Rattle.pie_commands.specs.Words.{adds, app_for, pie_alone, pie_app, rules_for, with_rules, with_subcommands};
+ghost use Rattle.pie_commands.specs.Words.{rule_for, Wants, word_of, adds, app_for, pie_alone, pie_app, rules_for, with_rules, with_subcommands};
 
 use crate::options::argument::{Argument, Page, arg_of};
+use crate::options::history_pages::{AUDIT, CUT, EXPLAIN, MIGRATE};
 use crate::options::subcommand::Subcommand;
-use crate::options::{audit, cut, explain, migrate, params, run, storm};
+use crate::options::trace_pages::{PARAMS, RUN, STORM};
 use clap::Command;
 use std::alloc::{AllocError, Global};
 
@@ -23,13 +21,6 @@ pub(crate) const PIE_HELP: &str =
 
 The output of a run is its history. pie audit decides it again, and pie explain
 explains it.";
-
-/// Returns a subcommand without its arguments.
-fn plain<'a>(alloc: Global, name: &'a str, about: &'a str, help: &'a str) -> Command<'a>
-    ensures { app_of result ≡ new_app name.now }
-{
-    Command::new(alloc, name).about(about).after_help(help)
-}
 
 /// Adds an argument to a command. If there is no command, the argument isn't built.
 fn with_argument<'a>(
@@ -63,7 +54,7 @@ fn command_of<'a>(
 ) -> Result<Command<'a>, AllocError>
     ensures { IfOk result (λ command. app_of command ≡ with_rules (new_app name.now) (map rule_for arguments.now)) }
 {
-    let mut command = Ok(plain(alloc, name, about, help));
+    let mut command = Ok(Command::new(alloc, name).about(about).after_help(help));
     for place in 0..arguments.len() {
         command = with_argument(alloc, command, argument_at(arguments, place));
     }
@@ -76,13 +67,13 @@ fn page_of<'a>(subcommand: Subcommand) -> Page<'a>
     ensures arguments { map rule_for result.arguments.now ≡ rules_for subcommand }
 {
     match subcommand {
-        Subcommand::Run => run::PAGE,
-        Subcommand::Audit => audit::PAGE,
-        Subcommand::Explain => explain::PAGE,
-        Subcommand::Cut => cut::PAGE,
-        Subcommand::Migrate => migrate::PAGE,
-        Subcommand::Storm => storm::PAGE,
-        Subcommand::Params => params::PAGE,
+        Subcommand::Run => RUN,
+        Subcommand::Audit => AUDIT,
+        Subcommand::Explain => EXPLAIN,
+        Subcommand::Cut => CUT,
+        Subcommand::Migrate => MIGRATE,
+        Subcommand::Storm => STORM,
+        Subcommand::Params => PARAMS,
     }
 }
 

@@ -1,10 +1,15 @@
 //! The values of the options of a subcommand.
-ghost use Rattle.std.specs.Prelude.{◌≡◌, ◌≤◌, option_map};
+ghost use Rattle.std.specs.Prelude.{◌≡◌, ◌≤◌, IfSome, None, Ok, option_map};
+ghost use Rattle.std.specs.Result.{result_ok};
 ghost use Rattle.clap.specs.Words.{first_of, found_of, rows_of};
+ghost use Rattle.pie_commands.specs.Explanations.{bound_given, in_order, moment_given, units_of};
 ghost use Rattle.pie_commands.specs.Files.{file_of};
 ghost use Rattle.pie_commands.specs.Words.{file_in, flag_given, number_given, number_or, output_in};
 
 use clap::ArgMatches;
+use pie_units::{Moment, MomentFault, When, WhenFault};
+use std::fmt::Display;
+use std::io::Write;
 
 /// Returns the number that is given for an option.
 pub(crate) fn number(options: &ArgMatches<'_>, name: &str) -> Option<u64>
@@ -68,4 +73,66 @@ pub(crate) fn output<'a>(options: &ArgMatches<'a>) -> Option<&'a str>
     ensures { option_map (λ name. name.now) result ≡ output_in (rows_of (found_of options.now)) }
 {
     file_of(text(options, "output"))
+}
+
+// ---- moments and wall-clock times
+
+/// Returns the nanoseconds of a moment that was read, if there was one.
+fn units_of(read: Result<Option<Moment>, MomentFault>) -> Result<Option<u64>, MomentFault>
+    ensures { result ≡ units_of read }
+{
+    match read {
+        Ok(Some(moment)) => Ok(Some(moment.0)),
+        Ok(None) => Ok(None),
+        Err(why) => Err(why),
+    }
+}
+
+/// Returns the moment in an option's value, in nanoseconds.
+pub(crate) fn moment(options: &ArgMatches<'_>, name: &str) -> Result<Option<u64>, MomentFault>
+    ensures { result ≡ moment_given name.now (rows_of (found_of options.now)) }
+{
+    units_of(options.try_get_one::<Moment>(name))
+}
+
+/// Returns the bound in an option's value.
+pub(crate) fn bound(options: &ArgMatches<'_>, name: &str) -> Result<Option<When>, WhenFault>
+    ensures { result ≡ bound_given name.now (rows_of (found_of options.now)) }
+{
+    options.try_get_one::<When>(name)
+}
+
+/// Returns the value that was read from an option. If its text is not valid, writes a line to `errors` that begins with
+/// `option`, and returns `None`.
+pub(crate) fn parsed<T: Copy, F: Copy + Display, E: Write>(
+    read: Result<T, F>,
+    option: &str,
+    errors: &mut E,
+) -> Option<T>
+    ensures read { result ≡ result_ok read }
+    ensures ok { IfSome result (λ value. read ≡ Ok value) }
+    ensures none { result ≡ None → (value : T) → read ≡ Ok value → ⊥ }
+{
+    match read {
+        Ok(given) => Some(given),
+        Err(why) => {
+            let _ = writeln!(errors, "pie: {option} {why}");
+            None
+        }
+    }
+}
+
+/// The message for bounds that exclude every moment.
+pub(crate) const NO_ORDER: &str = "--from must not be after --to";
+
+/// Returns true unless both bounds are given, are of one kind (moments or wall-clock times), and `from` is after
+/// `to`.
+pub(crate) fn in_order(from: Option<When>, to: Option<When>) -> bool
+    ensures { result ≡ in_order from to }
+{
+    match (from, to) {
+        (Some(When::Moment(from)), Some(When::Moment(to))) => from <= to,
+        (Some(When::Unix(from)), Some(When::Unix(to))) => from <= to,
+        _ => true,
+    }
 }

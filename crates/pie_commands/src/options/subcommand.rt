@@ -1,7 +1,7 @@
 //! The subcommands of `pie`.
 ghost use Rattle.std.specs.Prelude.{◌≡◌, IfSome, Some};
 ghost use Rattle.pie_commands.specs.declared.options.subcommand.Subcommand.{Subcommand};
-ghost use Rattle.pie_commands.specs.SubcommandWords.{word_of};
+ghost use Rattle.pie_commands.specs.Words.{word_of};
 
 /// A subcommand of `pie`.
 #[derive(Clone, Copy)]

@@ -1,4 +1,4 @@
-use Rattle.pie_commands.proofs.CutFacts.{last-faulted}
+use Rattle.pie_commands.proofs.EndFacts.{last-faulted}
 use Rattle.pie_commands.proofs.cut.cut_last.Goals as goal
 
 pub returns-in-Some-Err : goal.returns-in-Some-Err

@@ -1,6 +1,6 @@
 use Rattle.pie_commands.proofs.Names.{◌∙◌, ℕ, List, Bool, Option, option_map, subst, found_of, rows_of, Name, file_of, is_forced, after_output, EndsAt}
 use Rattle.pie_commands.proofs.Names.{EndsAs}
-use Rattle.pie_commands.proofs.OutputFacts.{ends-settled}
+use Rattle.pie_commands.proofs.EndFacts.{ends-settled}
 use Rattle.pie_commands.proofs.SubcommandFacts.{EndsAs-kept}
 use Rattle.pie_commands.proofs.perform.perform_to_file.Goals as goal
 
@@ -18,12 +18,12 @@ returns g c =
     let read = option_map (λ name. name.now) c.file.result in
     let wrote = subst (λ (made : Option (List ℕ)). EndsAs c.args.subcommand options works input mid c.perform-end.result made left) c.in-Some.ensures.fresh
     c.perform-end.ensures in
-    let report_end = EndsAs-kept c.args.subcommand options works input old mid c.perform-end.result fresh left c.create_output.ensures.keeps wrote in
+    let promise = EndsAs-kept c.args.subcommand options works input old mid c.perform-end.result fresh left c.create_output.ensures.keeps wrote in
     let at : EndsAt works (file_of read) c.flag-is_forced.result c.args.name.now fresh old new ends (after_output c.perform-end.result c.finish_output-is_there.result) =
     ends-settled works (file_of read) c.flag-is_forced.result c.args.name.now old mid new ends c.perform-end.result c.finish_output-is_there.result fresh left
     c.in-Some.ensures.empty c.create_output.ensures.keeps c.in-Some.ensures.other c.create_output.ensures.free
     c.finish_output-is_there.ensures.settles (λ part. c.finish_output-is_there.ensures.part (c.is_whole.ensures ∙ part))
-    (λ whole. c.finish_output-is_there.ensures.whole (c.is_whole.ensures ∙ whole)) report_end in
+    (λ whole. c.finish_output-is_there.ensures.whole (c.is_whole.ensures ∙ whole)) promise in
     rw c.after_output.ensures (subst (λ (name : Option Name). EndsAt works (file_of name) (is_forced options) c.args.name.now fresh old new ends
     (after_output c.perform-end.result c.finish_output-is_there.result)) c.file.ensures
     (subst (λ (forced : Bool). EndsAt works (file_of read) forced c.args.name.now fresh old new ends (after_output c.perform-end.result c.finish_output-is_there.result))

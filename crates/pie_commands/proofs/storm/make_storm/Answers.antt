@@ -1,5 +1,5 @@
 use Rattle.pie_commands.proofs.Names.{◌∙◌, sym, found_of, rows_of}
-use Rattle.pie_commands.proofs.StormEndFacts.{storm-ends}
+use Rattle.pie_commands.proofs.EndFacts.{storm-ends}
 use Rattle.pie_commands.proofs.storm.make_storm.Goals as goal
 
 pub returns-in-Ok-written : goal.returns-in-Ok-written

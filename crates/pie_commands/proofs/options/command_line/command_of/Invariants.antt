@@ -1,4 +1,4 @@
-use Rattle.pie_commands.proofs.OptionNames.{drop, map, new_app, rule_for, Wants, with_rule, with_rules}
+use Rattle.pie_commands.proofs.Names.{drop, map, new_app, rule_for, Wants, with_rule, with_rules}
 use Rattle.pie_commands.proofs.options.command_line.command_of.Given as goal
 
 -- with the remaining arguments added, the command has all of them

@@ -1,4 +1,4 @@
-use Rattle.pie_commands.proofs.OptionNames.{adds, drop, Wants, pie_alone, with_subcommands}
+use Rattle.pie_commands.proofs.Names.{adds, drop, Wants, pie_alone, with_subcommands}
 use Rattle.pie_commands.proofs.options.command_line.with_all_subcommands.Given as goal
 
 -- with the remaining subcommands added, `pie` has all of them

@@ -1,5 +1,5 @@
 use Rattle.std.proofs.lemmas.Result.{IfOk-weaker}
-use Rattle.pie_commands.proofs.CommandFacts.{subcommands-more}
+use Rattle.pie_commands.proofs.WordFacts.{subcommands-more}
 use Rattle.pie_commands.proofs.options.command_line.with_subcommand.Goals as goal
 
 pub returns-in-Ok-command_for : goal.returns-in-Ok-command_for

@@ -1,5 +1,5 @@
-use Rattle.pie_commands.proofs.OptionNames.{◌∙◌, ℕ, List, Option, codes, false, ap, option_map_or, bytes_eq, ParsesBool, found_of, one_text}
-use Rattle.pie_commands.proofs.OptionNames.{one_text-rows}
+use Rattle.pie_commands.proofs.Names.{◌∙◌, ℕ, List, Option, codes, false, ap, option_map_or, bytes_eq, ParsesBool, found_of, one_text}
+use Rattle.pie_commands.proofs.Names.{one_text-rows}
 use Rattle.pie_commands.proofs.GivenFacts.{flag-given}
 use Rattle.pie_commands.proofs.options.given.flag.Goals as goal
 

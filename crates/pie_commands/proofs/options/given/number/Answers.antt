@@ -1,5 +1,5 @@
-use Rattle.pie_commands.proofs.OptionNames.{◌∙◌, ℕ, List, Option, ap, option_and_then, ExplainsUnsignedError, HasUnsignedDigitsIfOk, ParsesUnsigned}
-use Rattle.pie_commands.proofs.OptionNames.{found_of, one_text, one_text-rows, number_of}
+use Rattle.pie_commands.proofs.Names.{◌∙◌, ℕ, List, Option, ap, option_and_then, ExplainsUnsignedError, HasUnsignedDigitsIfOk, ParsesUnsigned}
+use Rattle.pie_commands.proofs.Names.{found_of, one_text, one_text-rows, number_of}
 use Rattle.pie_commands.proofs.GivenFacts.{number-given}
 use Rattle.pie_commands.proofs.options.given.number.Goals as goal
 

@@ -1,4 +1,4 @@
-use Rattle.pie_commands.proofs.OptionNames.{◌∙◌, found_of, first_value-rows}
+use Rattle.pie_commands.proofs.Names.{◌∙◌, found_of, first_value-rows}
 use Rattle.pie_commands.proofs.options.given.text.Goals as goal
 
 pub returns : goal.returns

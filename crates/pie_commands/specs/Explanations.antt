@@ -1,4 +1,4 @@
--- The choice of events by the command line of `pie explain`, and the form of the explanations.
+-- `pie explain`: the choice of events by its options, the form of the explanations, and its end.
 use Rattle.std.specs.Prelude.{ℕ, ◌==◌, ◌&&◌, ◌||◌, Bool, true, false, not, List, Option, Some, None, Result, Ok, Err, codes, if◌then◌else◌, is_some}
 use Rattle.std.specs.Prelude.{nat_le, option_map}
 use Rattle.std.specs.Option.{option_transpose}
@@ -15,13 +15,19 @@ use Rattle.pie_explain.specs.declared.choice.Which.TheVariants.{Number, Tag, Los
 use Rattle.pie_units.specs.Moment.{moment_in}
 use Rattle.pie_units.specs.When.{when_in}
 use Rattle.pie_units.specs.declared.when.When.{When}
-use Rattle.pie_units.specs.declared.when.When.TheVariants as when
 use Rattle.pie_units.specs.declared.when.WhenFault.{WhenFault}
 use Rattle.pie_explain.specs.Output.{as_records, in_words, pages}
 use Rattle.pie_summary.specs.ByFlow.{flows_whole}
 use Rattle.pie_summary.specs.Summary.{alone, summary_of}
 use Rattle.pie_commands.specs.declared.explain.OutputKind.{OutputKind}
 use Rattle.pie_commands.specs.declared.explain.OutputKind.TheVariants.{Digest, Flows, Records, Sums, Words}
+use Rattle.pie_explain.specs.declared.fault.ExplainFault.{ExplainFault}
+use Rattle.pie_explain.specs.Either.{ExplainsEither}
+use Rattle.pie_commands.specs.declared.end.End.{End}
+use Rattle.pie_commands.specs.declared.end.End.TheVariants.{Done, Differs, Fault, Failed}
+use Rattle.pie_commands.specs.Ends.{EndsBy, WritesNothing}
+use Rattle.pie_units.specs.declared.when.When.TheVariants as when
+use Rattle.pie_explain.specs.declared.fault.ExplainFault.TheVariants as fault
 
 -- ---- moments
 
@@ -76,8 +82,8 @@ chosen true None None false false false = Some All
 chosen _ _ _ _ _ _ = None
 
 -- the events that these options choose
-abbrev pub which_of : List Row → Option Which
-which_of options = chosen (is_summary options) (number_given (codes "event") options) (number_given (codes "tag") options)
+abbrev pub chosen_events : List Row → Option Which
+chosen_events options = chosen (is_summary options) (number_given (codes "event") options) (number_given (codes "tag") options)
     (flag_given (codes "lost") options)
     (flag_given (codes "marked") options) (flag_given (codes "all") options)
 
@@ -102,7 +108,7 @@ choice_at _ _ _ _ allowed = None
 -- the selection of these options; none if they are not valid together
 unfoldable pub choice_of : List Row → Option Selection
 choice_of options =
-    choice_at (which_of options) (result_ok (bound_given (codes "from") options)) (result_ok (bound_given (codes "to") options))
+    choice_at (chosen_events options) (result_ok (bound_given (codes "from") options)) (result_ok (bound_given (codes "to") options))
     (result_ok (moment_given (codes "every") options)) (is_either (is_digest options) (flows_of options))
 
 -- the form: CSV or words, with wall-clock times or without
@@ -131,3 +137,23 @@ output_text (Words words) = pages (in_words words.by_wall)
 output_text (Sums sums) = summary_of (alone sums)
 output_text (Digest summaries) = summary_of summaries
 output_text (Flows by_flow) = flows_whole by_flow
+
+-- ---- the end
+
+-- the end of an explanation with this result
+abbrev pub end_of_explain : Result ℕ ExplainFault → End
+end_of_explain (Ok explained) = Done
+end_of_explain (Err (fault.Trace why)) = Fault why
+end_of_explain (Err (fault.Differs event)) = Differs
+end_of_explain (Err _) = Failed
+
+-- the end of an explanation of a history or an excerpt: the output of `text` for the chosen events is written, up
+-- to the first fault and the first event that differs, and the end follows from the result. If the options choose
+-- no event, the end is an error and nothing is written
+abbrev pub explain_ends : Option Selection → (List Explained → List ℕ) → Option (List ℕ) → End → Option (List ℕ) → Option (List ℕ) → Type 0
+explain_ends None text known = WritesNothing
+explain_ends (Some choice) text known = EndsBy end_of_explain (ExplainsEither choice text) known
+
+-- the end of an explanation with the selection and the kind of output of these options
+abbrev pub EndsExplain : List Row → Option (List ℕ) → End → Option (List ℕ) → Option (List ℕ) → Type 0
+EndsExplain options = explain_ends (choice_of options) (output_text (output_kind_of options))

@@ -1,8 +1,8 @@
 use Rattle.pie_commands.proofs.Names.{◌∙◌, ap, found_of, one_text, one_text-rows, option_map, Option, Text}
 use Rattle.std.specs.Option.{option_transpose}
 use Rattle.pie_units.specs.When.{when_in}
-use Rattle.pie_commands.proofs.MomentFacts.{bound-given}
-use Rattle.pie_commands.proofs.moments.bound.Goals as goal
+use Rattle.pie_commands.proofs.GivenFacts.{bound-given}
+use Rattle.pie_commands.proofs.options.given.bound.Goals as goal
 
 pub returns : goal.returns
 returns c =

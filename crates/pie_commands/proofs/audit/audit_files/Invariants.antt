@@ -1,6 +1,6 @@
 use Rattle.pie_commands.proofs.Names.{map, take, AuditsFiles}
 use Rattle.pie_commands.proofs.FileFacts.{IsLeft}
-use Rattle.pie_commands.proofs.file_audits.audit_files.Given as goal
+use Rattle.pie_commands.proofs.audit.audit_files.Given as goal
 
 abbrev pub invariant-loop-place : goal.invariant-loop-place
 invariant-loop-place g l = record {

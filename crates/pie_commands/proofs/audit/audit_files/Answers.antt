@@ -1,7 +1,7 @@
 use Rattle.pie_commands.proofs.Names.{◌<◌, ℕ, length, map, take, rules, subst, sym, length-map}
 use Rattle.pie_commands.proofs.FileFacts.{left-on}
-use Rattle.pie_commands.proofs.FileAuditFacts.{audits-more, audits-taken, left-taken, tells-given}
-use Rattle.pie_commands.proofs.file_audits.audit_files.Goals as goal
+use Rattle.pie_commands.proofs.FileAuditFacts.{audits-more, audits-taken, left-taken, outcome-given, unfound-is}
+use Rattle.pie_commands.proofs.audit.audit_files.Goals as goal
 
 pub loop-place-preserved : goal.loop-place-preserved
 loop-place-preserved g c =
@@ -19,13 +19,13 @@ loop-place-preserved g c =
     let works = g.H.NamedFiles.works in
     let more = audits-more works joined input files (take c.loop-place.place names) c.loop-place.unfound c.loop-place.broken c.loop-place.end end before
     (g.W.Write.contents c.loop-place.output) now name c.in-Ok.outcome c.loop-place.invariant.audits
-    (tells-given works joined g.R.Read.remaining c.args.input c.loop-place.given files (take c.loop-place.place names) name c.loop-place.end c.in-Ok.outcome
+    (outcome-given works joined g.R.Read.remaining c.args.input c.loop-place.given files (take c.loop-place.place names) name c.loop-place.end c.in-Ok.outcome
     end c.loop-place.invariant.left c.in-Ok.ensures.writes_line)
     c.in-Ok.ensures.written in
     record {
       left = left-taken c.args.input names c.loop-place.place name c.audit_named.new.input named c.name_at-name.ensures
           (left-on c.args.input (take c.loop-place.place names) name c.loop-place.given c.audit_named.new.input c.loop-place.invariant.left
           c.audit_named.ensures.input);
-      audits = rw (c.any_unaudited-unfound.ensures, c.any_broken-broken.ensures)
+      audits = rw (c.is_err-unfound.ensures.value, unfound-is, c.is_broken-broken.ensures)
           (audits-taken works joined input files names c.loop-place.place name _ _ end before now named c.name_at-name.ensures more);
     }

@@ -1,8 +1,8 @@
 use Rattle.pie_commands.proofs.Names.{◌∙◌, ap, found_of, one_text, one_text-rows, option_map, Option, Text}
 use Rattle.std.specs.Option.{option_transpose}
 use Rattle.pie_units.specs.Moment.{moment_in}
-use Rattle.pie_commands.proofs.MomentFacts.{moment-given}
-use Rattle.pie_commands.proofs.moments.moment.Goals as goal
+use Rattle.pie_commands.proofs.GivenFacts.{moment-given}
+use Rattle.pie_commands.proofs.options.given.moment.Goals as goal
 
 pub returns : goal.returns
 returns c =

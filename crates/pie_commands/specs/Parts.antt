@@ -1,10 +1,11 @@
--- The parts of an output that contracts name.
-use Rattle.std.specs.Prelude.{ℕ, ◌||◌, Bool, true, false, Result, Ok, Err}
+-- The parts of an output and of a `ProgressReader` that contracts name.
+use Rattle.std.specs.Prelude.{ℕ, ◌||◌, Bool, true, false, Result, Ok, Err, List, Option}
 use Rattle.std.specs.IoError.{error_kind}
 use Rattle.std.specs.declared.io.Error.{Error}
 use Rattle.std.specs.declared.io.ErrorKind.{ErrorKind}
 use Rattle.std.specs.declared.io.ErrorKind.TheVariants.{BrokenPipe}
 use Rattle.pie_commands.specs.declared.system_files.Output.{Output}
+use Rattle.pie_commands.specs.declared.progress.ProgressReader.{ProgressReader}
 
 -- true if the reader of the output is gone
 abbrev pub is_closed : Output → Bool
@@ -19,3 +20,11 @@ is_broken _ = false
 abbrev pub has_closed : Bool → Result ℕ Error → Bool
 has_closed was (Ok count) = was
 has_closed was (Err why) = was || is_broken (error_kind why)
+
+-- the inner reader
+abbrev pub inner_of : {R W C : Type 0} → ProgressReader R W C → R
+inner_of watched = watched.inner
+
+-- the bytes that the reader will return, if they are known
+abbrev pub remaining_of : {R W C : Type 0} → (R → Option (List ℕ)) → ProgressReader R W C → Option (List ℕ)
+remaining_of remaining watched = remaining watched.inner

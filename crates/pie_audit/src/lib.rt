@@ -21,7 +21,7 @@ pub mod text_begun;
 pub mod visitor;
 
 pub use auditor::{Auditor, Finding};
-pub use follower::{Follower, LineKind, kind_of, lines_that_agree_have_few_events};
+pub use follower::{Follower, LineKind, kind_of};
 pub use law::{
     clean_excerpts_are_legal, clean_is_legal, events_are_lines, findings_look_back,
     recorded_calls_are_clean, written_excerpts_are_read,

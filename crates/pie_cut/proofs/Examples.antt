@@ -1,17 +1,8 @@
 -- Worked selections, segments of a text and joints: each theorem computes.
-use Rattle.std.specs.Prelude.{◌≡◌, ℕ, Option, Some, None, true, false, refl}
+use Rattle.pie_cut.proofs.Names.{CoreView, EndView, Gap, None, Opening, Option, Position, Some, Span, Unlike, ap, arith, false, refl, true, ℕ, ◌≡◌}
+use Rattle.pie_cut.specs.{Excerpt.is_past, Excerpt.is_reached, Joined.JoinsBy, Segment.segment, declared.joint_audit.Joint.TheVariants.Follows}
 use Rattle.pie_record.specs.Field.{number}
-use Rattle.pie_event.specs.declared.opening.Opening.{Opening}
-use Rattle.pie_units.specs.declared.when.When.{When}
-use Rattle.pie_units.specs.declared.when.When.TheVariants.{Moment, Unix}
-use Rattle.pie_cut.specs.declared.span.Position.{Position}
-use Rattle.pie_cut.specs.declared.span.Span.{Span}
-use Rattle.pie_cut.specs.Segment.{segment}
-use Rattle.pie_cut.specs.Excerpt.{is_past, is_reached}
-use Rattle.pie_book.specs.Core.{CoreView}
-use Rattle.pie_cut.specs.declared.joint_audit.Joint.TheVariants.{Follows, Gap, Unlike}
-use Rattle.pie_cut.specs.Joined.{EndView, JoinsBy}
-use Rattle.std.proofs.Common.{ap, arith}
+use Rattle.pie_units.specs.declared.{when.When.When, when.When.TheVariants.Moment, when.When.TheVariants.Unix}
 
 -- ---- spans
 

@@ -1,37 +1,28 @@
 -- The history text of a trace is read back: its opening, the events of its run, and notes.
-use Rattle.pie_trace.proofs.Names.{◌≡◌, ◌≤◌, ◌<◌, ◌+◌, ◌-◌, ◌^◌, ◌==◌, ℕ, List, [], ◌∷◌, ◌++◌, length, Bool, true, false, refl, sym, ap, subst, ◌∙◌}
-use Rattle.pie_trace.proofs.Names.{arith, length-append, if◌then◌else◌, All, nat_lt, take, Option, Some, None, Result, Ok, Err, nat_tests, All-append}
-use Rattle.pie_trace.proofs.Names.{All-cons, All-nil, first_bad, Command, Event, Mode, Opening, FoldRefusal, Refusal, IsLegal, decision}
-use Rattle.pie_trace.proofs.Names.{is_refused_full, or_full, refusal_by_rule, opening_refusal, registers_after, Progress, event_of, fold_outcome}
-use Rattle.pie_trace.proofs.Names.{held_with_one, recorded, refused_or, start, Flaw, TraceFault, Request, Ask, BadParams, Clock, Fold, Show, Tally}
-use Rattle.pie_trace.proofs.Names.{Draft, FirstKind, Version, before_fault, history_rows, history_text, record_fault, replies, requests_of, text_left}
-use Rattle.pie_trace.proofs.Names.{opening_of, opening_read, Row, rows_text, request_of, line_of, Begins, AreLinesOf, IsHistoryText}
-use Rattle.pie_trace.proofs.Names.{line_of_reply, lines_left, lines_of_replies, rows_left, run_lines, first_fields, first_kind, kind_word, version_of}
-use Rattle.pie_trace.proofs.Names.{Reply, after, history_row, reply, reply_to_command, reply_to_fold, code_of, drop, records_of, rows_without_fault}
-use Rattle.pie_trace.proofs.Names.{line_in-line, Line, append_assoc, append-nil, filter_map-append, progress_after, RunEnd, end_of, fault_of}
-use Rattle.pie_trace.proofs.Names.{first_fault, progress_at_end, steps_of, fold_reply, refused, Finding, Clean, AreLegal, CanBeMade, map, Represents}
-use Rattle.pie_trace.proofs.Names.{Three, end_left, ◌≢◌, field_at, fault_from, kind-first, lines_from, lost-later, and_then}
-use Rattle.std.proofs.lemmas.List.Concat.{flat_map-append}
+use Rattle.pie_trace.proofs.Names.{All, All-append, All-cons, All-nil, AreLegal, AreLinesOf, Ask, BadParams, Begins, Bool, CanBeMade, Clean, Clock}
+use Rattle.pie_trace.proofs.Names.{Command, Draft, Err, Event, Finding, FirstKind, Flaw, Fold, FoldRefusal, IsHistoryText, IsLegal, Line, List, Mode}
+use Rattle.pie_trace.proofs.Names.{None, Ok, Opening, Option, Preamble, Progress, Promises, Refusal, Reply, Represents, Request, Result, Row, RunEnd}
+use Rattle.pie_trace.proofs.Names.{Show, Some, Tally, TextsAreReadBack, Three, TraceFault, Version, [], after, and_then, ap, append-nil, append_assoc}
+use Rattle.pie_trace.proofs.Names.{arith, before_fault, beginning_of_preamble, code_of, decision, drop, end_left, end_of, event_of, false, fault_from}
+use Rattle.pie_trace.proofs.Names.{fault_of, field_at, filter_map-append, first_bad, first_fault, first_fields, first_kind, flat_map-append}
+use Rattle.pie_trace.proofs.Names.{fold_outcome, fold_reply, held_with_one, history_row, history_rows, history_text, if◌then◌else◌, is_refused_full}
+use Rattle.pie_trace.proofs.Names.{is_resumed, kind-first, kind_word, length, length-append, line_in-line, line_of, line_of_reply, lines_from}
+use Rattle.pie_trace.proofs.Names.{lines_left, lines_of_replies, lost-later, map, nat_lt, nat_tests, opening_of, opening_read, opening_refusal}
+use Rattle.pie_trace.proofs.Names.{or_full, progress_after, progress_at_end, record_fault, recorded, records_of, refl, refusal_by_rule, refused}
+use Rattle.pie_trace.proofs.Names.{refused_or, registers_after, replies, reply, reply_to_command, reply_to_fold, request_of, requests_of, resumed_of}
+use Rattle.pie_trace.proofs.Names.{resumed_progress, resumed_within, rows_left, rows_text, rows_without_fault, run_lines, start, steps_of, subst, sym}
+use Rattle.pie_trace.proofs.Names.{take, take-append-drop, text_finding, text_left, true, version_of, ℕ, ◌++◌, ◌+◌, ◌-◌, ◌<◌, ◌==◌, ◌^◌, ◌∙◌, ◌∷◌}
+use Rattle.pie_trace.proofs.Names.{◌≡◌, ◌≢◌, ◌≤◌}
+use Rattle.pie_audit.specs.{Finding.event_in, Finding.events_of, Legal.EventsAreLines}
+use Rattle.pie_audit.specs.Text.{IsExcerptText, IsFound, excerpt_fault, excerpt_lines, fault_after, whole_finding}
 use Rattle.pie_event.specs.Ranges.{CommandFits, ParamsFit}
-use Rattle.pie_record.specs.FirstRecord.{opening_by}
-use Rattle.pie_record.specs.ReadBack.{TextsAreReadBack}
-use Rattle.pie_trace.specs.History.{TextStart, resumed_progress, text_in}
-use Rattle.pie_trace.proofs.RunFacts.{first-one, whole-opened, progress_after-request, part-opened}
-use Rattle.pie_trace.specs.Laws.{Promises}
-use Rattle.pie_trace.specs.Reply.{answered}
-use Rattle.pie_record.specs.declared.history_record.Line.TheVariants.{Note, Valid}
-use Rattle.pie_audit.specs.Finding.{event_in, events_of}
-use Rattle.pie_audit.specs.Text.{text_finding, IsFound, IsExcerptText, excerpt_lines, whole_finding, excerpt_fault, fault_after}
-use Rattle.pie_excerpt.specs.Preamble.{Preamble, HasPreamble, Resumes, resumed_of, is_resumed}
-use Rattle.pie_audit.specs.Legal.{EventsAreLines}
-use Rattle.pie_trace.specs.Resumed.{beginning_of_preamble, progress_resumed, resumed_end, resumed_fault, resumed_text, resumed_within, long_by, within_by, within_most}
-use Rattle.pie_excerpt.specs.Reading.{resume_of}
-use Rattle.pie_excerpt.specs.declared.resume.Resume.{Resume}
-use Rattle.pie_record.specs.declared.fault.TraceFault.TheVariants as fault
-use Rattle.std.proofs.lemmas.List.{take-append-drop}
+use Rattle.pie_excerpt.specs.{Preamble.HasPreamble, Preamble.Resumes, Reading.resume_of, Rows.queued_row, declared.resume.Resume.Resume}
 use Rattle.pie_queue.specs.declared.packet.Waiting.{Waiting}
+use Rattle.pie_record.specs.{FirstRecord.opening_by, declared.history_record.Line.TheVariants.Note, declared.history_record.Line.TheVariants.Valid}
 use Rattle.pie_text.specs.Lost.{lost_row}
-use Rattle.pie_excerpt.specs.Rows.{queued_row}
+use Rattle.pie_trace.proofs.RunFacts.{first-one, part-opened, progress_after-request, whole-opened}
+use Rattle.pie_trace.specs.{TextStart, answered, long_by, progress_resumed, resumed_end, resumed_fault, resumed_text, text_in, within_by, within_most}
+use Rattle.pie_record.specs.declared.fault.TraceFault.TheVariants as fault
 use Rattle.pie_event.specs.declared.refusal.Refusal.TheVariants as refusal
 use Rattle.pie_record.specs.declared.trace_record.Request.TheVariants as request
 use Rattle.pie_record.specs.declared.history_record.Line.TheVariants as line
@@ -190,7 +181,7 @@ few-left version most opening number progress rows =
 -- the first record opens a history, and each of the others is a line
 pub record Written (kind : FirstKind) (rest : Row) (rows : List Row) (opening : Opening) (lines : List Line) : Type 0 where
   pub opens : opening_of (kind_word kind ∷ rest) ≡ Ok opening
-  pub told : AreLinesOf (version_of (kind_word kind ∷ rest)) rows lines
+  pub are_lines : AreLinesOf (version_of (kind_word kind ∷ rest)) rows lines
   pub few : length rows < 2 ^ 32
 
 -- records that each are a line are all read
@@ -204,13 +195,13 @@ all-answered version most number (row ∷ rows) (line ∷ lines) within are_line
 
 module _ (texts : TextsAreReadBack) (kind : FirstKind) (rest : Row) (rows : List Row) (opening : Opening) (lines : List Line) where
   pub written-tells : Written kind rest rows opening lines → IsHistoryText (rows_text ((kind_word kind ∷ rest) ∷ rows)) opening lines
-  written-tells w = texts.history kind rest rows opening lines w.opens (texts.fields _ rows lines w.told) w.told w.few
+  written-tells w = texts.history kind rest rows opening lines w.opens (texts.fields _ rows lines w.are_lines) w.are_lines w.few
 
   pub written-read : Written kind rest rows opening lines → records_of (rows_text ((kind_word kind ∷ rest) ∷ rows)) ≡ (kind_word kind ∷ rest) ∷ rows
-  written-read w = texts.first kind rest rows (texts.fields _ rows lines w.told)
+  written-read w = texts.first kind rest rows (texts.fields _ rows lines w.are_lines)
 
   pub written-kept : Written kind rest rows opening lines → rows_without_fault (version_of (kind_word kind ∷ rest)) (2 ^ 32) 2 rows ≡ rows
-  written-kept w = let few = w.few in all-answered (version_of (kind_word kind ∷ rest)) (2 ^ 32) 2 rows lines (omega arith) w.told
+  written-kept w = let few = w.few in all-answered (version_of (kind_word kind ∷ rest)) (2 ^ 32) 2 rows lines (omega arith) w.are_lines
 
 -- ---- the first record
 
@@ -270,7 +261,7 @@ run-written held most kind rest rows opening few opens some =
     let is = opened held (kind_word kind ∷ rest) opening opens in
     let fit : Opens opening = record { accepted = is.accepted; params = held.params opening.params is.in_range } in
     let count = few-left version most opening 2 start rows (omega arith) in
-    record { opens = opens; told = rows-lines version held most opening 2 start rows few fit (sound-start held opening); few = omega (arith, count) }
+    record { opens = opens; are_lines = rows-lines version held most opening 2 start rows few fit (sound-start held opening); few = omega (arith, count) }
 
 pub run-lines : (held : Promises) (most : ℕ) (row : Row) (rows : List Row) (opening : Opening) → 0 < most → most ≤ 2 ^ 32 → opening_of row ≡ Ok opening
     → IsHistoryText (history_text most (row ∷ rows)) opening (run_lines (version_of row) most opening rows)
@@ -326,12 +317,12 @@ lines-all held opening progress (request ∷ requests) =
     let later = lines-all held opening (after opening progress request) requests in
     let first : Line = line_of_reply request (reply opening progress request) in
     let rest = lines_of_replies requests (replies opening (after opening progress request) requests) in
-    let told : progress.history ++ events_of (first ∷ rest)
+    let events : progress.history ++ events_of (first ∷ rest)
     ≡ (progress_after opening (after opening progress request) (steps_of requests)).history =
     ap (λ (events : List Event). progress.history ++ events) (events-both (first ∷ []) rest)
     ∙ sym (append_assoc progress.history (events_of (first ∷ [])) (events_of rest))
     ∙ ap (λ (history : List Event). history ++ events_of rest) here.events ∙ later.0 in
-    rw (progress_after-request opening progress request requests) (told, λ legal. later.1 (here.legal legal))
+    rw (progress_after-request opening progress request requests) (events, λ legal. later.1 (here.legal legal))
 
 pub all-made : (requests : List Request) (given : List Reply) → All CanBeMade (lines_of_replies requests given)
 unfolding lines_of_replies
@@ -348,14 +339,14 @@ pub lines-legal : Promises → (opening : Opening) (progress : Progress) (before
     → events_of before ≡ progress.history → IsLegal opening progress.history
     → AreRuns opening (before ++ lines_of_replies requests (replies opening progress requests)) (progress_after opening progress (steps_of requests)).history
 lines-legal held opening progress before requests made are_lines legal =
-    let told = lines-all held opening progress requests in
+    let all = lines-all held opening progress requests in
     let lines = lines_of_replies requests (replies opening progress requests) in
     let events : events_of (before ++ lines) ≡ (progress_after opening progress (steps_of requests)).history =
-    events-both before lines ∙ ap (λ (history : List Event). history ++ events_of lines) are_lines ∙ told.0 in
+    events-both before lines ∙ ap (λ (history : List Event). history ++ events_of lines) are_lines ∙ all.0 in
     record {
       legal = record {
         made = All-append CanBeMade before lines made (all-made requests (replies opening progress requests));
-        legal = subst (λ (history : List Event). IsLegal opening history) (sym events) (told.1 legal);
+        legal = subst (λ (history : List Event). IsLegal opening history) (sym events) (all.1 legal);
       };
       events = events;
     }
@@ -377,10 +368,10 @@ pub run-clean : ReadBack → LegalIsClean → Promises → (most : ℕ) (row : R
     → text_finding (records_of (history_text most (row ∷ rows)))
     ≡ Ok (Clean (length (progress_at_end opening (requests_of (version_of row) (before_fault (version_of row) most 2 rows))).history))
 unfolding run_lines events_of
-run-clean told clean held most row rows opening some few opens =
+run-clean read_back clean held most row rows opening some few opens =
     let asked = requests_of (version_of row) (before_fault (version_of row) most 2 rows) in
     let runs = lines-legal held opening start [] asked (All-nil CanBeMade) refl (held.legal_at_first opening) in
-    clean (history_text most (row ∷ rows)) opening _ (told most row rows opening some few opens) runs.legal
+    clean (history_text most (row ∷ rows)) opening _ (read_back most row rows opening some few opens) runs.legal
     ∙ ap (λ (events : List Event). let found : Result Finding TraceFault = Ok (Clean (length events)) in found) runs.events
 
 -- ---- a trace with no fault
@@ -399,8 +390,8 @@ before-all version most number (row ∷ rows) e = by (record_fault version most 
 pub whole-clean : ReadBack → LegalIsClean → Promises → (most : ℕ) (rows : List Row) (end : RunEnd) → most ≤ 2 ^ 32 → fault_of most rows ≡ None
     → end_of most rows ≡ Some end → text_finding (records_of (history_text most rows)) ≡ Ok (Clean end.events)
 unfolding fault_of end_of
-whole-clean told clean held most [] end few sound run_end = cc
-whole-clean told clean held most (row ∷ rows) end few sound run_end = by (opening_of row) refl
+whole-clean read_back clean held most [] end few sound run_end = cc
+whole-clean read_back clean held most (row ∷ rows) end few sound run_end = by (opening_of row) refl
   where
     found : ℕ → Result Finding TraceFault
     found events = Ok (Clean events)
@@ -411,7 +402,7 @@ whole-clean told clean held most (row ∷ rows) end few sound run_end = by (open
         let some : 0 < most = grind (arith, nat_tests, sound) in
         let none : first_fault (version_of row) most 2 rows ≡ None = grind (arith, nat_tests, sound, opens) in
         let same : end_left (version_of row) opening start 0 rows ≡ end = grind (arith, nat_tests, some, run_end, opens) in
-        run-clean told clean held most row rows opening some few opens
+        run-clean read_back clean held most row rows opening some few opens
         ∙ ap (λ (all : List Row). found (length (progress_at_end opening (requests_of (version_of row) all)).history))
         (before-all (version_of row) most 2 rows none)
         ∙ ap (λ (r : RunEnd). found r.events) same
@@ -461,7 +452,7 @@ text-resumed most past rows b e = rw (part-opened most rows b e) (text-begun mos
 -- legal lines are found clean
 lines-clean : Below → (text : List ℕ) (opening : Opening) (past : List Event) (lines : List Line) (history : List Event)
     → IsExcerptText text opening past lines → AreRuns opening (map Valid past ++ lines) history → IsFound text opening past (Clean (length history))
-lines-clean law text opening past lines history told runs = grind (arith, nat_tests)
+lines-clean law text opening past lines history is_text runs = grind (arith, nat_tests)
 
 pub resumed-clean : Below → (most : ℕ) (rows : List Row) (opening : Opening) (past : List Event) (b : Preamble) → most ≤ 2 ^ 32
     → Resumes rows opening past → All (λ event. CommandFits event.command) past → resumed_within most rows ≡ Ok b
@@ -477,11 +468,11 @@ resumed-clean law most rows opening past b few goes fit e =
     let sound : Sound b.opening (resumed_progress past) = record { legal = legal; fit = fit; held = omega arith } in
     let more = rows_left Three most b.opening (b.read + 1) (resumed_progress past) b.left in
     let lines = lines_left Three most b.opening (b.read + 1) (resumed_progress past) b.left in
-    let told : AreLinesOf Three more lines = rows-lines Three law.held most b.opening (b.read + 1) (resumed_progress past) b.left few opens sound in
+    let are_lines : AreLinesOf Three more lines = rows-lines Three law.held most b.opening (b.read + 1) (resumed_progress past) b.left few opens sound in
     let within = at.few in
     let count = few-left Three most b.opening (b.read + 1) (resumed_progress past) b.left (omega (arith, within)) in
     let is_text : IsExcerptText (rows_text (take b.read rows ++ more)) opening past lines =
-    law.behind rows more b opening past lines at.begun goes told (omega (arith, count, few)) in
+    law.behind rows more b opening past lines at.begun goes are_lines (omega (arith, count, few)) in
     let runs = lines-legal law.held b.opening (resumed_progress past) (map Valid past) (requests_of Three (before_fault Three most (b.read + 1) b.left))
     (law.events.made past) (law.events.events past) legal in
     subst (λ (text : List ℕ). IsFound text opening past (Clean (length (progress_resumed most past b).history)))

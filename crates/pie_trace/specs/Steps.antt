@@ -1,12 +1,38 @@
--- The outcome of a run of a trace, and its progress.
-use Rattle.std.specs.Prelude.{◌≡◌, ◌+◌, cond}
-use Rattle.pie_trace.specs.Names.{ℕ, List, length, Some, None, Ok, Opening, BookView, BookRepresents, opening_refusal, Progress, Request, Version, Row}
-use Rattle.pie_trace.specs.Names.{text_of, request_of}
-use Rattle.pie_trace.specs.declared.run.RunEnd.{RunEnd}
-use Rattle.pie_trace.specs.History.{first_fault}
-use Rattle.pie_trace.specs.Pass.{Pass}
-use Rattle.pie_trace.specs.Reply.{Reply, history_row, is_refused}
-use Rattle.pie_trace.specs.RunState.{Running, RunState, end_after, looking_back, reply_at, running, state_after, text_at}
+-- A pass over records, and its progress; and the pass of a run of a trace.
+use Rattle.pie_trace.specs.Names.{Appends, BookRepresents, BookView, Err, List, None, Ok, Opening, Option, Progress, Request, Result, Row, Some}
+use Rattle.pie_trace.specs.Names.{TraceFault, Version, cond, false, is_device, length, opening_refusal, request_of, text_of, ℕ}
+use Rattle.pie_trace.specs.{History.first_fault, Reply.Reply, Reply.history_row, Reply.is_refused, declared.run.RunEnd.RunEnd}
+use Rattle.pie_trace.specs.RunState.{RunState, Running, end_after, looking_back, reply_at, running, state_after, text_at}
+use Rattle.std.specs.Prelude.{◌+◌, ◌≡◌}
+
+-- ---- a pass over records: it reads them one after another, writes, and returns a result
+
+-- the outcome of a pass: the first fault, if there is one; otherwise the result; and the output. Result and output
+-- depend on the state before
+pub record Pass (X A : Type 0) : Type 1 where
+  pub found : Option TraceFault
+  pub may_follow : X → Type 0
+  pub gives : X → Option A
+  pub text : X → List ℕ
+
+-- the output of the pass, after every possible past, is appended to the writer's bytes
+abbrev pub Writes : {X A : Type 0} → Pass X A → Option (List ℕ) → Option (List ℕ) → Type 0
+Writes {X} pass before now = (past : X) → pass.may_follow past → Appends before now (pass.text past)
+
+-- the end of a pass, unless the reader, the writer or memory failed: a result, or the fault
+abbrev pub HasOutcome : {X A : Type 0} → Pass X A → Result A TraceFault → Option (List ℕ) → Option (List ℕ) → Type 0
+HasOutcome {X} pass (Ok value) before now =
+    (pass.found ≡ None) × ((past : X) → pass.may_follow past → pass.gives past ≡ Some value) × Writes pass before now
+HasOutcome pass (Err why) before now = is_device why ≡ false → (pass.found ≡ Some why) × Writes pass before now
+
+-- the progress of a pass: some records are left, and the outcome for these gives the outcome for all
+pub record IsProgressOf {X A : Type 0} (all : Pass X A) (others : List Row → Pass X A) (left : Option (List Row)) (before now : Option (List ℕ))
+    : Type 0 where
+  pub rows : List Row
+  pub remain : left ≡ Some rows
+  pub comes : (result : Result A TraceFault) (last : Option (List ℕ)) → HasOutcome (others rows) result now last → HasOutcome all result before last
+
+-- ---- the run of a trace
 
 -- a book is in this state of a run from its opening
 pub record IsAt (book : BookView) (opening : Opening) (progress : Progress) : Type 0 where

@@ -1,15 +1,13 @@
 //! The laws of runs and migrations: history texts are read back and are clean, and excerpts continue a history.
-ghost use Rattle.std.specs.Prelude.{◌≡◌, ◌<◌, ◌≤◌, ◌^◌, ◌∷◌, ◌++◌, ◌≢◌, All};
-ghost use Rattle.pie_trace.specs.{ℕ, List, Ok, Opening, progress_after, start, Request, history_text, progress_at_end, replies, steps_of, fold_reply};
-ghost use Rattle.pie_trace.specs.{resumed_progress, version_of, opening_of, IsHistoryText, run_lines, Row, length, None, Some, Event, Preamble, Resumes};
-ghost use Rattle.pie_trace.specs.{before_fault, end_of, fault_of, requests_of, progress_resumed, resumed_end, resumed_fault, resumed_text};
-ghost use Rattle.pie_trace.specs.{resumed_within, records_of, Clean, text_finding, history_lines, history_opening, history_version, HaveSameLines};
-ghost use Rattle.pie_trace.specs.{first_in_two, history_fault, migrated_text, migrated_version};
-ghost use Rattle.pie_trace.specs.Laws.{Promises};
-ghost use Rattle.pie_event.specs.Ranges.{CommandFits};
-ghost use Rattle.pie_trace.specs.declared.run.RunEnd.{RunEnd};
-ghost use Rattle.pie_text.specs.Lost.{lost_row};
 ghost use Rattle.pie_audit.specs.Text.{IsFound, excerpt_fault};
+ghost use Rattle.pie_event.specs.Ranges.{CommandFits};
+ghost use Rattle.pie_text.specs.Lost.{lost_row};
+ghost use Rattle.pie_trace.specs.{All, Clean, Event, HaveSameLines, IsHistoryText, List, None, Ok, Opening, Preamble, Promises, Request, Resumes};
+ghost use Rattle.pie_trace.specs.{Row, Some, before_fault, end_of, fault_of, first_in_two, fold_reply, history_fault, history_lines, history_opening};
+ghost use Rattle.pie_trace.specs.{history_text, history_version, length, migrated_text, migrated_version, opening_of, progress_after};
+ghost use Rattle.pie_trace.specs.{progress_at_end, progress_resumed, records_of, replies, requests_of, resumed_end, resumed_fault, resumed_progress};
+ghost use Rattle.pie_trace.specs.{resumed_text, resumed_within, run_lines, start, steps_of, text_finding, version_of, ℕ, declared.run.RunEnd.RunEnd};
+ghost use Rattle.std.specs.Prelude.{◌++◌, ◌<◌, ◌^◌, ◌∷◌, ◌≡◌, ◌≢◌, ◌≤◌};
 
 use pie_audit::{
     clean_excerpts_are_legal, clean_is_legal, events_are_lines, written_excerpts_are_read,

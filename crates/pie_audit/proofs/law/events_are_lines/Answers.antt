@@ -1,5 +1,4 @@
-use Rattle.pie_audit.proofs.AuditorFacts.{made-count}
-use Rattle.pie_audit.proofs.LegalFacts.{all-made, made-events}
+use Rattle.pie_audit.proofs.{AuditorFacts.made-count, LegalFacts.all-made, LegalFacts.made-events}
 use Rattle.pie_audit.proofs.law.events_are_lines.Goals as goal
 
 pub returns : goal.returns

@@ -7,4 +7,4 @@ returns c = λ opening core set_by past lines accepted shows sound fits.
       refusal = c.steps_look_back.ensures.refusal;
       answer = c.steps_look_back.ensures.answer;
       after = c.steps_look_back.ensures.after;
-    } in found-as-whole law opening core set_by past lines accepted shows sound fits
+    } in found-as-whole law opening core set_by past shows lines sound fits

@@ -1,4 +1,4 @@
-use Rattle.pie_cut.proofs.Names.{from_opening, history_lines, start_after, whole_lines}
+use Rattle.pie_cut.specs.{from_opening, history_lines, start_after, whole_lines}
 use Rattle.pie_cut.proofs.TextFacts.{cuts-found, part-fits, whole-fits}
 use Rattle.pie_cut.proofs.law.cuts_are_found_as_the_whole.Goals as goal
 

@@ -3,7 +3,7 @@ use Rattle.pie_trace.proofs.law.runs_are_clean.Goals as goal
 
 pub returns : goal.returns
 returns c =
-    let told = c.history_texts_are_read_back.ensures in
+    let read_back = c.history_texts_are_read_back.ensures in
     let clean = c.clean_is_legal.ensures.legal_is_clean in
     let held = c.all_is_held.ensures in
-    record { whole = whole-clean told clean held; up_to_fault = run-clean told clean held }
+    record { whole = whole-clean read_back clean held; up_to_fault = run-clean read_back clean held }

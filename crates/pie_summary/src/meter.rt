@@ -99,6 +99,7 @@ fn count_some(count: &mut u64, number: Option<u64>)
 fn add_excess(late: &mut u64, excess: Option<u64>, since: u64)
     ensures { late.new ≡ kept (late.old + excess_within excess since) }
 {
+    // Without an excess nothing else reads the sum. This read gives the prover its range. The compiler omits the read.
     let _held = *late;
     if let Some(excess) = excess {
         increase(late, excess.min(since));

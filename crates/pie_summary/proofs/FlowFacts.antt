@@ -221,8 +221,7 @@ beside_same some flows one e =
     (sym (filter-append (λ f. not (is_among some f)) flows (one ∷ [])
     ∙ ap (λ (b : Bool). beside some flows ++ cond (not b) (one ∷ []) []) e ∙ append-nil (beside some flows)))
 
--- ---- a loop's step
-
+-- a loop's step
 pub next-flow : (flows : List Flow) (at : ℕ) (x : Flow) → at < length flows → x ≡ slice_index_or flows at x
     → take at flows ++ x ∷ [] ≡ take (at + 1) flows
 next-flow flows at x within is = ap (λ (y : Flow). take at flows ++ y ∷ []) is ∙ sym (take_more flows at x within)

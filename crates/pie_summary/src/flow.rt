@@ -1,7 +1,7 @@
 //! The flows of the events that were shown, and those of them with the most bytes.
-ghost use Rattle.std.specs.Prelude.{◌≡◌, ◌≤◌, ◌++◌, ◌∷◌, [], List, IfOk, OnOk, Some, filter, insert, length};
+ghost use Rattle.std.specs.Prelude.{◌≡◌, ◌≤◌, ◌++◌, ◌∷◌, [], List, IfOk, OnOk, Some, insert, length};
 ghost use Rattle.pie_explain.specs.declared.explanation.Explained.{Explained};
-ghost use Rattle.pie_summary.specs.FlowSums.{flow_in, flow_sums, is_of};
+ghost use Rattle.pie_summary.specs.FlowSums.{flow_in};
 ghost use Rattle.pie_summary.specs.Flows.{HasFlows, first_of, flows_of, is_among, placed, precedes, sums_beside};
 
 use crate::flow_sums::{FlowSums, flow_by};

@@ -175,7 +175,10 @@ fn push_record(
     write!(page, "{first},{last},")?;
     push_field(page, name)?;
     write!(page, ",{arrivals},{bytes},{queued},{marked},{early},")?;
-    write!(page, "{no_bytes},{no_packets},{left},{carried},{greatest},{mean},")?;
+    write!(
+        page,
+        "{no_bytes},{no_packets},{left},{carried},{greatest},{mean},"
+    )?;
     push_last(page, by_wall, sums.held, &span.times)
 }
 

@@ -8,9 +8,10 @@ ghost use Rattle.pie_summary.specs.Aggregates.{counted_some};
 ghost use Rattle.pie_summary.specs.Sums.{awaiting, excess_within, meter_of, timed_by};
 ghost use Rattle.pie_summary.specs.Words.{wait_99};
 
-use crate::aggregates::{Bounds, Peak, Total, increase, raise};
+use crate::aggregates::{Bounds, Peak, Total, raise};
 use crate::meter_input::{LEFT, MeterInput};
 use crate::ranges::{RANGES, end_within, first_up_to};
+use pie_explain::increase;
 
 /// The numbers of a record, each over all events of an interval. `answers` also gives the number of events and of
 /// departures.

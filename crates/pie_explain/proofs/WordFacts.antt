@@ -12,8 +12,7 @@ use Rattle.pie_explain.specs.declared.form.Form.{Form}
 use Rattle.pie_explain.specs.Output.{header, pages, explanation_texts, explanation_text}
 use Rattle.pie_explain.specs.Report.{Grows}
 
--- ==== A number is written with zeros before it
-
+-- a number is written with zeros before it
 pub padded : (width n : ℕ) → padded_integral (format_spec 32 0 4 width 18446744073709551615) false [] (decimal n) ≡ with_zeros width n
 unfolding padded_integral char_count
 padded width n =
@@ -42,10 +41,10 @@ steady_last fields steady text n is long =
     rw (is, whole) (drop_at (onto fields []) steady (length (onto fields [] ++ steady) - n) (omega (arith, both, long)))
 
 -- a record, and the wall-clock time after it
-pub wall-line : (all : Explained) (wall old : List ℕ)
+pub wall_line : (all : Explained) (wall old : List ℕ)
     → ((old ++ onto (most_fields all) (active_field all.after.active ++ codes ",")) ++ wall) ++ codes "\n"
     ≡ old ++ line_of (record_of all ++ wall ∷ [])
-wall-line all wall old =
+wall_line all wall old =
     let most = most_fields all in
     let active : List ℕ = active_field all.after.active in
     append_assoc (old ++ onto most (active ++ codes ",")) wall (codes "\n") ∙ append_assoc old (onto most (active ++ codes ",")) (wall ++ codes "\n")

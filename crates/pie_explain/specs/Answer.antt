@@ -61,8 +61,6 @@ pub record Explains (start : Start) (origin : Origin) (choice : Selection) (tale
   pub shown : shows (explanations_since start origin choice lines)
   pub written : Appends before now (tale (explanations_since start origin choice lines))
 
--- ---- the end of an explanation
-
 -- the output: the whole text for the chosen events of the text
 abbrev pub IsExplanationText : Selection → (List Explained → List ℕ) → Start → Origin → List Line → List ℕ → Type 0
 IsExplanationText choice whole start origin lines explanation_texts = explanation_texts ≡ whole (explanations_since start origin choice lines)

@@ -128,8 +128,6 @@ line_of [] = codes "\n"
 line_of (field ∷ []) = field ++ codes "\n"
 line_of (field ∷ (next ∷ fields)) = field ++ codes "," ++ line_of (next ∷ fields)
 
--- ---- the fields in the order in which they are written
-
 -- these fields, each with a comma after it, before the end of a line
 abbrev pub onto : List (List ℕ) → List ℕ → List ℕ
 onto [] end = end

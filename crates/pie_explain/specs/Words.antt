@@ -186,8 +186,6 @@ unfoldable pub reason_words : Option Clock → Registers → Option Cause → Li
 reason_words clock before None = codes ""
 reason_words clock before (Some cause) = joined (cause_words before.prob cause ∷ lasting_words clock before.last cause ∷ [])
 
--- ---- the controller's activity before and after the event
-
 -- the line for a change of activity, by the activity before and after the event
 unfoldable pub turned_words : Bool → Bool → List ℕ
 turned_words false true = codes "  this event turned the controller on\n"
@@ -213,8 +211,6 @@ before_words clock explanation =
     joined (codes "  before it: " ∷ decimal explanation.before.packets ∷ codes " packets, " ∷ decimal explanation.before.bytes ∷ codes " bytes, a delay of "
     ∷ millis explanation.delay ∷ codes "\n" ∷ setter_words explanation.set_by explanation.before ∷ last_words clock explanation.updates explanation.before.last
     ∷ codes " burst allowance " ∷ millis explanation.before.burst ∷ codes "\n" ∷ [])
-
--- ---- the whole
 
 -- an explanation in words. With a clock record its moments are wall-clock times
 unfoldable pub words_by : Option Clock → Explained → List ℕ

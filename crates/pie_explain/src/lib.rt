@@ -26,7 +26,7 @@ mod text_cache;
 pub mod units;
 
 pub use choice::Which;
-pub use explainer::explain;
+pub use explainer::{explain, increase};
 pub use explanation::{Explained, Explanation, moment_of};
 pub use fault::ExplainFault;
 pub use form::Form;

@@ -250,7 +250,7 @@ fn push_against(page: &mut String, shown: u64, accu: u64, prob: u64, against: &s
 
 /// Writes the accumulated probability, unless it is 0, and the comparison of the random word with the scaled
 /// probability.
-#[tactic(auto, using(std::proofs::Common::append_assoc), unfolding(crate::specs::Words::compared_words))]
+#[tactic(auto, unfolding(crate::specs::Words::compared_words))]
 fn push_compared(
     page: &mut String,
     shown: u64,
@@ -407,7 +407,7 @@ fn push_before(page: &mut String, clock: Option<Clock>, explanation: &Explanatio
 }
 
 /// Writes an explanation in words. With a `clock` its moments are written as wall-clock times.
-#[tactic(auto, using(std::proofs::Common::append_assoc), unfolding(crate::specs::Words::words_by))]
+#[tactic(auto, unfolding(crate::specs::Words::words_by))]
 pub(crate) fn push_text(page: &mut String, clock: Option<Clock>, all: &Explained) -> Written
     ensures { OnOk result (string_bytes page.new ≡ string_bytes page.old ++ words_by clock all.now) }
 {

@@ -46,15 +46,13 @@ module _ (is_first : Bool) (before after : Option (List ℕ)) (line ends : List 
 kept : (rest : List ℕ) (after : Option (List ℕ)) → Keeps (Some rest) after → after ≡ Some rest
 kept rest after keeps = grind (arith, nat_tests)
 
-pub nothing-found : (is_first : Bool) (before after : Option (List ℕ)) (row : Row) → Keeps before after → IsAtEnd after
+pub nothing_found : (is_first : Bool) (before after : Option (List ℕ)) (row : Row) → Keeps before after → IsAtEnd after
     → ReadsPlain found.Nothing is_first before row after
-nothing-found is_first None after row keeps over = tt
-nothing-found is_first (Some all) after row keeps over =
+nothing_found is_first None after row keeps over = tt
+nothing_found is_first (Some all) after row keeps over =
     let same = kept all after keeps in
     let none : all ≡ [] = subst (λ (o : Option (List ℕ)). IsAtEnd o) same over in
     (all, same, ap (records_at is_first) none ∙ none-at is_first)
 
--- ---- bytes that are left to csv
-
-pub later-left : (before after : Option (List ℕ)) (row : Row) → after ≡ prepend_known (10 ∷ []) before → ReadsPlain found.Odd false before row after
-later-left before after row back = grind (arith, nat_tests, feed-read, no-mark)
+pub later_left : (before after : Option (List ℕ)) (row : Row) → after ≡ prepend_known (10 ∷ []) before → ReadsPlain found.Odd false before row after
+later_left before after row back = grind (arith, nat_tests, feed-read, no-mark)

@@ -57,10 +57,8 @@ unfolding fields_text is_blank
 text-written line first others plain is some = grind (arith, nat_tests, field-own, append-nil)
 
 -- csv writes a plain record as its line
-pub line-text : (line : List ℕ) → IsPlainLine line → 0 < length line → text_of (split_line line) ≡ line ++ 10 ∷ []
-line-text line plain some = let w = written line plain in ap text_of w.2 ∙ text-written line w.0 w.1 w.3 w.4 some
-
--- ---- the reading of a plain record
+pub line_text : (line : List ℕ) → IsPlainLine line → 0 < length line → text_of (split_line line) ≡ line ++ 10 ∷ []
+line_text line plain some = let w = written line plain in ap text_of w.2 ∙ text-written line w.0 w.1 w.3 w.4 some
 
 -- the first record of bytes that begin with a plain line: csv reads what it writes
 pub line-read : (line rest : List ℕ) → IsPlainLine line → 0 < length line
@@ -69,7 +67,7 @@ line-read line rest plain some =
     let parts = split-some line in
     let has : HasField (split_line line) = rw parts.2 (omega arith) in
     subst (λ (text : List ℕ). records_left st.StartRecord text ≡ split_line line ∷ records_left st.StartRecord rest)
-    (ap (λ (text : List ℕ). text ++ rest) (line-text line plain some) ∙ append_assoc line (10 ∷ []) rest) (row-read (split_line line) rest has)
+    (ap (λ (text : List ℕ). text ++ rest) (line_text line plain some) ∙ append_assoc line (10 ∷ []) rest) (row-read (split_line line) rest has)
 
 -- an empty line is no record
 pub feed-read : (rest : List ℕ) → records_left st.StartRecord (10 ∷ rest) ≡ records_left st.StartRecord rest

@@ -211,10 +211,6 @@ command-back (asked.BadParams change) more f =
     rw (back_u16 change.caller f.caller, back_u64 change.moment f.moment, params-behind _ _ _ change.params more f.nine, f.bad) refl
 command-back (asked.Command caller _) more f = rw (back_u16 caller f.0, back_u64 _ f.1) refl
 
--- ---- lines of a history
-
--- ---- the numbers of a line that was read
-
 -- the numbers of a line fit their types, and an event that cannot be made has a parameter out of its range
 abbrev pub LineFits : Line → Type 0
 LineFits (line.Valid event) = EventFits event
@@ -331,18 +327,18 @@ answer-ends row (asked.BadParams change) answer long e = done-ends row _ answer 
 -- ---- a line that was read: its numbers fit their types, and its record, except a note's, is the record that is written for it
 
 abbrev IsReadFrom : Row → Line → Type 0
-IsReadFrom row told = LineFits told × (line_rows told ≡ rows_unless_note told row)
+IsReadFrom row parsed = LineFits parsed × (line_rows parsed ≡ rows_unless_note parsed row)
 
-event-read : (row : Row) (k : CommandKind) (told : Line) → command_kind row ≡ Some k → Says (event_line row k) told → IsReadFrom row told
+event-read : (row : Row) (k : CommandKind) (parsed : Line) → command_kind row ≡ Some k → Says (event_line row k) parsed → IsReadFrom row parsed
 unfolding event_line
-event-read row k told known e =
-    let long = tested (has_length k (length row)) _ _ told e in
-    let a = and_after (command_at row k) _ told long.1 in
-    let b = and_after (answer_at row k) (λ (answer : Answer). let it : Result Line Flaw = Ok (line_for a.got answer) in it) told a.rest in
+event-read row k parsed known e =
+    let long = tested (has_length k (length row)) _ _ parsed e in
+    let a = and_after (command_at row k) _ parsed long.1 in
+    let b = and_after (answer_at row k) (λ (answer : Answer). let it : Result Line Flaw = Ok (line_for a.got answer) in it) parsed a.rest in
     let read = command-read row k a.got a.is in
     let ends = answer-ends row a.got b.got (subst (λ (k : CommandKind). has_length k (length row) ≡ true) read.kind long.0)
     (subst (λ (k : CommandKind). Says (answer_at row k) b.got) read.kind b.is) in
-    read-as (IsReadFrom row) (line_for a.got b.got) told b.rest (by a.got b.got read ends)
+    read-as (IsReadFrom row) (line_for a.got b.got) parsed b.rest (by a.got b.got read ends)
   where
     whole : (asks : CommandFields) (answer : Answer) → Reads row k asks → Ends row asks answer → command_row_fields asks ++ answer_fields answer ≡ row
     whole asks answer read ends =
@@ -364,31 +360,31 @@ event-read row k told known e =
     by (asked.BadParams change) answer read ends =
         (read.fits, ap (λ (r : Row). r ∷ []) (rw ends.can at (whole (asked.BadParams change) answer read ends)))
 
-clock-told : (version : Version) (row : Row) (told : Line) → is_kind row (codes "clock") ≡ true
-    → Says (and_then (clock_in version row) (λ clock. Ok (line.Clock clock))) told → IsReadFrom row told
-clock-told version row told is e =
-    let a = and_after (clock_in version row) (λ (clock : Clock). let it : Result Line Flaw = Ok (line.Clock clock) in it) told e in
+clock-parsed : (version : Version) (row : Row) (parsed : Line) → is_kind row (codes "clock") ≡ true
+    → Says (and_then (clock_in version row) (λ clock. Ok (line.Clock clock))) parsed → IsReadFrom row parsed
+clock-parsed version row parsed is e =
+    let a = and_after (clock_in version row) (λ (clock : Clock). let it : Result Line Flaw = Ok (line.Clock clock) in it) parsed e in
     let read = clock-read version row a.got a.is in
-    read-as (IsReadFrom row) (line.Clock a.got) told a.rest (read.fits, ap (λ (r : Row). r ∷ []) (sym (read.is is)))
+    read-as (IsReadFrom row) (line.Clock a.got) parsed a.rest (read.fits, ap (λ (r : Row). r ∷ []) (sym (read.is is)))
 
-noted : (row : Row) (told : Line) → told ≡ line.Note → IsReadFrom row told
-noted row told e = rw e (tt, refl)
+noted : (row : Row) (parsed : Line) → parsed ≡ line.Note → IsReadFrom row parsed
+noted row parsed e = rw e (tt, refl)
 
-pub reads-line : (version : Version) (row : Row) (told : Line) → line_of version row ≡ Ok told → IsReadFrom row told
+pub reads-line : (version : Version) (row : Row) (parsed : Line) → line_of version row ≡ Ok parsed → IsReadFrom row parsed
 unfolding line_of note_line shown_line registers_at
-reads-line version row told e = by (command_kind row) refl e
+reads-line version row parsed e = by (command_kind row) refl e
   where
-    by : (o : Option CommandKind) → command_kind row ≡ o → Says (line_by o version row) told → IsReadFrom row told
-    by (Some k) known e = event-read row k told known e
+    by : (o : Option CommandKind) → command_kind row ≡ o → Says (line_by o version row) parsed → IsReadFrom row parsed
+    by (Some k) known e = event-read row k parsed known e
     by None known e =
-        one-way (is_kind row (codes "refused")) _ _ _ e (λ is e. noted row told (grind (arith, nat_tests, e))) (λ e.
-        one-way (is_kind row (codes "folded")) _ _ _ e (λ is e. noted row told (grind (arith, nat_tests, e))) (λ e.
-        one-way (is_kind row (codes "shown")) _ _ _ e (λ is e. noted row told (grind (arith, nat_tests, e))) (λ e.
-        one-way (is_kind row (codes "tallied")) _ _ _ e (λ is e. noted row told (grind (arith, nat_tests, e))) (λ e.
-        one-way (is_kind row (codes "clock")) _ _ _ e (clock-told version row told) (λ e. absurd (no-flaw flaw.Kind told e))))))
+        one-way (is_kind row (codes "refused")) _ _ _ e (λ is e. noted row parsed (grind (arith, nat_tests, e))) (λ e.
+        one-way (is_kind row (codes "folded")) _ _ _ e (λ is e. noted row parsed (grind (arith, nat_tests, e))) (λ e.
+        one-way (is_kind row (codes "shown")) _ _ _ e (λ is e. noted row parsed (grind (arith, nat_tests, e))) (λ e.
+        one-way (is_kind row (codes "tallied")) _ _ _ e (λ is e. noted row parsed (grind (arith, nat_tests, e))) (λ e.
+        one-way (is_kind row (codes "clock")) _ _ _ e (clock-parsed version row parsed) (λ e. absurd (no-flaw flaw.Kind parsed e))))))
 
 pub lines-fit : (version : Version) (most number : ℕ) (rows : List Row) → All LineFits (lines_from version most number rows)
-lines-fit version most number rows = read-all LineFits version most number rows (λ row told e. (reads-line version row told e).0)
+lines-fit version most number rows = read-all LineFits version most number rows (λ row parsed e. (reads-line version row parsed e).0)
 
 -- ---- an event's record is read as it was written
 
@@ -421,7 +417,7 @@ event-back version event fits = line-back version (asked.Command event.caller ev
 
 -- the line of a wall-clock record, from version three on
 clock-line : (version : Version) (clock : Clock)
-    → line_of version (clock_row clock) ≡ and_then (clock_in version (clock_row clock)) (λ told. Ok (line.Clock told))
+    → line_of version (clock_row clock) ≡ and_then (clock_in version (clock_row clock)) (λ clock. Ok (line.Clock clock))
 unfolding line_of command_kind field_at clock_row
 clock-line version clock = refl
 
@@ -437,7 +433,7 @@ unfolding line_of command_kind field_at clock_row clock_in clock_at
 clock-back clock fits = grind (arith, nat_tests, number-back)
 
 -- the records of a line that was read are read as that line, and those of a note as no line
-pub line-again : (told : Line) → LineFits told → AreLinesOf Three (line_rows told) (without_notes (told ∷ []))
+pub line-again : (parsed : Line) → LineFits parsed → AreLinesOf Three (line_rows parsed) (without_notes (parsed ∷ []))
 unfolding AreLinesOf
 line-again (line.Valid event) fits = (event-back Three event fits, tt)
 line-again (line.Invalid change) fits = (line-back Three (asked.BadParams change) Done fits refl tt, tt)

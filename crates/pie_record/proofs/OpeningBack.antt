@@ -99,12 +99,12 @@ usual-elements e same = grind (arith, nat_tests, same)
 -- ---- version three: each of its keywords is read back
 
 -- the draft of a record with these keywords
-pub chosen-read : (row : Row) (c : Choices) (told : Bool) (place : ℕ) → field_at row 1 ≡ Some (profile_number c.profile)
+pub chosen-read : (row : Row) (c : Choices) (has_decay : Bool) (place : ℕ) → field_at row 1 ≡ Some (profile_number c.profile)
     → field_at row 2 ≡ Some (delay_word c.elements.delay) → field_at row 3 ≡ Some (picking_word c.elements.picking)
     → field_at row 4 ≡ Some (step_word c.elements.step) → field_at row 5 ≡ Some (size_word c.elements.size)
-    → decay_at row 6 told ≡ Ok c.elements.decay → field_at row place ≡ Some (mode_word c.mode) → chosen_at row told place ≡ draft_at row (place + 1) c
+    → decay_at row 6 has_decay ≡ Ok c.elements.decay → field_at row place ≡ Some (mode_word c.mode) → chosen_at row has_decay place ≡ draft_at row (place + 1) c
 unfolding chosen_at elements_at profile_of one_of_two
-chosen-read row c told place profile delay picking step size decay mode = grind (arith, nat_tests)
+chosen-read row c has_decay place profile delay picking step size decay mode = grind (arith, nat_tests)
 
 -- the choices with another decay; one of the two decays makes the record a field longer
 abbrev decaying : Choices → Decay → Choices
@@ -125,8 +125,6 @@ three-read word c moment limits params short = by c.elements.decay short
     by Zero false = chosen-read (row Zero false) (decaying c Zero) false 6 refl refl refl refl refl refl refl
     by Half true = chosen-read (row Half true) (decaying c Half) true 7 refl refl refl refl refl refl refl
     by Half false = chosen-read (row Half false) (decaying c Half) true 7 refl refl refl refl refl refl refl
-
--- ---- an opening
 
 pub opening-back : (o : Opening) → opening_refusal o.limits o.moment ≡ None → ParamsFit o.params → opening_of (opening_row o) ≡ Ok o
 unfolding opening_row opening_of first_kind field_at
@@ -160,8 +158,6 @@ opening-back o accepted set = by (is_earlier o) (are_default o.params) refl refl
         ∙ draft-back o.choices o.moment o.limits o.params short same small fits set)
         ∙ accepted-draft kinds.Open3 o.moment o.limits o.params o.choices accepted set.in_range refl
 
--- ---- a checked opening: its parts and its checks
-
 pub checked : (kind : FirstKind) (draft : Draft) (opening : Opening) → checked_opening kind (first_bad draft.params) draft ≡ Ok opening
     → Checked draft opening
 checked kind draft opening e =
@@ -178,10 +174,10 @@ pub remaining-read : (version : Version) (most number : ℕ) (rows : List Row) (
     → AreLinesOf version rows lines
     → remaining_from version most number rows ≡ record { lines = lines; fault = None }
 unfolding AreLinesOf lines_from fault_from
-remaining-read version most number [] [] within tells = refl
-remaining-read version most number (row ∷ rows) (line ∷ lines) within tells =
-    grind (arith, nat_tests, line_in-line, remaining-read version most (number + 1) rows lines (omega arith) tells.1)
-remaining-read version most number _ _ within tells = absurd tells
+remaining-read version most number [] [] within read = refl
+remaining-read version most number (row ∷ rows) (line ∷ lines) within read =
+    grind (arith, nat_tests, line_in-line, remaining-read version most (number + 1) rows lines (omega arith) read.1)
+remaining-read version most number _ _ within read = absurd read
 
 -- a row that reads as a line has a field
 pub field-reads : (version : Version) (row : Row) (line : Line) → line_of version row ≡ Ok line → HasField row
@@ -191,11 +187,9 @@ field-reads version (field ∷ rest) line e = omega arith
 
 pub fields-read : (version : Version) (rows : List Row) (lines : List Line) → AreLinesOf version rows lines → All HasField rows
 unfolding AreLinesOf
-fields-read version [] lines tells = All-nil HasField
-fields-read version (row ∷ rows) [] tells = absurd tells
-fields-read version (row ∷ rows) (line ∷ lines) tells = grind (arith, nat_tests, field-reads, fields-read version rows lines tells.1)
-
--- ---- a whole text
+fields-read version [] lines read = All-nil HasField
+fields-read version (row ∷ rows) [] read = absurd read
+fields-read version (row ∷ rows) (line ∷ lines) read = grind (arith, nat_tests, field-reads, fields-read version rows lines read.1)
 
 -- a text of a first record that opens the book and of rows of these lines
 pub history-read : (kind : FirstKind) (rest : Row) (rows : List Row) (opening : Opening) (lines : List Line)
@@ -203,7 +197,7 @@ pub history-read : (kind : FirstKind) (rest : Row) (rows : List Row) (opening : 
     → All HasField rows → AreLinesOf (version_of (kind_word kind ∷ rest)) rows lines → length rows < 2 ^ 32
     → IsHistoryText (rows_text ((kind_word kind ∷ rest) ∷ rows)) opening lines
 unfolding history_opening history_version after_opening
-history-read kind rest rows opening lines opens some tells few = grind (arith, nat_tests, records_of-written, remaining-read)
+history-read kind rest rows opening lines opens some read few = grind (arith, nat_tests, records_of-written, remaining-read)
 
 -- ---- the text of a history
 
@@ -224,6 +218,6 @@ written-back opening events accepted set fit few =
     let first = opening_row-begins opening in
     let opens : opening_of (kind_word first.kind ∷ first.rest) ≡ Ok opening = ap opening_of (sym first.is) ∙ opening-back opening accepted set in
     let many = length-map events event_row in
-    let tells = events-read (version_of (kind_word first.kind ∷ first.rest)) events fit in
+    let read = events-read (version_of (kind_word first.kind ∷ first.rest)) events fit in
     subst (λ (row : Row). IsHistoryText (rows_text (row ∷ map event_row events)) opening (map Valid events)) (sym first.is)
-    (history-read first.kind first.rest (map event_row events) opening (map Valid events) opens (fields-read _ _ _ tells) tells (omega arith))
+    (history-read first.kind first.rest (map event_row events) opening (map Valid events) opens (fields-read _ _ _ read) read (omega arith))

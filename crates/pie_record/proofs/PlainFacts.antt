@@ -124,13 +124,13 @@ line-between line ends i is before =
     let cut : ends ≡ ends_from 0 line = is.cut ∙ ap (λ (n : ℕ). commas 0 line ++ n ∷ []) (sym same) in
     rw cut (between 0 line i (rw cut at before))
 
-pub line-long : (line ends : List ℕ) → IsLine line ends → length (split_line line) ≡ length ends
-line-long line ends is =
+pub line_long : (line ends : List ℕ) → IsLine line ends → length (split_line line) ≡ length ends
+line_long line ends is =
     let same : 0 + length line ≡ length line = omega arith in
     fields-ends 0 line ∙ ap length (sym (is.cut ∙ ap (λ (n : ℕ). commas 0 line ++ n ∷ []) (sym same)))
 
-pub line-past : (line ends : List ℕ) (i : ℕ) → IsLine line ends → length ends ≤ i → None ≡ field_at (split_line line) i
-line-past line ends i is past = sym (field-none (split_line line) i (omega (arith, line-long line ends is)))
+pub line_past : (line ends : List ℕ) (i : ℕ) → IsLine line ends → length ends ≤ i → None ≡ field_at (split_line line) i
+line_past line ends i is past = sym (field-none (split_line line) i (omega (arith, line_long line ends is)))
 
 pub line-field : (line ends : List ℕ) (i : ℕ) → IsLine line ends → i < length ends
     → field_at (split_line line) i ≡ Some (slice_range line (start_of 0 ends i) (get_or ends i 0))
@@ -140,5 +140,5 @@ line-field line ends i is before =
     rw (start, end) at (line-between line ends i is before).is
 
 -- a record with a plain line
-pub some-fields : (count : ℕ) → 0 < count → nat_lt 0 count ≡ true
-some-fields count some = grind (arith, nat_tests, some)
+pub some_fields : (count : ℕ) → 0 < count → nat_lt 0 count ≡ true
+some_fields count some = grind (arith, nat_tests, some)

@@ -70,8 +70,6 @@ pub marks-next : (bytes : List ℕ) (at end next mask rest bit : ℕ) → AreMar
     → AreMarked bytes at end (bit + 1) rest
 marks-next bytes at end next mask rest bit marks set is = grind (arith, nat_tests, cases_lt)
 
--- ---- a mask without its lowest bit
-
 -- the bits of the number before one whose lowest bit is at a place
 before-lowest : (place mask : ℕ) → bit_at mask place ≡ 1 → ((k : ℕ) → k < place → bit_at mask k ≡ 0)
     → (bit_at (mask - 1) place ≡ 0) × ((k : ℕ) → place < k → bit_at (mask - 1) k ≡ bit_at mask k)
@@ -95,8 +93,8 @@ before-lowest (suc place) mask set below =
     above half more (suc k) less =
         bit_at-suc (mask - 1) k ∙ ap (λ (n : ℕ). bit_at n k) half ∙ more k (omega arith) ∙ sym (bit_at-suc mask k)
 
-pub is-without : (mask place : ℕ) → IsLowest mask place → IsWithout mask (bit_and mask (mask - 1)) place
-is-without mask place is =
+pub is_without : (mask place : ℕ) → IsLowest mask place → IsWithout mask (bit_and mask (mask - 1)) place
+is_without mask place is =
     let it = before-lowest place mask is.set is.below in
     record {
       above = λ k less. let one = it.1 k less in omega (arith, bit_at_and mask (mask - 1) k, one);

@@ -21,7 +21,7 @@ pub fn requests_are_written_again()
 ///
 /// It does nothing: its contract is the law (this project's own).
 pub fn lines_are_written_again()
-    ensures { (row : Row) (told : Line) → IsRecordOf row told → line_rows told ≡ rows_unless_note told row }
+    ensures { (row : Row) (line : Line) → IsRecordOf row line → line_rows line ≡ rows_unless_note line row }
 {}
 
 /// A text of written records is read back as those records. If each record has a line, the text is read back as those lines, with no fault behind

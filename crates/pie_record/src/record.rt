@@ -91,6 +91,7 @@ fn field_between<'a>(line: &'a [u8], ends: &[usize], place: usize) -> &'a [u8]
 /// Leaves the bytes to csv, as the beginning of a text with the same records.
 #[cold]
 #[inline(never)]
+#[tactic(auto, using(crate::proofs::FoundFacts::later_left))]
 fn leave_to_csv<R: Read>(
     alloc: Global,
     input: &mut Input<R>,
@@ -110,6 +111,7 @@ fn leave_to_csv<R: Read>(
 /// Reads more bytes of a line, or finds that there are none.
 #[cold]
 #[inline(never)]
+#[tactic(auto, using(crate::proofs::FoundFacts::nothing_found))]
 fn read_on<R: Read>(
     alloc: Global,
     input: &mut Input<R>,
@@ -158,6 +160,7 @@ impl Record {
     }
 
     /// Returns the number of fields.
+    #[tactic(auto, using(crate::proofs::PlainFacts::line_long, crate::proofs::PlainFacts::some_fields))]
     pub fn len(&self) -> usize
         ensures { result ≡ length self.now }
     {
@@ -170,6 +173,7 @@ impl Record {
 
     /// Returns the field at `place`, counted from 0, or `None` if there are fewer fields.
     #[inline(always)]
+    #[tactic(auto, using(crate::proofs::PlainFacts::line_past, crate::proofs::PlainFacts::some_fields))]
     pub fn get(&self, place: usize) -> Option<&[u8]>
         ensures { option_map (λ field. field.now) result ≡ field_at self.now place }
     {
@@ -219,6 +223,7 @@ impl Record {
 
     /// Returns the line of a plain record, without its line feed: the text of the record as csv writes it. `None` if the record has quotes or line
     /// ends of its own.
+    #[tactic(auto, using(crate::proofs::LineReads::line_text, crate::proofs::PlainFacts::some_fields))]
     pub fn line(&self) -> Option<&[u8]>
         ensures { IfSome result (λ line. text_of self.now ≡ line.now ++ 10 ∷ []) }
     {

@@ -12,13 +12,9 @@ unfoldable worked : Type 0
 unfolding greatest last_or range_of range_end
 worked = ⊤
 
--- ---- two times
-
 -- two times agree unless one is less than half the other, rounded down
 agreeing : map (disagree 8) (2 ∷ 3 ∷ 4 ∷ 8 ∷ 16 ∷ 17 ∷ 18 ∷ []) ≡ true ∷ true ∷ false ∷ false ∷ false ∷ false ∷ true ∷ []
 agreeing = refl
-
--- ---- intervals
 
 -- intervals of 100 ns, of length 0, and no interval
 periods : (map (period_of (Some 100)) (0 ∷ 99 ∷ 100 ∷ 199 ∷ 250 ∷ []) ≡ 0 ∷ 0 ∷ 1 ∷ 1 ∷ 2 ∷ [])

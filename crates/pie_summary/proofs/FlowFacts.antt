@@ -4,19 +4,22 @@ use Rattle.pie_summary.proofs.Names.{append-nil, length, ◌<◌, ◌+◌, Optio
 use Rattle.pie_summary.proofs.Names.{eq-eqb, map_push, filter_map-append, Explained, Flow, FlowSums, added_up, flow_sums, is_of, HasFlows}
 use Rattle.pie_summary.proofs.Names.{distinct, first_of, in_order, placed, sums_beside, digits, greatest, greatest-push, kept}
 use Rattle.pie_summary.proofs.Names.{max, min, meter_input_of, replicate, sum, sum_by_push, ◌-◌, ◌^◌}
-use Rattle.std.proofs.Common.{◌||◌, arith, nat_eq, take, true≢false}
+use Rattle.std.proofs.Common.{arith, nat_eq, take, true≢false}
 use Rattle.std.specs.Fmt.{char_count, format_spec, padded_integral}
 use Rattle.std.specs.Prelude.{slice_index_or}
-use Rattle.std.specs.List.{AllByRecursion, IsDistinct, list_any}
-use Rattle.std.specs.Map.{keys_of, lookup, update}
-use Rattle.std.specs.Prelude.{is_some}
+use Rattle.std.specs.List.{IsDistinct}
+use Rattle.std.specs.Map.{keys_of, lookup}
 use Rattle.std.proofs.lemmas.Map.Made.{is_some-lookup}
+use Rattle.std.proofs.lemmas.Map.Entries.{lookup_from_place}
+use Rattle.std.proofs.lemmas.Option.{slice_get-get_or}
+use Rattle.std.proofs.lemmas.List.Elements.{All-head, All-tail}
+use Rattle.std.proofs.lemmas.Cmp.{nat_eq_equiv}
+use Rattle.std.proofs.Common.{get_or}
+use Rattle.std.specs.List.{All}
 use Rattle.indexmap.specs.IndexSet.{insert_key}
-use Rattle.indexmap.proofs.SetLemmas.{keys_insert_entry}
 use Rattle.std.proofs.lemmas.List.{take-take, take_more}
 use Rattle.std.proofs.lemmas.List.Elements.{filter-append}
 use Rattle.std.proofs.lemmas.List.Sums.{fold_push}
-use Rattle.indexmap.specs.IndexMap.{insert_entry}
 use Rattle.pie_summary.specs.FlowSums.{flow_in, is_this, numbers_of}
 use Rattle.pie_summary.specs.Flows.{flow_of, flows_of, is_among, precedes, row_of}
 use Rattle.pie_summary.proofs.CountFacts.{kept-more}
@@ -103,26 +106,28 @@ none_shown rows none = record {
   apart = subst (λ (rs : List (ℕ × Flow)). IsDistinct nat_eq (keys_of rs)) (sym none) tt;
 }
 
--- the sums found for a flow
-abbrev pub sums_found : Option Flow → FlowSums
-sums_found (Some row) = row.sums
-sums_found None = added_up []
+-- a flow's row has the sums of its events
+pub row-known : (flow : ℕ) (all : List Explained) (row : Flow) → row_of flow all ≡ Some row → row ≡ (record { number = flow; sums = flow_sums all })
+row-known flow [] row is = cc
+row-known flow (first ∷ all) row is = cc
 
-pub found_is : (flow : ℕ) (shown : List Explained) (rows : List (ℕ × Flow)) → HasFlows rows shown
-    → sums_found (lookup (nat_eq flow) rows) ≡ flow_sums (filter (is_of flow) shown)
-found_is flow shown rows has = ap sums_found (has.found flow) ∙ known (filter (is_of flow) shown)
-  where
-    known : (all : List Explained) → sums_found (row_of flow all) ≡ flow_sums all
-    known [] = refl
-    known (first ∷ all) = refl
+-- a flow without a row has no event
+pub no-row : (flow : ℕ) (all : List Explained) → row_of flow all ≡ None → all ≡ []
+no-row flow [] none = refl
+no-row flow (first ∷ all) none = cc
+
+-- a known flow has its key
+pub key-known : (rows : List (ℕ × Flow)) (flow : ℕ) (row : Flow) → Some row ≡ lookup (nat_eq flow) rows
+    → keys_of rows ≡ insert_key nat_eq (keys_of rows) flow
+key-known rows flow row is = rw (← is_some-lookup (nat_eq flow) rows, ← is) refl
 
 pub flow-taken : (flow : ℕ) (shown : List Explained) (one : Explained) (rows now : List (ℕ × Flow)) (row : Flow) → HasFlows rows shown
     → Some flow ≡ flow_in one → row ≡ (record { number = flow; sums = flow_sums (filter (is_of flow) shown ++ one ∷ []) })
-    → now ≡ insert_entry nat_eq rows flow row → ((q : ℕ) → lookup (nat_eq q) now ≡ update nat_eq (λ k. lookup (nat_eq k) rows) flow (Some row) q)
+    → keys_of now ≡ insert_key nat_eq (keys_of rows) flow → ((q : ℕ) → lookup (nat_eq q) now ≡ cond (nat_eq flow q) (Some row) (lookup (nat_eq q) rows))
     → IsDistinct nat_eq (keys_of now) → HasFlows now (shown ++ one ∷ [])
 unfolding distinct
-flow-taken flow shown one rows now row has is row-is now-is updates apart = record {
-  keys = ap keys_of now-is ∙ keys_insert_entry nat_eq rows flow row ∙ ap (λ ks. insert_key nat_eq ks flow) has.keys
+flow-taken flow shown one rows now row has is row-is keys-are updates apart = record {
+  keys = keys-are ∙ ap (λ ks. insert_key nat_eq ks flow) has.keys
       ∙ sym (ap distinct (filter_map-append flow_in shown (one ∷ []) ∙ ap (λ (f : Option ℕ). filter_map flow_in shown ++ cons_option f []) (sym is))
       ∙ fold_push (insert_key nat_eq) [] (filter_map flow_in shown) flow);
   found = λ q. updates q ∙ by q (nat_eq flow q) refl;
@@ -156,35 +161,19 @@ nothing_taken shown one rows has is = record {
 
 -- all rows, in order
 pub rows_listed : (shown : List Explained) (rows : List (ℕ × Flow)) → HasFlows rows shown → values_of rows ≡ flows_of shown
-unfolding IsDistinct
-rows_listed shown rows has =
-    listed rows has.apart (λ q row there. known q row (filter (is_of q) shown) (sym (has.found q) ∙ there)) ∙ ap (map (flow_of shown)) has.keys
+rows_listed shown rows has = listed rows own ∙ ap (map (flow_of shown)) has.keys
   where
-    known : (q : ℕ) (row : Flow) (all : List Explained) → row_of q all ≡ Some row → row ≡ (record { number = q; sums = flow_sums all })
-    known q row [] is = cc
-    known q row (first ∷ all) is = cc
+    own : All (λ (e : ℕ × Flow). e.1 ≡ flow_of shown e.0) rows
+    own = λ k d within.
+        let e : ℕ × Flow = get_or rows k d in
+        let there = lookup_from_place nat_eq_equiv rows k e.0 e.1 has.apart (slice_get-get_or rows k d within) in
+        row-known e.0 (filter (is_of e.0) shown) e.1 (sym (has.found e.0) ∙ there)
 
-    none : (p : ℕ → Bool) (xs : List ℕ) → AllByRecursion (λ x. p x ≡ false) xs → list_any p xs ≡ false
-    none p [] all = refl
-    none p (x ∷ xs) all = ap (λ b. b || list_any p xs) all.0 ∙ none p xs all.1
-
-    listed : (rows : List (ℕ × Flow)) → IsDistinct nat_eq (keys_of rows)
-        → ((q : ℕ) (row : Flow) → lookup (nat_eq q) rows ≡ Some row → row ≡ flow_of shown q) → values_of rows ≡ map (flow_of shown) (keys_of rows)
-    listed [] apart found = refl
-    listed (e ∷ rows) apart found = λ i. own i ∷ listed rows apart.1 later i
-      where
-        own : e.1 ≡ flow_of shown e.0
-        own = found e.0 e.1 (ap (λ b. cond b (Some e.1) (lookup (nat_eq e.0) rows)) (eq-eqb e.0 e.0 refl))
-
-        differs : (q : ℕ) (row : Flow) → lookup (nat_eq q) rows ≡ Some row → (b : Bool) → nat_eq q e.0 ≡ b → b ≡ false
-        differs q row there false e = refl
-        differs q row there true same =
-            absurd (true≢false (sym (sym (is_some-lookup (nat_eq q) rows) ∙ ap is_some there)
-            ∙ ap (λ k. list_any (nat_eq k) (keys_of rows)) (eqb-true q e.0 same) ∙ none (nat_eq e.0) (keys_of rows) apart.0))
-
-        later : (q : ℕ) (row : Flow) → lookup (nat_eq q) rows ≡ Some row → row ≡ flow_of shown q
-        later q row there =
-            found q row (ap (λ b. cond b (Some e.1) (lookup (nat_eq q) rows)) (differs q row there (nat_eq q e.0) refl) ∙ there)
+    listed : (rows : List (ℕ × Flow)) → All (λ (e : ℕ × Flow). e.1 ≡ flow_of shown e.0) rows → values_of rows ≡ map (flow_of shown) (keys_of rows)
+    listed [] all = refl
+    listed (e ∷ rows) all = λ i.
+        All-head (λ (e : ℕ × Flow). e.1 ≡ flow_of shown e.0) e rows all i
+        ∷ listed rows (All-tail (λ (e : ℕ × Flow). e.1 ≡ flow_of shown e.0) e rows all) i
 
 -- ---- the first of them
 
@@ -232,8 +221,7 @@ beside_same some flows one e =
     (sym (filter-append (λ f. not (is_among some f)) flows (one ∷ [])
     ∙ ap (λ (b : Bool). beside some flows ++ cond (not b) (one ∷ []) []) e ∙ append-nil (beside some flows)))
 
--- ---- a loop's step
-
+-- a loop's step
 pub next-flow : (flows : List Flow) (at : ℕ) (x : Flow) → at < length flows → x ≡ slice_index_or flows at x
     → take at flows ++ x ∷ [] ≡ take (at + 1) flows
 next-flow flows at x within is = ap (λ (y : Flow). take at flows ++ y ∷ []) is ∙ sym (take_more flows at x within)

@@ -35,8 +35,6 @@ within-period number every start end moment some start-is end-is from to =
     let few : moment - start < every = omega (arith, end-is, from, to) in
     ap (λ (m : ℕ). m / every) whole ∙ div-mul-add number every (moment - start) few
 
--- ---- the bounds of the interval under way
-
 -- the bounds of an interval that has begun
 pub spans-begun : (begun number every start end : ℕ) → (begun ≡ 0 → ⊥) → start ≡ number * max every 1
     → end ≡ min (start + max every 1) 18446744073709551615 → Spans begun number every start end
@@ -147,8 +145,6 @@ holds-taken period shown one meter waits awaits meter-is waits-is = record {
   waits = waits-is ∙ ap waits_of (sym (last_events-push (length_of period) shown one));
   spans = awaits.spans;
 }
-
--- ---- the record of the interval
 
 -- the record at the end, of no event and of some
 pub at_last-none : (every : ℕ) (summary_text : List Explained → List ℕ) (all : List Explained) → last_period (Some every) all ≡ None

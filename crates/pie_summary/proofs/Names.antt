@@ -43,5 +43,5 @@ pub use Rattle.pie_summary.specs.declared.live_period.LivePeriod.{LivePeriod}
 pub use Rattle.pie_summary.specs.declared.meter.Meter.{Meter}
 pub use Rattle.pie_summary.specs.declared.meter_input.MeterInput.{MeterInput}
 pub use Rattle.pie_summary.specs.declared.aggregates.Bounds.{Bounds}
-pub use Rattle.pie_summary.specs.declared.sums.Sums.{Sums}
+pub use Rattle.pie_summary.specs.declared.period.Sums.{Sums}
 unfoldable pub use Rattle.pie_units.specs.Utc.{utc_text}

@@ -6,7 +6,7 @@ use Rattle.pie_explain.specs.declared.explanation.Explained.{Explained}
 use Rattle.pie_explain.specs.declared.form.Form.{Form}
 use Rattle.pie_explain.specs.Output.{header_of}
 use Rattle.pie_summary.specs.declared.by_flow.ByFlow.{ByFlow}
-use Rattle.pie_summary.specs.declared.flow_period.FlowPeriod.{FlowPeriod}
+use Rattle.pie_summary.specs.declared.by_flow.FlowPeriod.{FlowPeriod}
 use Rattle.pie_summary.specs.Flows.{HasFlows, flows_of}
 use Rattle.pie_summary.specs.FlowWords.{flow_names, flows_text}
 use Rattle.pie_summary.specs.Period.{Keeps, at_end, at_last}

@@ -11,8 +11,6 @@ use Rattle.pie_summary.specs.Period.{last_events, last_period, period_at, since,
 use Rattle.pie_summary.specs.Sums.{meter_in, reached, waits_of}
 pub use Rattle.pie_summary.specs.Sums.{HasConditions, meter_input_of}
 
--- ---- intervals
-
 abbrev pub is_first : Option ℕ → Place Explained → Bool
 is_first every place = starts (last_period every place.before) (period_at every place.event)
 

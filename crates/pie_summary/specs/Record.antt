@@ -4,10 +4,12 @@ use Rattle.std.specs.Fmt.{decimal}
 use Rattle.std.specs.List.{sum}
 use Rattle.pie_event.specs.CauseName.{cause_names, word_of_cause}
 use Rattle.pie_explain.specs.Words.{joined}
+use Rattle.pie_text.specs.Plain.{onto}
 use Rattle.pie_units.specs.Utc.{utc_text}
 use Rattle.pie_summary.specs.declared.meter.Meter.{Meter}
 use Rattle.pie_summary.specs.Counts.{kept}
 use Rattle.pie_summary.specs.Aggregates.{mean_in, sum_in}
+use Rattle.pie_summary.specs.Sums.{updated_place}
 use Rattle.pie_summary.specs.Words.{left_in}
 
 -- the names of the fields, with the keywords of the causes between them
@@ -24,8 +26,7 @@ field_names =
 
 -- numbers, each with a comma after it
 abbrev pub number_fields : List ℕ → List ℕ
-number_fields [] = []
-number_fields (number ∷ numbers) = decimal number ++ (codes "," ++ number_fields numbers)
+number_fields numbers = onto (map decimal numbers) []
 
 -- the number of events, summed over their answers, the first and the last moment, and the arrivals
 unfoldable pub first_fields : Meter → List ℕ
@@ -38,7 +39,7 @@ first_fields meter =
 abbrev pub later_numbers : Meter → ℕ → List ℕ
 later_numbers meter most =
     left_in meter ∷ meter.greatest_wait ∷ mean_in (left_in meter) meter.waits
-    ∷ slice_index meter.answers 7 ∷ meter.delays.greatest ∷ meter.delays.last ∷ meter.probs.greatest ∷ meter.probs.last
+    ∷ slice_index meter.answers updated_place ∷ meter.delays.greatest ∷ meter.delays.last ∷ meter.probs.greatest ∷ meter.probs.last
     ∷ meter.turned_on.count ∷ meter.turned_on.first ∷ meter.turned_on.last
     ∷ meter.turned_off.count ∷ meter.turned_off.first ∷ meter.turned_off.last
     ∷ most ∷ meter.carried ∷ meter.target ∷ meter.burst ∷ meter.above ∷ meter.longer ∷ []

@@ -11,7 +11,7 @@ use Rattle.pie_explain.specs.Words.{words_by}
 use Rattle.pie_summary.specs.declared.period.Period.{Period}
 use Rattle.pie_summary.specs.declared.summary.Summary.{Summary}
 use Rattle.pie_summary.specs.declared.alone.SumsAlone.{SumsAlone}
-use Rattle.pie_summary.specs.declared.sums.Sums.{Sums}
+use Rattle.pie_summary.specs.declared.period.Sums.{Sums}
 use Rattle.pie_summary.specs.Period.{Keeps, at_end, at_last}
 use Rattle.pie_summary.specs.Record.{field_names, record_of}
 use Rattle.pie_summary.specs.Sums.{sums_of, waits_of}
@@ -39,8 +39,6 @@ is_lost_or_marked one = chooses Lost one.explanation.number one.explanation.even
 -- the words for an event by itself, if packets are explained and the event lost or marked one
 unfoldable pub event_words : Summary → Explained → List ℕ
 event_words summary one = if summary.packets && is_lost_or_marked one then words_by (clock_for summary.form one.explanation.clock) one else []
-
--- ---- the whole
 
 -- the output at an event: the summary of the interval before, if the event begins another, and then the words for the event by itself
 abbrev pub written_at : Summary → Place Explained → List ℕ

@@ -15,7 +15,7 @@ use Rattle.pie_explain.specs.declared.explanation.Explained.{Explained}
 use Rattle.pie_summary.specs.declared.meter.Meter.{Meter}
 use Rattle.pie_summary.specs.declared.meter_input.Conditions.{Conditions}
 use Rattle.pie_summary.specs.declared.meter_input.MeterInput.{MeterInput}
-use Rattle.pie_summary.specs.declared.sums.Sums.{Sums}
+use Rattle.pie_summary.specs.declared.period.Sums.{Sums}
 use Rattle.pie_summary.specs.Counts.{counts_of, kept}
 use Rattle.pie_summary.specs.Ranges.{ranges_of}
 use Rattle.pie_summary.specs.Aggregates.{bounds_of, peak_of, time_at, total_of}

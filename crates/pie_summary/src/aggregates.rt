@@ -1,8 +1,7 @@
 //! Aggregates of a list of numbers, as plain numbers of 64 bits.
-ghost use Rattle.std.specs.Prelude.{◌≡◌, ◌+◌, ◌-◌, ◌*◌, ◌^◌, ◌++◌, ◌∷◌, [], ℕ, List, max};
+ghost use Rattle.std.specs.Prelude.{◌≡◌, ◌+◌, ◌-◌, ◌*◌, ◌++◌, ◌∷◌, [], ℕ, List, max};
 ghost use Rattle.std.specs.List.{cons_option};
 ghost use Rattle.pie_explain.specs.declared.explanation.Explained.{Explained};
-ghost use Rattle.pie_summary.specs.Counts.{kept};
 ghost use Rattle.pie_summary.specs.Aggregates.{carried_over, held_or, mean_in, moment_at, span_of, sum_in, time_at};
 
 /// One more than the greatest number of 64 bits.
@@ -169,27 +168,6 @@ impl Total {
             self.take(number);
         }
     }
-}
-
-/// Adds `more` to a sum, which is at most 2^64 - 1. A sum that would be greater is rare.
-#[inline(always)]
-pub(crate) fn increase(sum: &mut u64, more: u64)
-    ensures { sum.new ≡ kept (sum.old + more) }
-{
-    let (increased, is_over) = sum.overflowing_add(more);
-    *sum = increased;
-    if is_over {
-        fill(sum);
-    }
-}
-
-/// Sets a sum to the greatest that it can be.
-#[cold]
-#[inline(never)]
-fn fill(sum: &mut u64)
-    ensures { sum.new ≡ 2 ^ 64 - 1 }
-{
-    *sum = u64::MAX;
 }
 
 /// Raises `most` to `number`, if that is greater.

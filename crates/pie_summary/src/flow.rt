@@ -1,7 +1,7 @@
 //! The flows of the events that were shown, and those of them with the most bytes.
-ghost use Rattle.std.specs.Prelude.{◌≡◌, ◌≤◌, ◌++◌, ◌∷◌, [], List, IfOk, OnOk, Some, filter, insert, length};
+ghost use Rattle.std.specs.Prelude.{◌≡◌, ◌≤◌, ◌++◌, ◌∷◌, [], List, IfOk, OnOk, Some, insert, length};
 ghost use Rattle.pie_explain.specs.declared.explanation.Explained.{Explained};
-ghost use Rattle.pie_summary.specs.FlowSums.{flow_in, flow_sums, is_of};
+ghost use Rattle.pie_summary.specs.FlowSums.{flow_in};
 ghost use Rattle.pie_summary.specs.Flows.{HasFlows, first_of, flows_of, is_among, placed, precedes, sums_beside};
 
 use crate::flow_sums::{FlowSums, flow_by};
@@ -18,25 +18,17 @@ pub struct Flow {
     pub sums: FlowSums,
 }
 
-/// Returns the sums of this flow's events.
-#[tactic(auto, using(crate::proofs::FlowFacts::found_is))]
-fn sums_of(rows: &IndexMap<u32, Flow>, flow: u32) -> FlowSums
-    ensures { (shown : List Explained) → HasFlows rows.now.entries shown → result ≡ flow_sums (filter (is_of flow) shown) }
-{
-    match rows.get(&flow) {
-        Some(row) => row.sums,
-        None => FlowSums::empty(),
-    }
-}
-
 /// Takes one more event, which is of this flow.
 fn count(rows: &mut IndexMap<u32, Flow>, flow: u32, explained: &Explained) -> Result<(), AllocError>
     ensures { (shown : List Explained) → HasFlows rows.old.entries shown → Some flow ≡ flow_in explained.now
         → OnOk result (HasFlows rows.new.entries (shown ++ explained.now ∷ [])) }
 {
-    let sums = sums_of(rows, flow).with(explained);
-    let row = Flow { number: flow, sums };
-    match rows.insert(flow, row) {
+    if let Some(row) = rows.get_mut(&flow) {
+        row.sums = row.sums.with(explained);
+        return Ok(());
+    }
+    let sums = FlowSums::empty().with(explained);
+    match rows.insert(flow, Flow { number: flow, sums }) {
         Ok(_) => Ok(()),
         Err(_) => Err(AllocError),
     }

@@ -1,6 +1,6 @@
 //! Sums by flow in words, and as CSV records.
 ghost use Rattle.std.specs.Prelude.{◌≡◌, ◌++◌, OnOk, string_bytes};
-ghost use Rattle.pie_summary.specs.Record.{last_fields, number_fields};
+ghost use Rattle.pie_summary.specs.Record.{last_fields};
 ghost use Rattle.pie_summary.specs.FlowWords.{amount_words, each_text, flow_record, one_flow_text, flow_words, flows_text, head_text, mean_wait};
 ghost use Rattle.pie_summary.specs.FlowWords.{name_field, others_text, parts_text, total_words, wait_words};
 
@@ -140,19 +140,6 @@ fn push_total(
     )
 }
 
-/// Writes numbers, each with a comma after it.
-fn push_numbers(page: &mut String, numbers: &[u64]) -> Written
-    ensures { OnOk result (string_bytes page.new ≡ string_bytes page.old ++ number_fields numbers.now) }
-{
-    match numbers {
-        [] => Ok(()),
-        [first, rest @ ..] => {
-            write!(page, "{first},")?;
-            push_numbers(page, rest)
-        }
-    }
-}
-
 /// Writes the number `late`, and if `by_wall` the first wall-clock time.
 #[tactic(auto, unfolding(crate::specs::Record::last_fields))]
 fn push_last(page: &mut String, by_wall: bool, late: u64, times: &Bounds) -> Written
@@ -169,7 +156,7 @@ fn push_last(page: &mut String, by_wall: bool, late: u64, times: &Bounds) -> Wri
 }
 
 /// Writes a flow as a record, with a wall-clock time or not.
-#[tactic(auto, unfolding(crate::specs::FlowWords::flow_record))]
+#[tactic(auto, using(std::proofs::Common::append_assoc), unfolding(crate::specs::FlowWords::flow_record))]
 fn push_record(
     page: &mut String,
     by_wall: bool,
@@ -179,24 +166,19 @@ fn push_record(
 ) -> Written
     ensures { OnOk result (string_bytes page.new ≡ string_bytes page.old ++ flow_record by_wall span.now name sums.now) }
 {
-    let moments = [span.moments.first, span.moments.last];
-    let numbers = [
-        sums.arrivals,
-        sums.bytes,
-        sums.queued,
-        sums.marked,
-        sums.early,
-        sums.no_bytes,
-        sums.no_packets,
-        sums.left,
-        sums.carried,
-        sums.greatest_wait,
-        mean_wait(sums),
-    ];
-    push_numbers(page, &moments)?;
+    let (first, last) = (span.moments.first, span.moments.last);
+    let (arrivals, bytes) = (sums.arrivals, sums.bytes);
+    let (queued, marked, early) = (sums.queued, sums.marked, sums.early);
+    let (no_bytes, no_packets) = (sums.no_bytes, sums.no_packets);
+    let (left, carried) = (sums.left, sums.carried);
+    let (greatest, mean) = (sums.greatest_wait, mean_wait(sums));
+    write!(page, "{first},{last},")?;
     push_field(page, name)?;
-    write!(page, ",")?;
-    push_numbers(page, &numbers)?;
+    write!(page, ",{arrivals},{bytes},{queued},{marked},{early},")?;
+    write!(
+        page,
+        "{no_bytes},{no_packets},{left},{carried},{greatest},{mean},"
+    )?;
     push_last(page, by_wall, sums.held, &span.times)
 }
 

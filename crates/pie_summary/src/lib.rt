@@ -11,7 +11,6 @@ pub mod aggregates;
 pub mod alone;
 pub mod by_flow;
 pub mod flow;
-pub mod flow_period;
 pub mod flow_sums;
 pub mod flow_words;
 pub mod live_period;
@@ -21,7 +20,6 @@ pub mod period;
 pub mod ranges;
 mod record;
 pub mod summary;
-pub mod sums;
 mod words;
 
 pub use alone::SumsAlone;

@@ -8,9 +8,10 @@ ghost use Rattle.pie_summary.specs.Aggregates.{counted_some};
 ghost use Rattle.pie_summary.specs.Sums.{awaiting, excess_within, meter_of, timed_by};
 ghost use Rattle.pie_summary.specs.Words.{wait_99};
 
-use crate::aggregates::{Bounds, Peak, Total, increase, raise};
+use crate::aggregates::{Bounds, Peak, Total, raise};
 use crate::meter_input::{LEFT, MeterInput};
 use crate::ranges::{RANGES, end_within, first_up_to};
+use pie_explain::increase;
 
 /// The numbers of a record, each over all events of an interval. `answers` also gives the number of events and of
 /// departures.
@@ -99,6 +100,7 @@ fn count_some(count: &mut u64, number: Option<u64>)
 fn add_excess(late: &mut u64, excess: Option<u64>, since: u64)
     ensures { late.new ≡ kept (late.old + excess_within excess since) }
 {
+    // Without an excess nothing else reads the sum. This read gives the prover its range. The compiler omits the read.
     let _held = *late;
     if let Some(excess) = excess {
         increase(late, excess.min(since));

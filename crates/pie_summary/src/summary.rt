@@ -7,9 +7,8 @@ ghost use Rattle.pie_summary.specs.Words.{words};
 ghost use Rattle.pie_summary.specs.Summary.{HoldsSums, is_lost_or_marked, event_words, summary_text};
 
 use crate::meter::Meter;
-use crate::period::{Period, begins, has_summary, period_of, starts};
+use crate::period::{Period, Sums, begins, has_summary, period_of, starts};
 use crate::record::{NAMES, push_record};
-use crate::sums::Sums;
 use crate::words::{Written, push_words};
 use pie_explain::{Explained, Form, Report, Which, push_header};
 use pie_text::{LongRow, Page};

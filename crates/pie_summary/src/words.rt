@@ -6,7 +6,7 @@ ghost use Rattle.pie_summary.specs.Words.{row_words, time_words, turned_words, t
 use crate::aggregates::Bounds;
 use crate::meter::Meter;
 use crate::meter_input::{EARLY, LEFT, MARKED, NO_BYTES, NO_PACKETS, QUEUED, UPDATED};
-use crate::sums::Sums;
+use crate::period::Sums;
 use pie_aqm::CauseName;
 use pie_explain::{Millis, PerCent, Share};
 use pie_units::Utc;

@@ -1,6 +1,6 @@
 use Rattle.std.proofs.Common.{arith, rules, take, ◌≡◌, ◌<◌, ◌+◌}
 use Rattle.pie_record.specs.{fields_of}
-use Rattle.pie_record.proofs.PlainFacts.{some-fields}
+use Rattle.pie_record.proofs.PlainFacts.{some_fields}
 use Rattle.pie_record.proofs.FoundFacts.{plain-found, empty-found}
 use Rattle.pie_record.proofs.record.Record.read_line.Goals as goal
 
@@ -17,5 +17,5 @@ returns g c =
     let l = c.take_line-len in
     let it = rw c.in-Feed.is at l.ensures.takes in
     let some : 0 < l.result.0 = search rules in
-    rw (some-fields (l.result.1 + 1) (omega arith))
+    rw (some_fields (l.result.1 + 1) (omega arith))
     (plain-found c.args.is_first c.args.input.now l.new.self (take l.result.0 l.new.line) (take l.result.1 l.new.ends) l.result.0 it some)

@@ -3,8 +3,8 @@ use Rattle.pie_summary.proofs.LiveFacts.{awaits-new, awaits-same, spans-begun}
 use Rattle.pie_summary.proofs.live_period.LivePeriod.turn.Goals as goal
 
 -- the number of an interval, with other names of moment and length
-same-number : (moment told every longest : ℕ) → told ≡ moment → longest ≡ max every 1 → moment / longest ≡ told / max every 1
-same-number moment told every longest at is = λ i. sym at i / is i
+same-number : (moment at_moment every longest : ℕ) → at_moment ≡ moment → longest ≡ max every 1 → moment / longest ≡ at_moment / max every 1
+same-number moment at_moment every longest at is = λ i. sym at i / is i
 
 pub returns-then-begins-clause-awaits : goal.returns-then-begins-clause-awaits
 returns-then-begins-clause-awaits c = λ shown one at holds.

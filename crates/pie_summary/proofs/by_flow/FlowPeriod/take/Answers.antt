@@ -2,7 +2,7 @@ use Rattle.pie_summary.proofs.Names.{ℕ, ap, refl, subst, HoldsFlows, since}
 use Rattle.std.proofs.Common.{Some}
 use Rattle.std.proofs.lemmas.Result.{on_ok_weaker}
 use Rattle.pie_summary.proofs.PeriodFacts.{keeps-push}
-use Rattle.pie_summary.proofs.flow_period.FlowPeriod.take.Goals as goal
+use Rattle.pie_summary.proofs.by_flow.FlowPeriod.take.Goals as goal
 
 pub returns : goal.returns
 returns c = λ shown keeps.

@@ -3,7 +3,7 @@ use Rattle.std.specs.Option.{option_and}
 use Rattle.pie_summary.specs.Sums.{off_time, on_time}
 use Rattle.pie_summary.proofs.SpanFacts.{some-of-push}
 use Rattle.pie_summary.proofs.SumsFacts.{count-more, taken}
-use Rattle.pie_summary.proofs.sums.Sums.take.Goals as goal
+use Rattle.pie_summary.proofs.period.Sums.take.Goals as goal
 
 pub returns : goal.returns
 unfolding sums_of

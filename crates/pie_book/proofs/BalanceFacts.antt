@@ -1,8 +1,8 @@
 -- A core stays balanced at each command.
-use Rattle.std.proofs.Common.{◌≡◌, ◌≤◌, ◌+◌, ◌*◌, ℕ, List, [], ◌∷◌, ◌++◌, length, true, refl, sym, arith, length-append, length-drop}
+use Rattle.std.proofs.Common.{◌≡◌, ◌≤◌, ◌+◌, ◌*◌, ℕ, length, true, refl, sym, arith, length-append, length-drop}
 use Rattle.std.proofs.Common.{subst, None}
 use Rattle.std.proofs.lemmas.Bool.Decides.{nat_tests}
-use Rattle.pie_book.specs.{Waiting, Command, Arrive, Depart, CoreView, bytes_of, core_after, snapshot_of, IsBalanced, are_balanced}
+use Rattle.pie_book.specs.{Command, CoreView, bytes_of, core_after, snapshot_of, IsBalanced, are_balanced}
 use Rattle.pie_book.specs.{age_of_oldest, caller_moment, Opening, first_core, end_refusal}
 use Rattle.pie_book.specs.declared.snapshot.CoreSnapshot.{CoreSnapshot}
 use Rattle.pie_aqm.specs.Steps as Steps
@@ -34,17 +34,7 @@ module _ (core : CoreView) where
   queued-next : (command : Command) → IsBalanced (snapshot_of core)
       → let after = core_after core command in
       after.stats.enqueued + after.stats.marked ≡ after.stats.left + length after.waiting
-  queued-next (Arrive moment packet word) b =
-      let longer : (w : Waiting) → length (core.waiting ++ w ∷ []) ≡ length core.waiting + 1 = λ w. length-append core.waiting (w ∷ []) in
-      let e = b.queued in grind (arith, nat_tests, e, longer)
-  queued-next (Depart moment) b = by core.waiting b.queued
-    where
-      by : (waiting : List Waiting) → core.stats.enqueued + core.stats.marked ≡ core.stats.left + length waiting
-          → let after = core_after (record core { waiting = waiting }) (Depart moment) in
-          after.stats.enqueued + after.stats.marked ≡ after.stats.left + length after.waiting
-      by [] e = e
-      by (oldest ∷ others) e = let rest = length-drop 1 (oldest ∷ others) in omega (arith, e, rest)
-  queued-next _ b = b.queued
+  queued-next command b = grind (arith, nat_tests, length-append, length-drop)
 
   waits-next : (command : Command) → IsBalanced (snapshot_of core)
       → (core_after core command).stats.waited ≤ (core_after core command).stats.left * (core_after core command).held.moment

@@ -1,24 +1,23 @@
 -- The state of a core that represents a history equals the look-back over the history, and after each command the core
 -- represents the history with one more event.
 use Rattle.std.proofs.Common.{◌≡◌, ◌≤◌, ◌<◌, ◌+◌, ℕ, List, [], ◌∷◌, ◌++◌, map, length, true, refl, ap, subst, ◌∙◌, sym, arith, length-append, max}
-use Rattle.std.proofs.Common.{None, Some, All, is_some, append-nil, drop, Bool, cond, Option, filter_map, drop-drop, length-drop, if◌then◌else◌}
-use Rattle.std.proofs.Common.{sum_by, ◌↔◌, add-zero, ◌==◌}
+use Rattle.std.proofs.Common.{None, Some, All, is_some, append-nil, drop, Bool, cond, drop-drop, length-drop, if◌then◌else◌}
+use Rattle.std.proofs.Common.{sum_by, ◌↔◌, add-zero}
 use Rattle.std.proofs.lemmas.Bool.Decides.{nat_tests}
 use Rattle.std.proofs.lemmas.List.{map-append, drop-append-le, append_assoc}
 use Rattle.std.proofs.lemmas.List.Elements.{All-cons, All-head, All-nil, All-push, All-tail, All-pop}
 use Rattle.std.proofs.lemmas.List.Sums.{sum_by_push}
-use Rattle.pie_book.specs.{Packet, Waiting, One, Held, Command, Arrive, Depart, Answer, Event, Opening, opened_by, arrival_of, cause_after, CoreView}
+use Rattle.pie_book.specs.{Packet, Waiting, One, Held, Command, Arrive, Depart, Answer, Event, Opening, arrival_of, cause_after, CoreView}
 use Rattle.pie_book.specs.{Represents, counted, refusal_of, registers_of, with_queue, IsLegal, IsLegalAt, answer_by, decision, refusal_by_rule}
 use Rattle.pie_book.specs.{delay_after, delay_answered, held_after, admitted, bytes_after, departed_count, effective_moment, waiting_after}
 use Rattle.pie_book.specs.{registers_after, event_of, opened_of, controller_events, age_of_oldest, largest_delay, largest_queue, stats_after, waited, answer_in}
 use Rattle.pie_book.specs.{call_in, waiting_next, bytes_of, HasThreshold, after_call, Place, places, greatest, Deed, deed, departure, fits, caller_moment}
 use Rattle.pie_book.specs.{deed_of, admission, departed, marked, queued, count_of, is_departure, bytes_departed, is_update, first_bad, SetParams}
-use Rattle.pie_book.specs.{IsNext, CommandFits, refusal_with, active_after, arriving_size, controller_event, oldest_since, controller_event_at, delay_at, core_after}
+use Rattle.pie_book.specs.{IsNext, CommandFits, refusal_with, active_after, arriving_size, controller_event, oldest_since, controller_event_at, core_after}
 use Rattle.pie_book.specs.{first_core, registers_with, after_calls, call_at, calls_of, held_after_calls, Follows, cause_in, apply_in, outcome}
-use Rattle.pie_book.specs.{core_along, is_refused_full, or_full, refused_or}
+use Rattle.pie_book.specs.{core_along}
 use Rattle.pie_aqm.specs.Steps.{cause, now_at}
 use Rattle.pie_aqm.proofs.Places.{place_of, places-push, from_places-push, greatest-push, with_one}
-use Rattle.pie_event.specs.Deed.{with_ce}
 use Rattle.pie_aqm.specs.Calls.{event_of_call, Call}
 use Rattle.pie_aqm.specs.Places.{after}
 use Rattle.pie_aqm.proofs.Laws.{Represents_call, Represents_opened, held_is, threshold_held, one_is_active}
@@ -69,14 +68,7 @@ pub departed-push : (opening : Opening) (history : List Event) (event : Event) �
     → (is_some (departure (deed_of event)) ≡ true → 0 < length (waiting_after opening history))
     → departed_count (history ++ event ∷ []) ≤ length (admitted opening (history ++ event ∷ []))
 unfolding waiting_after
-departed-push opening history event fewer waits =
-    let some = λ (is : is_some (departure (deed_of event)) ≡ true). (rw length-drop at waits is) in
-    let more = longer (admission (max (effective_moment opening history) (caller_moment event.command)) (deed_of event)) in
-    rw (admitted-push opening history event, departed_count-push history event) (grind (arith, nat_tests))
-  where
-    longer : (one : Option Waiting) → length (admitted opening history) ≤ length (with_one (admitted opening history) one)
-    longer None = omega arith
-    longer (Some entry) = let more = length-append (admitted opening history) (entry ∷ []) in omega (arith, more)
+departed-push opening history event fewer waits = grind (arith, nat_tests, length-drop, admitted-push, departed_count-push, length-append)
 
 -- ---- The statistics after one more event
 
@@ -86,17 +78,14 @@ more_of b n m = grind (arith, nat_tests)
 
 count_of-push : (test : Deed → Bool) (history : List Event) (event : Event)
     → count_of test (history ++ event ∷ []) ≡ (if test (deed_of event) then count_of test history + 1 else count_of test history)
-count_of-push test history event =
-    sum_by_push (λ (e : Event). cond (test (deed_of e)) 1 0) history event ∙ more_of (test (deed_of event)) (count_of test history) 1
+count_of-push test history event = grind (arith, nat_tests, sum_by_push, more_of)
 
 -- no bytes depart unless a packet does
 bytes-push : (history : List Event) (event : Event)
     → sum_by (λ (e : Event). bytes_departed (deed_of e)) (history ++ event ∷ [])
     ≡ (if is_departure (deed_of event) then sum_by (λ (e : Event). bytes_departed (deed_of e)) history + bytes_departed (deed_of event)
     else sum_by (λ (e : Event). bytes_departed (deed_of e)) history)
-bytes-push history event =
-    sum_by_push (λ (e : Event). bytes_departed (deed_of e)) history event
-    ∙ grind (arith, nat_tests)
+bytes-push history event = grind (arith, nat_tests, sum_by_push)
 
 largest_queue-push : (opening : Opening) (history : List Event) (event : Event)
     → largest_queue opening (history ++ event ∷ []) ≡ max (largest_queue opening history) (bytes_after opening (history ++ event ∷ []))
@@ -107,9 +96,7 @@ largest_delay-push : (opening : Opening) (history : List Event) (event : Event)
     → largest_delay opening (history ++ event ∷ [])
     ≡ (if is_update (deed_of event) then max (largest_delay opening history) (delay_answered opening history) else largest_delay opening history)
 unfolding largest_delay
-largest_delay-push opening history event =
-    ap greatest (from_places-push (delay_at opening) history event)
-    ∙ (let more = greatest-push (filter_map (delay_at opening) (places history)) (delay_answered opening history) in grind (arith, nat_tests))
+largest_delay-push opening history event = grind (arith, nat_tests, from_places-push, greatest-push)
 
 waited-push : (opening : Opening) (history : List Event) (event : Event)
     → waited opening (history ++ event ∷ [])
@@ -215,8 +202,7 @@ module _ (opening : Opening) (core : CoreView) (history : List Event) (shows : R
   pub cause_is : (moment : ℕ) (packet : Packet) (word : ℕ)
       → Some (cause core.held (arrival_of core.waiting core.packets packet word) (length core.waiting))
       ≡ cause_after opening history (Arrive moment packet word)
-  cause_is moment packet word =
-      λ i. Some (cause (held-is i) (arrival_of (shows.waiting i) (shows.packets i) packet word) (length (shows.waiting i)))
+  cause_is moment packet word = grind (arith, nat_tests, held-is)
 
 -- the cause of the core's answer is the cause after the history
 pub cause_found : (opening : Opening) (core : CoreView) (history : List Event) → Represents opening core history → (command : Command)
@@ -227,9 +213,7 @@ cause_found opening core history shows _ = refl
 -- the result of a command in a book is the outcome after the history
 pub outcome_is : (opening : Opening) (core : CoreView) (history : List Event) → Represents opening core history → (held : ℕ) (command : Command)
     → apply_in opening core held command ≡ outcome opening (record { history = history; held = held }) command
-outcome_is opening core history shows held command =
-    λ i. refused_or (or_full (refusal_is opening core history shows command i)
-    (is_refused_full opening.choices.mode (held == opening.limits.tail))) (next_decided opening core history shows command i)
+outcome_is opening core history shows held command = grind (arith, nat_tests, refusal_is, next_decided)
 
 -- ---- Without an event
 
@@ -256,14 +240,7 @@ controller_event-command : (core : CoreView) (now : ℕ) (command : Command)
     → controller_event (deed command (answer_in core command)) (arriving_size command) (oldest_since core.waiting) (bytes_of core.waiting)
     (bytes_of (waiting_next core.waiting now (deed command (answer_in core command)))) (caller_moment command)
     ≡ event_of_call core.held (call_in core command)
-controller_event-command core now (Arrive moment packet word) =
-    let sum : (packet : Packet) → bytes_of (core.waiting ++ (record { packet = packet; since = now }) ∷ []) ≡ bytes_of core.waiting + packet.size =
-    λ packet. sum_by_push (λ (w : Waiting). w.packet.size) core.waiting (record { packet = packet; since = now }) in
-    let queued = sum packet in
-    let marked = sum (with_ce packet) in
-    grind (arith, nat_tests)
-controller_event-command core now (Depart moment) = grind (arith, nat_tests)
-controller_event-command core now _ = refl
+controller_event-command core now command = grind (arith, nat_tests, sum_by_push)
 
 -- the effective moment after a call
 moment-next : (core : CoreView) (command : Command) → (after_call core.held (call_in core command)).moment ≡ now_at core.held (caller_moment command)
@@ -333,10 +310,7 @@ next_shown opening core history shows caller command good free =
 -- a legal event after a history is the next event of a core that represents the history
 pub next-legal : (opening : Opening) (core : CoreView) (history : List Event) (event : Event) → Represents opening core history
     → IsLegalAt opening (place_of history event) → IsNext core event
-next-legal opening core history event shows here = record {
-  taken = refusal_is opening core history shows event.command ∙ here.taken;
-  answered = here.answered ∙ sym (next_decided opening core history shows event.command);
-}
+next-legal opening core history event shows here = grind (arith, nat_tests, refusal_is, next_decided)
 
 -- the core then represents the history with the event
 pub next-core : (opening : Opening) (core : CoreView) (history : List Event) (event : Event) → Represents opening core history
@@ -404,11 +378,7 @@ abbrev HoldsCalls : Opening → List Event → CoreView → Type 0
 HoldsCalls opening history core = core.held ≡ held_after_calls opening history
 
 call-next : (opening : Opening) → Stays (HoldsCalls opening) opening
-call-next opening core history event shows holds fit free =
-    let made : call_in core event.command ≡ call_at opening (place_of history event) = rw (shows.waiting, shows.packets) refl in
-    ap (after_call core.held) made ∙ ap (λ (h : Held). after_call h (call_at opening (place_of history event))) holds
-    ∙ sym (ap (after_calls (opened_by opening)) (calls-push opening history event)
-    ∙ after-push (opened_by opening) (calls_of opening history) (call_at opening (place_of history event)))
+call-next opening core history event shows holds fit free = grind (arith, nat_tests, calls-push, after-push)
 
 pub run_beside : (opening : Opening) (history : List Event) (command : Command) → first_bad opening.params ≡ None → IsLegal opening history
     → All (λ event. CommandFits event.command) history

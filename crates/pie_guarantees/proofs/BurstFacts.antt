@@ -2,7 +2,7 @@
 use Rattle.pie_guarantees.proofs.Names.{◌≡◌, ◌≤◌, ◌+◌, ◌*◌, ℕ, List, [], ◌∷◌, ◌++◌, true, false, sym, arith, subst, max, All, append_assoc}
 use Rattle.pie_guarantees.proofs.Names.{deed, is_update, after_call, Held, Waiting, Command, Update, Answer, Event, Opening, call_of, is_too_soon}
 use Rattle.pie_guarantees.proofs.Names.{held_after, params_after, parts_after, effective_moment, waiting_after, AllAllow, Allows, IsAllowed}
-use Rattle.pie_guarantees.proofs.Names.{KeepsParams, SetsAllow, nat_tests, burst_left, updates_in, IsLawful, IsEarly, get_or, ◌<◌, bytes_of}
+use Rattle.pie_guarantees.proofs.Names.{KeepsParams, SetsAllow, nat_tests, burst_left, updates_in, IsLawful, IsEarly, ◌<◌, bytes_of}
 use Rattle.pie_guarantees.proofs.Names.{Some, ◌∙◌, AtEachEvent, deed_of, caller_moment, refusal_with, refusal_by_rule, in-range, length}
 use Rattle.pie_guarantees.proofs.Names.{effective_moment-push}
 use Rattle.pie_aqm.specs.Steps as Steps
@@ -27,17 +27,7 @@ module _ (burst least most start last : ℕ) where
 
   call-holds : (n : ℕ) (h : Held) (waiting : List Waiting) (packets : ℕ) (command : Command) → Holds n h → SetsAllow burst least most command
       → is_too_soon h.moment (Steps.due h) command ≡ false → Holds (counted_with command n) (after_call h (call_of waiting packets command))
-  call-holds n h waiting packets command old set due =
-      let first = one-more n most in
-      let second = one-more n least in
-      record {
-        allows = grind (arith, nat_tests);
-        whole = grind (arith, nat_tests);
-        apart = grind (arith, nat_tests);
-        since = grind (arith, nat_tests);
-        later = grind (arith, nat_tests);
-        sound = grind (arith, nat_tests);
-      }
+  call-holds n h waiting packets command old set due = grind (arith, nat_tests, one-more)
 
 -- ---- along a lawful history
 
@@ -97,11 +87,7 @@ keeps-allows burst least most command keep = grind (arith, nat_tests)
 
 allow-own : (opening : Opening) (before between : List Event) → IsAllowed opening before → All (λ event. KeepsParams event.command) between
     → AllAllow (burst_left opening before) (params_after opening before).t_update (params_after opening before).t_update opening before between
-allow-own opening before between allowed keep = record {
-  force = record { allowance = allowed; apart = omega arith; together = omega arith };
-  set = λ k d within. keeps-allows (burst_left opening before) (params_after opening before).t_update (params_after opening before).t_update
-      (get_or between k d).command (keep k d within);
-}
+allow-own opening before between allowed keep = grind (arith, nat_tests, keeps-allows)
 
 module _ (opening : Opening) (before : List Event) (between : List Event) (event : Event) (later : List Event)
     (lawful : IsLawful opening (before ++ between ++ event ∷ later)) (allowed : IsAllowed opening before)

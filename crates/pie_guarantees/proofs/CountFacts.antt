@@ -41,17 +41,7 @@ unfolding Steps.verdict
 once-more h waiting packets command = grind (arith, nat_tests)
 
 adds-next : (opening : Opening) (before : List Event) (event : Event) → IsStep opening before event → Adds before → Adds (before ++ event ∷ [])
-adds-next opening before event step old =
-    let one = once-more (held_after opening before) (waiting_after opening before) opening.limits.packets event.command in
-    rw (
-      sum_by_push (λ (e : Event). cond (is_packet_arrival e.command) 1 0) before event,
-      count-push is_queued before event,
-      count-push is_marked before event,
-      count-push is_dropped_early before event,
-      count-push is_dropped_bytes before event,
-      count-push is_dropped_packets before event,
-      deed-is opening before event step,
-    ) (omega (arith, one, old))
+adds-next opening before event step old = grind (arith, nat_tests, once-more, sum_by_push, count-push, deed-is)
 
 pub each_once : AtEachHistory (λ opening history. Adds history)
 unfolding AtEachHistory
@@ -76,15 +66,7 @@ Ordered opening history = packets_departed history ++ packets_waiting opening hi
 ordered-next : (opening : Opening) (before : List Event) (event : Event) → IsStep opening before event → Ordered opening before
     → Ordered opening (before ++ event ∷ [])
 unfolding packets_departed packets_queued
-ordered-next opening before event step old =
-    rw (
-      filter_map-push (λ (e : Event). departure (deed_of e)) before event,
-      filter_map-push (λ (e : Event). packet_queued (deed_of e)) before event,
-      step.waiting,
-      deed-is opening before event step,
-    )
-    (in-order (held_after opening before) (waiting_after opening before) opening.limits.packets event.command
-    (effective_moment opening (before ++ event ∷ [])) (packets_departed before) (packets_queued before) old)
+ordered-next opening before event step old = grind (arith, nat_tests, filter_map-push, deed-is, in-order)
 
 -- at the opening no packet is queued
 none-waits : (opening : Opening) → waiting_after opening [] ≡ []

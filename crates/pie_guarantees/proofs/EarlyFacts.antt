@@ -16,8 +16,7 @@ pub record IsPicked (h : Held) (bytes : ℕ) : Type 0 where
 
 picked-facts : (h : Held) (a : ArrivingPacket) → is_early (answer_of (verdict h a)) ≡ true → IsPicked h a.queued
 unfolding verdict is_considered
-picked-facts h a e =
-    record { active = grind (arith, nat_tests); no_burst = grind (arith, nat_tests); long = grind (arith, nat_tests); high = grind (arith, nat_tests) }
+picked-facts h a e = grind (arith, nat_tests)
 
 pub record IsChosen (h : Held) (a : ArrivingPacket) : Type 0 where
   pub picked : IsPicked h a.queued
@@ -47,9 +46,7 @@ early-arrival h waiting packets _ e = absurd (grind (arith, nat_tests))
 
 pub early_arrival : (opening : Opening) (before : List Event) (event : Event) → IsStep opening before event → is_early event.answer ≡ true
     → IsEarlyArrival (held_after opening before) (waiting_after opening before) opening.limits.packets event.command
-early_arrival opening before event step e =
-    early-arrival (held_after opening before) (waiting_after opening before) opening.limits.packets event.command
-    (ap (λ (a : Answer). is_early a) (sym step.here.answered) ∙ e)
+early_arrival opening before event step e = grind (arith, nat_tests, early-arrival)
 
 pub early_at : (opening : Opening) (before : List Event) (event : Event) → IsStep opening before event → is_early event.answer ≡ true
     → IsPicked (held_after opening before) (bytes_of (waiting_after opening before))
@@ -100,8 +97,7 @@ finds-none : (v : Verdict) → answer_of v ≡ Empty → ⊥
 finds-none v e = grind (arith, nat_tests)
 
 empty-queue : (h : Held) (waiting : List Waiting) (packets : ℕ) (command : Command) → answer_by h waiting packets command ≡ Empty → waiting ≡ []
-empty-queue h waiting packets (Arrive moment packet word) e = absurd (finds-none (verdict h (arrival_of waiting packets packet word)) e)
-empty-queue h waiting packets _ e = grind (arith, nat_tests)
+empty-queue h waiting packets command e = grind (arith, nat_tests, finds-none)
 
 pub empty_if_none : AtEachEvent (λ opening before event. event.answer ≡ Empty → waiting_after opening before ≡ [])
 unfolding AtEachEvent

@@ -4,7 +4,7 @@ use Rattle.pie_guarantees.proofs.Names.{append-nil, append_assoc, All-head, All-
 use Rattle.pie_guarantees.proofs.Names.{IsSound, places, place_of, Waiting, Command, Event, Opening, call_of, IsLegalAt, has_bad_size, is_too_soon}
 use Rattle.pie_guarantees.proofs.Names.{refusal_by_rule, due_after, held_after, effective_moment, waiting_after, after_command, call_in, waiting_next}
 use Rattle.pie_guarantees.proofs.Names.{at_place, departed-of-legal, held-is, first_shows, first_core, next-core, next-legal, AllAlong, IsLawful}
-use Rattle.pie_guarantees.proofs.Names.{SetsInRange, nat_tests, map, drop, All-cons, All-nil, Place, decision, Answer, answer_by, Sound_call}
+use Rattle.pie_guarantees.proofs.Names.{SetsInRange, nat_tests, map, drop, All-nil, Place, decision, Answer, answer_by, Sound_call}
 use Rattle.pie_guarantees.proofs.Names.{Sound_opened, cond, is_update, sum_by-cons, updates_in, drop-append_seam, take-append_seam, Update, deed}
 use Rattle.pie_guarantees.proofs.Names.{effective_moment-push, waiting_after-push}
 use Rattle.std.proofs.lemmas.List.Elements.{All-drop, All-take}
@@ -21,8 +21,7 @@ pub record IsFree (opening : Opening) (before : List Event) (command : Command) 
 
 pub is_free : (opening : Opening) (before : List Event) (command : Command) → refusal_by_rule opening before command ≡ None
     → IsFree opening before command
-is_free opening before command e =
-    record { moment = grind (arith, nat_tests); size = grind (arith, nat_tests); in_time = grind (arith, nat_tests) }
+is_free opening before command e = grind (arith, nat_tests)
 
 -- ---- the core's numbers at a place
 
@@ -217,5 +216,4 @@ pub all_legal : (o : Opening) (ps : List (Place Event)) → map (λ (p : Place E
     ≡ map (λ (p : Place Event). None) ps
     → map (λ (p : Place Event). p.event.answer) ps ≡ map (λ (p : Place Event). decision o p.before p.event.command) ps → All (IsLegalAt o) ps
 all_legal o [] taken answered = All-nil (IsLegalAt o)
-all_legal o (p ∷ ps) taken answered = All-cons (IsLegalAt o) p ps (record { taken = cc; answered = cc })
-    (all_legal o ps (ap (drop 1) taken) (ap (drop 1) answered))
+all_legal o (p ∷ ps) taken answered = grind (arith, nat_tests, all_legal o ps (ap (drop 1) taken) (ap (drop 1) answered))

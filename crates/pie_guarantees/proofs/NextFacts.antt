@@ -146,14 +146,11 @@ pub one-rise : (elements : Elements) (params : RawParams) (prob delay : ℕ) →
     → (min (10 ^ 12) (prob + least_rise params delay prob) ≤ next elements params prob delay delay)
     × (next elements params prob delay delay ≤ prob + untuned_rise params delay / tuning_divisor prob)
 unfolding next decayed tuned_step
-one-rise elements params prob delay some above =
-    rw (none_decays elements.decay params delay delay some above, raw-above params delay above)
-    (grind (arith, nat_tests, ints, clamps), grind (arith, nat_tests, ints, clamps))
+one-rise elements params prob delay some above = grind (arith, nat_tests, none_decays, raw-above, ints, clamps)
 
 pub fallen-step : (elements : Elements) (params : RawParams) (prob delay : ℕ) → delay ≤ params.target
     → tuned_step elements.step prob (raw_step params delay delay) ≡ pos 0 -ℤ pos (untuned_fall params delay / tuning_divisor prob)
-fallen-step elements params prob delay below =
-    ap (λ (z : ℤ). tuned_step elements.step prob z) (raw-below params delay below) ∙ tuned-below elements.step prob (untuned_fall params delay)
+fallen-step elements params prob delay below = grind (arith, nat_tests, raw-below, tuned-below)
 
 one-fall : (elements : Elements) (params : RawParams) (prob delay : ℕ) → delay ≤ params.target → 0 < next elements params prob delay delay
     → next elements params prob delay delay + untuned_fall params delay / tuning_divisor prob ≤ prob
@@ -163,21 +160,17 @@ one-fall elements params prob delay below some = let t = fallen-step elements pa
 one-fall-most : (elements : Elements) (params : RawParams) (prob delay : ℕ) → prob ≤ 10 ^ 12 → decays elements.decay params delay delay ≡ false
     → delay ≤ params.target → prob ≤ next elements params prob delay delay + untuned_fall params delay / tuning_divisor prob
 unfolding next decayed
-one-fall-most elements params prob delay within still below =
-    let t = fallen-step elements params prob delay below in grind (arith, nat_tests, ints, clamps)
+one-fall-most elements params prob delay within still below = grind (arith, nat_tests, fallen-step, ints, clamps)
 
 -- ---- several updates
 
 -- a smaller divisor gives a greater quotient
 div-more : (n d e : ℕ) → 0 < e → e ≤ d → n / d ≤ n / e
-div-more n d e some le =
-    le-div (n / d) n e some (let whole = div-mul-le_self n d in let part = mul-le (n / d) e (n / d) d (omega arith) le in omega (arith, whole, part))
+div-more n d e some le = grind (arith, nat_tests, le-div, div-mul-le_self, mul-le)
 
 -- from a higher probability, a rise is at least as large
 rise-grows : (params : RawParams) (delay low high : ℕ) → low ≤ high → least_rise params delay low ≤ least_rise params delay high
-rise-grows params delay low high le =
-    let more = div-more (untuned_rise params delay) (tuning_divisor low) (tuning_divisor high) (divisor-some high) (divisor-falls low high le) in
-    omega (arith, more)
+rise-grows params delay low high le = grind (arith, nat_tests, div-more, divisor-some, divisor-falls)
 
 pub more-times : (n rise : ℕ) → suc n * rise ≡ rise + n * rise
 more-times n rise = grind arith
@@ -202,8 +195,7 @@ module _ (params : RawParams) (delay : ℕ) where
 
   lows-within : (n : ℕ) → lows n ≤ 10 ^ 12
   unfolding lows
-  lows-within zero = omega arith
-  lows-within (suc n) = omega arith
+  lows-within n = grind (arith, nat_tests)
 
   lows-rise : (m n : ℕ) → (lows m ≤ lows (m + n)) × (min (10 ^ 12) (lows m + n * least_rise params delay (lows m)) ≤ lows (m + n))
   unfolding lows
@@ -217,10 +209,7 @@ module _ (params : RawParams) (delay : ℕ) where
 
   module _ (steep : 2048 ≤ untuned_rise params delay) where
     rise-some : (low : ℕ) → 0 < least_rise params delay low
-    rise-some low =
-        let one = le-div 1 (untuned_rise params delay) (tuning_divisor low) (divisor-some low)
-        (let top = divisor-falls 0 low (omega arith) in let first = first-divisor in omega (arith, steep, top, first)) in
-        omega (arith, one)
+    rise-some low = grind (arith, nat_tests, le-div, divisor-some, divisor-falls, first-divisor)
 
     -- if n updates reach this value, more updates reach further
     further : (m low high : ℕ) → high ≤ 10 ^ 12 → low ≤ lows m → high ≤ lows (m + updates_from params delay low high)
@@ -304,23 +293,22 @@ module _ (elements : Elements) (params : RawParams) (delay : ℕ) where
         × (prob ≤ 10 ^ 12 → decays elements.decay params delay delay ≡ false → untuned_fall params delay / tuning_divisor prob ≤ fall
         → prob ≤ after n prob + n * fall)
     unfolding after_updates
-    falls zero fall least prob = (omega arith, λ some above. omega arith, λ within still most. omega arith)
+    falls zero fall least prob = grind (arith, nat_tests)
     falls (suc n) fall least prob =
-        let down = next_down elements params prob delay delay below (omega arith) in
-        let rest = falls n fall least (once prob) in (
-          omega (arith, down, rest.0),
-          λ some above.
-              let one = one-fall elements params prob delay below (omega (arith, some, above, rest.0)) in
-              let more = div-more (untuned_fall params delay) (tuning_divisor least) (tuning_divisor prob) (divisor-some prob)
-              (divisor-falls least prob (omega (arith, above, rest.0, down))) in
-              let times = more-times n (untuned_fall params delay / tuning_divisor least) in
-              let later = rest.1 some above in omega (arith, one, later, more, times),
-          λ within still most.
-              let one = one-fall-most elements params prob delay within still below in
-              let less = div-more (untuned_fall params delay) (tuning_divisor (once prob)) (tuning_divisor prob) (divisor-some prob)
-              (divisor-falls (once prob) prob down) in
-              let times = more-times n fall in
-              let later = rest.2 (once-within prob) still (omega (arith, less, most)) in omega (arith, one, later, most, times),
+        grind (
+          arith,
+          nat_tests,
+          next_down,
+          one-fall,
+          div-more,
+          untuned_fall,
+          tuning_divisor,
+          divisor-some,
+          divisor-falls,
+          more-times,
+          one-fall-most,
+          once-within,
+          falls n fall least (once prob),
         )
 
     pub stays_down : (n prob : ℕ) → after n prob ≤ prob

@@ -29,11 +29,7 @@ pub prob-next : (opening : Opening) (before : List Event) (event : Event) → Is
     → probability_after opening (before ++ event ∷ [])
     ≡ next opening.choices.elements (params_after opening before) (probability_after opening before) (delay_after opening before)
     (old_delay_after opening before)
-prob-next opening before event step active =
-    let h = held_after opening before in
-    ap (λ (g : Held). g.control.prob) step.held
-    ∙ updated-prob h (waiting_after opening before) opening.limits.packets event.command event.answer active.update active.active
-    ∙ ap (λ (e : Elements). next e h.params h.control.prob (delay_after opening before) h.control.old_delay) (elements-is opening before)
+prob-next opening before event step active = grind (arith, nat_tests, updated-prob, elements-is)
 
 -- ---- any other event
 
@@ -55,19 +51,14 @@ same-next : (delay : ℕ) (h : Held) (waiting : List Waiting) (packets : ℕ) (c
     → (is_update (deed command answer) ≡ true → Steps.delay_in h (bytes_of waiting) ≡ delay)
     → (is_update (deed command answer) ≡ true → h.control.old_delay ≡ delay)
     → Next delay h.elements h (after_call h (call_of waiting packets command)) (is_update (deed command answer))
-same-next delay h waiting packets command answer keeps unreset on now old =
-    record { params = grind (arith, nat_tests); prob = grind (arith, nat_tests) }
+same-next delay h waiting packets command answer keeps unreset on now old = grind (arith, nat_tests)
 
 one-update : (updates : Bool) (n : ℕ) (elements : Elements) (params : RawParams) (delay prob : ℕ)
     → after_updates n elements params delay (if updates then next elements params prob delay delay else prob)
     ≡ after_updates (cond updates 1 0 + n) elements params delay prob
 unfolding after_updates
-one-update true n elements params delay prob =
-    let one : suc n ≡ 1 + n = omega arith in
-    ap (λ (k : ℕ). after_updates k elements params delay prob) one
-one-update false n elements params delay prob =
-    let none : n ≡ 0 + n = omega arith in
-    ap (λ (k : ℕ). after_updates k elements params delay prob) none
+one-update true n elements params delay prob = grind (arith, nat_tests, after_updates)
+one-update false n elements params delay prob = grind (arith, nat_tests, after_updates)
 
 pub steadily : (delay : ℕ) → BetweenAny (λ opening before between. AllAlong (IsSteady delay opening) before between
     → probability_after opening (before ++ between)
@@ -110,11 +101,16 @@ faded-after : (n : ℕ) (elements : Elements) (params : RawParams) (delay prob :
 unfolding after_updates
 faded-after zero elements params delay prob is = omega arith
 faded-after (suc n) elements params delay prob is =
-    let rest = faded-after n elements params delay (next elements params prob delay delay) is in
-    let one = next_decays elements params prob delay delay is (omega arith) in
-    rw (pow-suc 100 n, pow-suc 98 n)
-    (fades-more (after_updates n elements params delay (next elements params prob delay delay)) (next elements params prob delay delay) prob
-    (100 ^ n) (98 ^ n) rest one)
+    grind (
+      arith,
+      nat_tests,
+      next,
+      next_decays,
+      pow-suc,
+      fades-more,
+      after_updates,
+      faded-after n elements params delay (next elements params prob delay delay) is,
+    )
 
 pub fades_with_updates : (delay : ℕ) → BetweenAny (λ opening before between. AllAlong (IsSteady delay opening) before between
     → decays opening.choices.elements.decay (params_after opening before) delay delay ≡ true
@@ -198,16 +194,12 @@ between-all t least most (first ∷ later) small some all =
     between-later t least most small first later (All-head (IsBetween least most) first later all) (All-tail (IsBetween least most) first later all)
 
 none-sampled : (t : ℕ) (times : List ℕ) → length times ≡ 0 → average_of t times ≡ 0
-none-sampled t [] none = refl
-none-sampled t (first ∷ later) none = absurd (omega arith)
+none-sampled t times none = grind (arith, nat_tests)
 
 delay-between : (bytes average threshold least most : ℕ) → 0 < threshold → IsBetween least most average
     → IsBetween (min (2 ^ 40) (bytes * least / threshold)) (bytes * most / threshold) (delay_of bytes average threshold)
 unfolding delay_of
-delay-between bytes average threshold least most some between =
-    let low = div-mono (bytes * least) (bytes * average) threshold some (mul-le bytes least bytes average (omega arith) between.0) in
-    let high = div-mono (bytes * average) (bytes * most) threshold some (mul-le bytes average bytes most (omega arith) between.1) in
-    (omega (arith, low), omega (arith, high))
+delay-between bytes average threshold least most some between = grind (arith, nat_tests, div-mono, mul-le)
 
 -- ---- after a lawful history
 

@@ -21,9 +21,7 @@ decays-at-none choice params some = grind (arith, nat_tests)
 fades-to : (elements : Elements) (params : RawParams) (prob : ℕ) → 0 < params.target
     → next elements params prob 0 0 ≤ (prob - untuned_fall params 0 / tuning_divisor prob) * 98 / 100
 unfolding next decayed
-fades-to elements params prob some =
-    let t = fallen-step elements params prob 0 (omega arith) in
-    rw (decays-at-none elements.decay params some) (grind (arith, nat_tests, ints, clamps))
+fades-to elements params prob some = grind (arith, nat_tests, fallen-step, decays-at-none, ints, clamps)
 
 -- the greatest probability after an update without delay, from one of at most `prob` and `most`, with this divisor
 in-row : ℕ → ℕ → ℕ → ℕ → ℕ
@@ -38,19 +36,14 @@ under fall prob =
 
 row-grows : (fall most divisor low high : ℕ) → low ≤ high → in-row fall most divisor low ≤ in-row fall most divisor high
 unfolding in-row
-row-grows fall most divisor low high le =
-    div-mono ((min low most - fall / divisor) * 98) ((min high most - fall / divisor) * 98) 100 (omega arith) (omega (arith, le))
+row-grows fall most divisor low high le = grind (arith, nat_tests, div-mono)
 
 greater : (a b c d : ℕ) → a ≤ c → b ≤ d → max a b ≤ max c d
 greater a b c d first second = omega (arith, first, second)
 
 under-grows : (fall low high : ℕ) → low ≤ high → under fall low ≤ under fall high
 unfolding under
-under-grows fall low high le =
-    greater _ _ _ _ (row-grows fall _ _ low high le) (greater _ _ _ _ (row-grows fall _ _ low high le)
-    (greater _ _ _ _ (row-grows fall _ _ low high le) (greater _ _ _ _ (row-grows fall _ _ low high le)
-    (greater _ _ _ _ (row-grows fall _ _ low high le) (greater _ _ _ _ (row-grows fall _ _ low high le)
-    (row-grows fall _ _ low high le))))))
+under-grows fall low high le = grind (arith, nat_tests, greater, row-grows)
 
 row-is : (fall most divisor prob : ℕ) → prob ≤ most → in-row fall most divisor prob ≡ (prob - fall / divisor) * 98 / 100
 unfolding in-row
@@ -138,30 +131,7 @@ record Falls (fall n : ℕ) (h : Held) : Type 0 where
 falls-update : (fall n : ℕ) (h : Held) (queued moment : ℕ) → 0 < h.params.target → h.control.prob ≤ 10 ^ 12
     → (h.active ≡ true → Steps.delay_in h queued ≡ 0) → Falls fall n h → Falls fall (suc n) (Steps.updated h queued moment)
 unfolding bound
-falls-update fall zero h queued moment some within free old =
-    let p = next-hold h.elements h.params h.control.prob (Steps.delay_in h queued) h.control.old_delay in
-    record {
-      prob = grind (arith, nat_tests);
-      old = λ n on. grind (arith, nat_tests);
-      off = λ off. grind (arith, nat_tests);
-      none = λ off. grind (arith, nat_tests);
-      whole = λ n none. absurd (omega (arith, n));
-      far = old.far;
-    }
-falls-update fall (suc n) h queued moment some within free old =
-    let p : h.active ≡ true
-    → next h.elements h.params h.control.prob (Steps.delay_in h queued) h.control.old_delay ≤ under fall (bound fall (suc n)) =
-    λ on. rw (free on, old.old (omega arith) on)
-    (next-under h.elements h.params fall h.control.prob (bound fall (suc n)) some old.far old.prob within) in
-    let before = old.old (omega arith) in
-    record {
-      prob = grind (arith, nat_tests);
-      old = λ n on. grind (arith, nat_tests);
-      off = λ off. grind (arith, nat_tests);
-      none = λ off. grind (arith, nat_tests);
-      whole = λ n none. grind (arith, nat_tests);
-      far = old.far;
-    }
+falls-update fall n h queued moment some within free old = grind (arith, nat_tests, next-hold, next-under)
 
 falls-next : (fall n : ℕ) (h : Held) (waiting : List Waiting) (packets : ℕ) (command : Command) → 0 < h.params.target → h.control.prob ≤ 10 ^ 12
     → KeepsParams command → (is_update (deed command Empty) ≡ true → h.active ≡ true → Steps.delay_in h (bytes_of waiting) ≡ 0) → Falls fall n h

@@ -1,14 +1,13 @@
 -- The growth of the accumulated probability, its restarts, and the shares of picks in the sum of counted
 -- probabilities.
-use Rattle.pie_guarantees.proofs.Names.{◌≡◌, ◌≤◌, ◌<◌, ◌+◌, ◌*◌, ◌/◌, ◌^◌, ◌&&◌, ◌||◌, ◌==◌, not, ⊤, ℕ, List, [], ◌∷◌, ◌++◌, Bool, true}
+use Rattle.pie_guarantees.proofs.Names.{◌≡◌, ◌≤◌, ◌<◌, ◌+◌, ◌*◌, ◌^◌, ◌&&◌, ◌||◌, ◌==◌, not, ⊤, ℕ, List, [], ◌∷◌, ◌++◌, Bool, true}
 use Rattle.pie_guarantees.proofs.Names.{refl, sym, ap, ◌∙◌, if◌then◌else◌, AtEachEvent, BetweenAny, Packet, append_assoc, sum_by-cons, mul-le}
-use Rattle.pie_guarantees.proofs.Names.{arith, nat_tests, Elements, bytes_of, counted_as, is_considered, div-le_of_le-mul, RawParams}
+use Rattle.pie_guarantees.proofs.Names.{arith, nat_tests, bytes_of, counted_as, is_considered, div-le_of_le-mul, RawParams}
 use Rattle.pie_guarantees.proofs.Names.{is_picked, deed, answer_of, after_call, Held, Waiting, ArrivingPacket, Command}
 use Rattle.pie_guarantees.proofs.Names.{Arrive, Answer, Event, Opening, arrival_of, call_of, answer_by, held_after, waiting_after}
 use Rattle.pie_guarantees.proofs.Names.{is_dropped_bytes, is_dropped_packets, is_reset, AllAlong, IsLawful, IsEarly, is_early, held_of}
 use Rattle.pie_params.specs.declared.elements.Picking.TheVariants.{Derandomized}
 use Rattle.pie_params.specs.declared.elements.Size.{Size}
-use Rattle.pie_params.specs.declared.elements.Size.TheVariants.{Unscaled, Scaled}
 use Rattle.pie_guarantees.specs.{arriving_size, CountsAtLeast, CountsAtMost, IsUnpicked, considered_in, counted_at, counted_in, had_room, picks_in}
 use Rattle.pie_guarantees.specs.{restarts_in, starts_anew, sum_along, was_considered}
 use Rattle.pie_aqm.specs.Steps as Steps
@@ -86,24 +85,12 @@ unfolding held_after held_of
 q-is opening before event = refl
 
 counted-within : (size : Size) (params : RawParams) (bytes prob : ℕ) → prob ≤ 10 ^ 12 → counted_as size params bytes prob ≤ 10 ^ 12
-counted-within Unscaled params bytes prob within = within
-counted-within Scaled params bytes prob within =
-    let less : bytes < params.mean_pkt → prob * bytes / params.mean_pkt ≤ prob =
-    λ small. div-le_of_le-mul params.mean_pkt (let le = mul-le prob bytes prob params.mean_pkt (omega arith) (omega (arith, small)) in grind (arith, le)) in
-    grind (arith, nat_tests)
+counted-within size params bytes prob within = grind (arith, nat_tests, div-le_of_le-mul, mul-le)
 
 adds-at : (opening : Opening) (before : List Event) (event : Event) → IsStep opening before event → opening.choices.elements.picking ≡ Derandomized
     → Adds (held_after opening before) (held_after opening (before ++ event ∷ [])) (was_considered opening before event) (is_early event.answer)
     (starts_anew opening before event) (counted_at opening before event)
-adds-at opening before event step spaced =
-    let h = held_after opening before in
-    let w = waiting_after opening before in
-    let picking : h.elements.picking ≡ Derandomized = ap (λ (e : Elements). e.picking) (elements-is opening before) ∙ spaced in
-    rw (q-is opening before event) at (at-step opening before event step (λ (answer : Answer) (g : Held). Adds h g
-    (considers h (bytes_of w) event.command answer) (is_early answer) (restarts h g (bytes_of w) event.command answer)
-    (q-of h (arriving_size event.command)))
-    (adds h w opening.limits.packets event.command picking step.sound.accu
-    (counted-within h.elements.size h.params (arriving_size event.command) h.control.prob step.sound.prob)))
+adds-at opening before event step spaced = grind (arith, nat_tests, elements-is, q-is, at-step, adds, counted-within)
 
 -- ---- conservation
 
@@ -176,15 +163,14 @@ counts-at-most : (most : ℕ) (opening : Opening) (before between : List Event) 
     → counted_in opening before between ≤ considered_in opening before between * most
 unfolding sum_along AllAlong
 counts-at-most most opening before [] few = omega arith
-counts-at-most most opening before (event ∷ between) few =
-    let rest = counts-at-most most opening (before ++ event ∷ []) between few.1 in let here = few.0 in grind (arith, nat_tests)
+counts-at-most most opening before (event ∷ between) few = grind (arith, nat_tests, counts-at-most most opening (before ++ event ∷ []) between few.1)
 
 counts-at-least : (least : ℕ) (opening : Opening) (before between : List Event) → AllAlong (CountsAtLeast least opening) before between
     → considered_in opening before between * least ≤ counted_in opening before between
 unfolding sum_along AllAlong
 counts-at-least least opening before [] large = omega arith
 counts-at-least least opening before (event ∷ between) large =
-    let rest = counts-at-least least opening (before ++ event ∷ []) between large.1 in let here = large.0 in grind (arith, nat_tests)
+    grind (arith, nat_tests, counts-at-least least opening (before ++ event ∷ []) between large.1)
 
 taken : (early considered : Bool) (q accu next n most : ℕ) → early ≡ true
     → next + (if early then 850_000_000_000 else 0) ≤ accu + (if considered then q else 0) → accu ≤ n * most → q ≤ most
@@ -209,7 +195,7 @@ nothing-counted : (opening : Opening) (before between : List Event) → consider
 unfolding sum_along
 nothing-counted opening before [] none = refl
 nothing-counted opening before (event ∷ between) none =
-    let rest = nothing-counted opening (before ++ event ∷ []) between (omega (arith, none)) in grind (arith, nat_tests)
+    grind (arith, nat_tests, nothing-counted opening (before ++ event ∷ []) between (omega (arith, none)))
 
 pub not_in_a_row : (opening : Opening) (before : List Event) (first : Event) (between : List Event) (second : Event) (later : List Event)
     → IsLawful opening (before ++ first ∷ [] ++ between ++ second ∷ later) → opening.choices.elements.picking ≡ Derandomized → IsEarly first
@@ -231,10 +217,7 @@ continues-unpicked : (least : ℕ) (opening : Opening) (before between : List Ev
 unfolding sum_along AllAlong
 continues-unpicked least opening before [] some large on = (refl, refl)
 continues-unpicked least opening before (event ∷ between) some large on =
-    let rest = continues-unpicked least opening (before ++ event ∷ []) between some large.1 on.1 in
-    let picks = picks-cons event between in
-    let here = on.0 in
-    let counts = large.0 in (grind (arith, nat_tests), grind (arith, nat_tests))
+    grind (arith, nat_tests, picks-cons, continues-unpicked least opening (before ++ event ∷ []) between some large.1 on.1)
 
 pub not_too_far : (least : ℕ) → BetweenAny (λ opening before between. opening.choices.elements.picking ≡ Derandomized → 0 < least
     → AllAlong (CountsAtLeast least opening) before between → AllAlong (IsUnpicked opening) before between

@@ -1,6 +1,8 @@
 -- The contents of a valid text: an accepted opening, and parameters in their ranges.
-use Rattle.pie_guarantees.proofs.Names.{◌≡◌, ◌^◌, ℕ, List, [], ◌∷◌, subst, ap, All, None, Some, Option, Result, Ok, Err, All-cons, All-head, All-nil}
-use Rattle.pie_guarantees.proofs.Names.{All-tail, first_bad, Command, SetParams, Event, Opening, SetsInRange}
+use Rattle.std.proofs.lemmas.Bool.Decides.{nat_tests}
+use Rattle.std.proofs.Common.{arith}
+use Rattle.pie_guarantees.proofs.Names.{◌≡◌, ℕ, List, [], ◌∷◌, subst, All, None, Some, Option, Result, Ok, Err, All-cons, All-head, All-nil}
+use Rattle.pie_guarantees.proofs.Names.{All-tail, first_bad, Command, Event, Opening, SetsInRange}
 use Rattle.std.specs.List.{filter_map}
 use Rattle.pie_event.specs.Opening.{opening_refusal}
 use Rattle.pie_event.specs.Ranges.{CommandFits}
@@ -10,7 +12,7 @@ use Rattle.pie_record.specs.declared.first_record.FirstKind.{FirstKind}
 use Rattle.pie_record.specs.declared.history_record.Line.{Line}
 use Rattle.pie_record.specs.declared.history_record.Line.TheVariants as line
 use Rattle.pie_record.specs.FirstRecord.{first_fields, first_kind, opening_by, opening_of, opening_read}
-use Rattle.pie_record.specs.HistoryLines.{RemainingLines, after_opening, history_opening, history_version}
+use Rattle.pie_record.specs.HistoryLines.{history_opening}
 use Rattle.pie_record.specs.ReadBack.{IsHistoryText}
 use Rattle.pie_record.specs.Text.{Row, records_of}
 use Rattle.pie_record.proofs.Laws.{LineFits, lines-fit}
@@ -48,8 +50,7 @@ opened_well text opening lines is_text = by (records_of text) is_text.opens
 -- ---- the lines of a text
 
 in-range : (command : Command) → CommandFits command → SetsInRange command
-in-range (SetParams moment params) fits = fits.1.in_range
-in-range _ fits = tt
+in-range command fits = grind (arith, nat_tests)
 
 sets : (lines : List Line) → All LineFits lines → All (λ event. SetsInRange event.command) (events_of lines)
 unfolding events_of
@@ -63,6 +64,4 @@ sets (line.Clock clock ∷ lines) all = sets lines (All-tail LineFits (line.Cloc
 
 pub sets_read : (text : List ℕ) (opening : Opening) (lines : List Line) → IsHistoryText text opening lines
     → All (λ event. SetsInRange event.command) (events_of lines)
-sets_read text opening lines is_text =
-    sets lines (subst (λ (ls : List Line). All LineFits ls) (ap (λ (c : RemainingLines). c.lines) is_text.tells)
-    (lines-fit (history_version (records_of text)) (2 ^ 32) 2 (after_opening (records_of text))))
+sets_read text opening lines is_text = grind (arith, nat_tests, sets, lines-fit)

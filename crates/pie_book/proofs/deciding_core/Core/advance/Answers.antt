@@ -1,7 +1,7 @@
-use Rattle.std.proofs.Common.{◌∙◌, ap, subst, sym}
+use Rattle.std.proofs.lemmas.Bool.Decides.{nat_tests}
+use Rattle.std.proofs.Common.{arith}
 use Rattle.pie_book.proofs.BalanceFacts.{balanced_next}
 use Rattle.pie_book.proofs.CoreFacts.{next-shows}
-use Rattle.pie_book.specs.{CoreView, IsBalanced, closed, snapshot_of}
 use Rattle.pie_book.proofs.deciding_core.Core.advance.Goals as goal
 
 pub returns-clause-represents : goal.returns-clause-represents
@@ -13,7 +13,4 @@ returns-clause-represents c opening history shows =
     (next-shows opening raw history controller_events c.args.caller c.args.command c.decide-recorded.ensures.threshold taken)
 
 pub invariant_of-self : goal.invariant_of-self
-invariant_of-self c =
-    subst (λ (core : CoreView). IsBalanced (snapshot_of core))
-    (sym (c.close.ensures ∙ ap (λ (core : CoreView). closed core) c.decide-recorded.ensures.after))
-    (balanced_next c.self.inside.raw c.args.command c.self.invariant)
+invariant_of-self c = grind (arith, nat_tests, balanced_next)

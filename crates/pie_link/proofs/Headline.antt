@@ -1,5 +1,6 @@
 -- The headline, from the rule of the lock.
-use Rattle.pie_link.proofs.Names.{◌≡◌, ℕ, suc, Option, List, [], ◌∷◌, refl, subst, ⊎_elim, arith, PassKnowledge, Spent, Waits, Holds, HasTwo, Opening}
+use Rattle.std.proofs.lemmas.Bool.Decides.{nat_tests}
+use Rattle.pie_link.proofs.Names.{◌≡◌, ℕ, suc, Option, List, [], ◌∷◌, refl, subst, ⊎_elim, arith, PassKnowledge, Opening}
 use Rattle.pie_link.proofs.Names.{Entry, number_of, events_in, KeptView, IsKept, CallerKnowledge, BeginsWith, HasCallsOf, caller_knowledge, callers_at, callers_of}
 use Rattle.pie_link.proofs.Names.{LockKey, LockState, LiesIn, IsOneHistory, KeepsOneHistory}
 use Rattle.std.specs.List.{All}
@@ -17,10 +18,7 @@ use Rattle.pie_link.specs.Views.{LinkView}
 module _ (P : PassKnowledge Entry Opening → Type 0) (Q : CallerKnowledge → Type 0) (follows : (p : PassKnowledge Entry Opening) → P p → Q (caller_knowledge p)) where
   -- a fact about each pass of a seat is one about each of its callers
   at_seat : (seat : Place Entry Opening) → EachPass P seat → All Q (callers_at seat)
-  at_seat Spent each = All-nil Q
-  at_seat (Waits p) each = All-cons Q (caller_knowledge p) [] (follows p each) (All-nil Q)
-  at_seat (Holds p) each = All-cons Q (caller_knowledge p) [] (follows p each) (All-nil Q)
-  at_seat (HasTwo p q) each = All-cons Q (caller_knowledge p) (caller_knowledge q ∷ []) (follows p each.0) (All-cons Q (caller_knowledge q) [] (follows q each.1) (All-nil Q))
+  at_seat seat each = grind (arith, nat_tests, follows, All-nil, All-cons)
 
   -- a fact about the passes of all seats is one about all callers
   pub at_all : (seats : List (Place Entry Opening)) → ((seat : ℕ) (view : Place Entry Opening) → get_elem? seats seat ≡ some view → EachPass P view)

@@ -1,7 +1,6 @@
 mod Names
 pub mod EntryLists
 pub mod KeptFacts
-pub mod Outcomes
 pub mod Bursting
 pub mod Headline
 pub mod Examples

@@ -27,8 +27,7 @@ unfoldable pub use Rattle.pie_link.specs.Bursts.{burst_within}
 pub use Rattle.pie_link.specs.CallerBursts.{AnswersAll}
 unfoldable pub use Rattle.pie_link.specs.CallerBursts.{TriesToAnswerAll}
 pub use Rattle.pie_link.specs.Entries.{events_in, folded_in, folded_events, folded_for, left_in, left_of, left_when_rolling, number_of, tail_in}
-pub use Rattle.pie_link.specs.Excerpts.{IsExcerptOf}
-pub use Rattle.pie_link.specs.Folds.{IsFold, IsFolded, IsFoldedInto}
+pub use Rattle.pie_link.specs.Results.{IsExcerptOf, IsFold, IsFolded, IsFoldedInto}
 pub use Rattle.pie_link.specs.Headline.{BeginsWith, HasCallsOf, CallerKnowledge, IsOneHistory, LiesIn, LockKey, LockState, callers_at, callers_of, caller_knowledge}
 unfoldable pub use Rattle.pie_link.specs.Headline.{KeepsOneHistory}
 pub use Rattle.pie_link.specs.Kept.{IsKept, KeptView, RepresentsEntries}

@@ -1,7 +1,7 @@
 -- Values that a caller reads.
 use Rattle.std.specs.Prelude.{◌≡◌, List, Result, Ok, Err}
 use Rattle.pie_link.specs.Names.{Event, Opening, Refusal, Told, events_in}
-use Rattle.pie_link.specs.Readings.{IsReading}
+use Rattle.pie_link.specs.Results.{IsReading}
 use Rattle.pie_link.specs.Views.{LinkView, CallerView, HasTurn, WasBusy}
 use Rattle.pie_link.specs.declared.call_result.Tried.{Tried}
 use Rattle.pie_link.specs.declared.call_result.Tried.TheVariants.{Busy}

@@ -1,12 +1,9 @@
 pub mod Entries
-pub mod EntryLaws
 pub mod Kept
 pub mod Bursts
-pub mod BudgetLaws
-pub mod Folds
-pub mod Readings
-pub mod Excerpts
 pub mod Names
+pub mod EntryLaws
+pub mod Results
 pub mod Views
 pub mod Opening
 pub mod Commands

@@ -1,6 +1,5 @@
 //! The laws of a link's entries, and of a burst's budget.
-ghost use Rattle.pie_link.specs.BudgetLaws.{BurstsStayWithin};
-ghost use Rattle.pie_link.specs.EntryLaws.{EntriesLookBack};
+ghost use Rattle.pie_link.specs.EntryLaws.{BurstsStayWithin, EntriesLookBack};
 
 /// The events of a history and the events that its folds returned are those of its first part, followed by those of the
 /// entries after it.

@@ -171,10 +171,13 @@ few_events : (n : ℕ) (xs : List Entry) → All (IsBelow (suc n)) xs → All (�
     → length (events_in xs) ≤ length (own number_of 0 n xs)
 few_events n [] below right = omega arith
 few_events n (e ∷ xs) below right =
-    let less = All-head (IsBelow (suc n)) e xs below in
-    let its = All-head (λ e. number_of e ≡ n → IsRight n e) e xs right in
-    let rest = few_events n xs (All-tail (IsBelow (suc n)) e xs below) (All-tail (λ e. number_of e ≡ n → IsRight n e) e xs right) in
-    grind (arith, nat_tests)
+    grind (
+      arith,
+      nat_tests,
+      All-head (IsBelow (suc n)) e xs below,
+      All-head (λ e. number_of e ≡ n → IsRight n e) e xs right,
+      few_events n xs (All-tail (IsBelow (suc n)) e xs below) (All-tail (λ e. number_of e ≡ n → IsRight n e) e xs right),
+    )
 
 -- ---- the entries of a caller
 

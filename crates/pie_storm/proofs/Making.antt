@@ -29,10 +29,12 @@ folded_none : (opening : Opening) (caller : ℕ) (before xs : List Entry) → No
     → folded_for (is_number caller) opening before xs ≡ []
 folded_none opening caller before [] none = refl
 folded_none opening caller before (entry ∷ xs) none =
-    let first = All-head (λ e. is_within caller (caller + 1) (number_of e) ≡ false) entry xs none in
-    let rest = folded_none opening caller (before ++ entry ∷ []) xs
-    (All-tail (λ e. is_within caller (caller + 1) (number_of e) ≡ false) entry xs none) in
-    grind (arith, nat_tests)
+    grind (
+      arith,
+      nat_tests,
+      All-head (λ e. is_within caller (caller + 1) (number_of e) ≡ false) entry xs none,
+      folded_none opening caller (before ++ entry ∷ []) xs (All-tail (λ e. is_within caller (caller + 1) (number_of e) ≡ false) entry xs none),
+    )
 
 pub folded_same : (law : EntriesLookBack) (opening : Opening) (caller : ℕ) (g h : List Entry) → HasNoMore caller g h
     → folded_for (is_number caller) opening [] h ≡ folded_for (is_number caller) opening [] g
@@ -53,9 +55,12 @@ pub folded_alone : (opening : Opening) (folder : ℕ) (before h : List Entry) �
     → folded_for (is_number folder) opening before h ≡ folded_for (λ caller. true) opening before h
 folded_alone opening folder before [] right = refl
 folded_alone opening folder before (entry ∷ h) right =
-    let first = All-head (IsRight folder) entry h right in
-    let rest = folded_alone opening folder (before ++ entry ∷ []) h (All-tail (IsRight folder) entry h right) in
-    grind (arith, nat_tests)
+    grind (
+      arith,
+      nat_tests,
+      All-head (IsRight folder) entry h right,
+      folded_alone opening folder (before ++ entry ∷ []) h (All-tail (IsRight folder) entry h right),
+    )
 
 module _ (caller : ℕ) where
   pub stays : (h : List Entry) → HasNoMore caller h h

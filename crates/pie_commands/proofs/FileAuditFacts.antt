@@ -1,15 +1,14 @@
 -- An audit of one file after another, of any or of those of one history.
 use Rattle.std.proofs.Common.{arith, append_assoc, true}
 use Rattle.std.proofs.lemmas.Bool.Decides.{nat_tests}
-use Rattle.pie_commands.proofs.Names.{◌≡◌, ◌∙◌, ◌+◌, ◌<◌, ℕ, List, [], ◌∷◌, ◌++◌, add-one, get_or, length, take, Bool, false, Option, Some, None, inl}
+use Rattle.pie_commands.proofs.Names.{◌≡◌, ◌∙◌, ◌+◌, ◌<◌, ℕ, List, [], ◌∷◌, ◌++◌, add-one, get_or, length, take, Bool, false, Option, None, inl}
 use Rattle.pie_commands.proofs.Names.{inr, refl, ap, subst, ◌||◌, Appends, Appends-nil, Appends-trans, append-nil, map-append, flat_map}
-use Rattle.pie_commands.proofs.Names.{flat_map-append, list_any, Text, Joined, EndView, Fault, ReadsNamed, text_given, IfSome, Result, Ok, Err}
-use Rattle.pie_commands.proofs.Names.{FindsEither, JoinsText, records_of, sym, map, HaveOutcomes, AuditsFiles, EndsFiles, HasReadOutcome}
+use Rattle.pie_commands.proofs.Names.{flat_map-append, list_any, Text, Joined, EndView, Fault, ReadsNamed, Result, Ok, Err}
+use Rattle.pie_commands.proofs.Names.{sym, map, HaveOutcomes, AuditsFiles, EndsFiles, HasReadOutcome}
 use Rattle.pie_commands.proofs.Names.{HasFileOutcome, FileOutcome, is_broken, is_unfound, lines_of, outcome_lines, worst}
 use Rattle.pie_commands.proofs.FileFacts.{IsLeft, left-stays, opens-left, reads-given}
 use Rattle.pie_commands.specs.Files.{CanOpen}
 use Rattle.pie_commands.specs.declared.audit.Unaudited.{Unaudited}
-use Rattle.pie_commands.specs.declared.audit.Unaudited.TheVariants.{Unopened, Faulty}
 use Rattle.std.specs.Prelude.{is_err}
 use Rattle.std.proofs.Math.Seq.{take-suc}
 use Rattle.std.proofs.lemmas.List.Folds.{list_any-append}

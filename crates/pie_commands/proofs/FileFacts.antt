@@ -1,14 +1,14 @@
 -- Facts about the text that is read for a named file.
 use Rattle.std.proofs.lemmas.Bool.Decides.{nat_tests}
 use Rattle.std.proofs.Common.{arith}
-use Rattle.std.proofs.Common.{◌≡◌, ◌∙◌, ℕ, List, [], ◌∷◌, ◌++◌, Bool, true, false, not, Option, Some, None, ap, codes, refl, inl, inr, subst, sym}
+use Rattle.std.proofs.Common.{◌≡◌, ℕ, List, [], ◌∷◌, ◌++◌, true, false, Option, Some, None, codes}
 use Rattle.std.specs.List.{list_any}
 use Rattle.std.proofs.lemmas.List.Folds.{list_any-append}
-use Rattle.std.specs.Prelude.{◌⊎◌, ◌||◌, IfSome, IsSome, is_some, if◌then◌else◌}
+use Rattle.std.specs.Prelude.{◌⊎◌, IfSome, IsSome, if◌then◌else◌}
 use Rattle.std.specs.Str.{bytes_eq}
 use Rattle.either.specs.declared.Either.{Either}
 use Rattle.either.specs.Either.{either}
-use Rattle.pie_commands.specs.Files.{CanOpen, CanRead, Name, ReadsNamed, is_dash, left_for, opens_after, opens_by, reads_by, text_given}
+use Rattle.pie_commands.specs.Files.{CanOpen, CanRead, Name, ReadsNamed, is_dash, left_for, opens_after, text_given}
 
 -- the caller's reader is available, or was taken
 abbrev pub Stays : {R : Type 0} → R → Option R → Type 0

@@ -6,10 +6,9 @@ use Rattle.pie_commands.proofs.Names.{◌≡◌, ◌∙◌, ℕ, List, [], ◌�
 use Rattle.pie_commands.proofs.Names.{HasMatchesOf, Text, kind_of, subcommand_name_of, subcommand_rows_of, takes, End, Unable, Failed, Audit, file_in}
 use Rattle.pie_commands.proofs.Names.{files_in, is_forced, is_joined, options_in, pie_app, subcommand_in, Joined, EndView, text_given, Held, Keeps}
 use Rattle.pie_commands.proofs.Names.{HaveOutcomes, FileOutcome, HasFileOutcome, EndsEither, EndsFiles, Answers, EndsAs, EndsTask, EndsTo, Finds}
-use Rattle.pie_commands.proofs.Names.{may_differ, output_for, FindsEither, JoinsText, records_of, list_any, not, ◌++◌, ap, refl, false, None}
-use Rattle.pie_commands.proofs.Names.{if◌then◌else◌, ◌&&◌, IfSome}
-use Rattle.std.specs.Prelude.{is_some}
-use Rattle.pie_commands.specs.Files.{is_dash, opens_after}
+use Rattle.pie_commands.proofs.Names.{may_differ, output_for, FindsEither, JoinsText, records_of, ◌++◌, false}
+use Rattle.pie_commands.proofs.Names.{IfSome}
+use Rattle.pie_commands.specs.Files.{opens_after}
 use Rattle.pie_commands.specs.declared.audit.Unaudited.{Unaudited}
 use Rattle.pie_commands.specs.declared.audit.Unaudited.TheVariants.{Unopened, Faulty}
 use Rattle.clap.specs.Words.{Row}

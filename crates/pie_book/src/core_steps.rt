@@ -207,7 +207,7 @@ impl RawCore {
         let Some(oldest) = self.queue.take() else {
             self.controller.pass(moment);
             self.tally.found_none();
-            return Recorded::of(RecordedEvent::FoundNone {
+            return Recorded::of(RecordedEvent::DepartedEmpty {
                 caller,
                 moment: moment.units(),
             });

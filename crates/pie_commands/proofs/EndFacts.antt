@@ -3,7 +3,7 @@ use Rattle.std.proofs.lemmas.Bool.Decides.{nat_tests}
 use Rattle.pie_commands.proofs.Names.{◌≡◌, ◌≤◌, ℕ, List, Option, Some, arith, IfSome, EndsBy, End, status_of, inr, inl, refl, Ok, Err, TraceFault}
 use Rattle.pie_commands.proofs.Names.{Row, records_of, LastEither, Fault, CutsLast, end_of_cut, last_of, None, subst, sym, Elements, EndsStorm}
 use Rattle.pie_commands.proofs.Names.{elements_in, numbers_in, storm_ends, Done, Failed, IsWrite, Bool, true, false, IsSome, Text, file_of, Held}
-use Rattle.pie_commands.proofs.Names.{IsEmpty, Keeps, Places, Settles, Unplaced, ◌&&◌, if◌then◌else◌, not, after_output, EndsAt, EndsIn, is_whole}
+use Rattle.pie_commands.proofs.Names.{IsEmpty, Keeps, Places, Settles, OutputNotRenamed, ◌&&◌, if◌then◌else◌, not, after_output, EndsAt, EndsIn, is_whole}
 use Rattle.pie_record.specs.Text.{Row as Fields}
 use Rattle.std.proofs.lemmas.Option.{IfSome_then}
 use Rattle.pie_cut.specs.declared.fault.CutFault.TheVariants.{Trace}
@@ -115,7 +115,7 @@ ends-settled works read forced name old mid new ends end there fresh left empty 
   where
     go : (all placed : Bool) → all ≡ is_whole end → Settles placed None forced name left mid new → (all ≡ false → placed ≡ false)
         → (all ≡ true → works ≡ true → MayHave forced (mid name) → placed ≡ true)
-        → EndsAt works read forced name fresh old new ends (if all && not placed then Unplaced else end)
+        → EndsAt works read forced name fresh old new ends (if all && not placed then OutputNotRenamed else end)
     go true true is settles part whole =
         inr (inr (left, empty, promise, rw (sym is) (places-since read forced name left old mid new kept another settles)))
     go true false is settles part whole = inl (

@@ -2,8 +2,8 @@
 use Rattle.pie_commands.proofs.Names.{◌≡◌, [], ◌∷◌, None, Some, codes, refl, true, Text, clap_on_literals, Asks, file_in, files_in, is_joined}
 use Rattle.pie_commands.proofs.Names.{number_or, options_in, output_in, List, Selection, choice_of, Part, Last, Every, Once, around, between}
 use Rattle.pie_commands.proofs.Names.{cut_request_of, Ok, Err, false, Joined, is_broken, lines_of}
-use Rattle.pie_explain.specs.declared.choice.Which.{Which}
-use Rattle.pie_explain.specs.declared.choice.Which.TheVariants.{Number, Lost, All}
+use Rattle.pie_explain.specs.declared.choice.EventChoice.{EventChoice}
+use Rattle.pie_explain.specs.declared.choice.EventChoice.TheVariants.{Number, Lost, All}
 use Rattle.pie_units.specs.declared.when.When.TheVariants.{Moment, Unix}
 use Rattle.pie_units.specs.Date.{day_number}
 use Rattle.pie_units.specs.Utc.{date_part, has_marks, nanos_in, seconds_part, unix_of, utc_in, utc_with}
@@ -61,7 +61,7 @@ unfolding clap_on_literals
 storm name = (refl, refl)
 
 -- these events, at every moment
-abbrev at_all_moments : Which → Selection
+abbrev at_all_moments : EventChoice → Selection
 at_all_moments which = record { which = which; from = None; to = None }
 
 chosen : (name : Text) → let chooses = λ (words : List Text). choice_of (options_in (name ∷ codes "explain" ∷ words)) in

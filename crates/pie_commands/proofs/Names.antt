@@ -29,7 +29,7 @@ pub use Rattle.pie_commands.specs.Words.{app_for, number_of, number_or, output_i
 pub use Rattle.pie_commands.specs.declared.cut.Pieces.TheVariants.{Every, Part}
 pub use Rattle.pie_commands.specs.declared.cut.CutRequest.TheVariants.{Last, Once}
 pub use Rattle.pie_commands.specs.declared.end.End.{End}
-pub use Rattle.pie_commands.specs.declared.end.End.TheVariants.{Done, Failed, Fault, Unable, Unplaced}
+pub use Rattle.pie_commands.specs.declared.end.End.TheVariants.{Done, Failed, Fault, CannotStart, OutputNotRenamed}
 pub use Rattle.pie_commands.specs.declared.options.subcommand.Subcommand.TheVariants.{Audit, Cut, Explain, Migrate, Params, Run, Storm}
 pub use Rattle.pie_cut.specs.Joined.{EndView, JoinsText}
 pub use Rattle.pie_cut.specs.Last.{LastEither}

@@ -3,7 +3,7 @@
 use Rattle.std.proofs.Common.{arith}
 use Rattle.std.proofs.lemmas.Bool.Decides.{nat_tests}
 use Rattle.pie_commands.proofs.Names.{◌≡◌, ◌∙◌, ℕ, List, [], ◌∷◌, Option, Some, Bool, true, subst, sym, IfErr, IfOk, Result, Ok, Err, option_map, App}
-use Rattle.pie_commands.proofs.Names.{HasMatchesOf, Text, kind_of, subcommand_name_of, subcommand_rows_of, takes, End, Unable, Failed, Audit, file_in}
+use Rattle.pie_commands.proofs.Names.{HasMatchesOf, Text, kind_of, subcommand_name_of, subcommand_rows_of, takes, End, CannotStart, Failed, Audit, file_in}
 use Rattle.pie_commands.proofs.Names.{files_in, is_forced, is_joined, options_in, pie_app, subcommand_in, Joined, EndView, text_given, Held, Keeps}
 use Rattle.pie_commands.proofs.Names.{HaveOutcomes, FileOutcome, HasFileOutcome, EndsEither, EndsFiles, Answers, EndsAs, EndsTask, EndsTo, Finds}
 use Rattle.pie_commands.proofs.Names.{may_differ, output_for, FindsEither, JoinsText, records_of, ◌++◌, false}
@@ -24,15 +24,15 @@ use Rattle.pie_commands.proofs.WordFacts.{name-found, options-in, same-word}
 
 -- a subcommand that could not begin wrote nothing
 pub EndsTask-unable : (task : Task) (options : List Row) (known before now : Option (List ℕ)) → now ≡ before
-    → EndsTask task options known Unable before now
+    → EndsTask task options known CannotStart before now
 EndsTask-unable task options known before now same = grind (arith, nat_tests)
 
 EndsAs-unable : (subcommand : Subcommand) (options : List Row) (works : Bool) (input : Option (List ℕ)) (files : Held) (before now : Option (List ℕ)) → now ≡ before
-    → EndsAs subcommand options works input files Unable before now
+    → EndsAs subcommand options works input files CannotStart before now
 EndsAs-unable subcommand options works input files before now same = grind (arith, nat_tests)
 
 EndsTo-unable : (subcommand : Subcommand) (options : List Row) (works : Bool) (input fresh : Option (List ℕ)) (files : Held) (before now : Option (List ℕ))
-    → now ≡ before → EndsTo subcommand options works input fresh files files Unable before now
+    → now ≡ before → EndsTo subcommand options works input fresh files files CannotStart before now
 EndsTo-unable subcommand options works input fresh files before now same = grind (arith, EndsAs-unable, keeps-same)
 
 -- ---- A promise about files that keep their texts also holds of the old files
@@ -135,7 +135,7 @@ answers-performed words matches subcommand rows works input fresh old new end be
 
 -- no subcommand began: memory was short, or the words select none
 pub answers-unable : (words : List Text) (works : Bool) (input fresh : Option (List ℕ)) (held : Held) (end : End) (before now : Option (List ℕ))
-    → (end ≡ Differs → ⊥) → (takes pie_app words ≡ true → (end ≡ Unable) × (now ≡ before)) → Answers words works input fresh held held end before now
+    → (end ≡ Differs → ⊥) → (takes pie_app words ≡ true → (end ≡ CannotStart) × (now ≡ before)) → Answers words works input fresh held held end before now
 answers-unable words works input fresh held end before now same unable = record {
   keeps = λ one. keeps-same held;
   differs = λ is. absurd (same is);

@@ -14,7 +14,7 @@ use Rattle.pie_audit.specs.declared.auditor.Finding.{Finding}
 use Rattle.pie_audit.specs.declared.auditor.Finding.TheVariants as finding
 use Rattle.pie_audit.specs.Text.{FindsEither, finding_line}
 use Rattle.pie_commands.specs.declared.end.End.{End}
-use Rattle.pie_commands.specs.declared.end.End.TheVariants.{Done, Differs, Fault, Unable, Failed}
+use Rattle.pie_commands.specs.declared.end.End.TheVariants.{Done, Differs, Fault, CannotStart, Failed}
 
 -- the exit status of an end
 abbrev pub status_of : End → ℕ
@@ -39,13 +39,13 @@ end_report closed end = if not closed && is_unwritten end then codes "pie: canno
 
 -- the subcommand failed, or could not begin, and nothing was written
 abbrev pub WritesNothing : End → Option (List ℕ) → Option (List ℕ) → Type 0
-WritesNothing end before now = ((end ≡ Unable) ⊎ (end ≡ Failed)) × (now ≡ before)
+WritesNothing end before now = ((end ≡ CannotStart) ⊎ (end ≡ Failed)) × (now ≡ before)
 
 -- the subcommand could not begin and nothing was written; or its end follows from its result for the records of the
 -- text, if the text is known
 abbrev pub EndsBy : {A : Type 0} → (A → End) → (List Row → A → Option (List ℕ) → Option (List ℕ) → Type 0) → Option (List ℕ) → End → Option (List ℕ)
     → Option (List ℕ) → Type 0
-EndsBy {A} end_for has_result known end before now = ((end ≡ Unable) × (now ≡ before))
+EndsBy {A} end_for has_result known end before now = ((end ≡ CannotStart) × (now ≡ before))
     ⊎ ((given : A) × (end ≡ end_for given) × IfSome known (λ text. has_result (records_of text) given before now))
 
 -- ---- `pie run`
@@ -81,7 +81,7 @@ WritesFinding (Ok found) end before now = (end ≡ Fault trace_fault.Write) ⊎ 
 -- the end of an audit of a history or an excerpt: the line of its finding is written, or the writer failed. If the
 -- text has a fault, the reader or memory failed, or the audit could not begin, nothing is written
 abbrev pub EndsAudit : Option (List ℕ) → End → Option (List ℕ) → Option (List ℕ) → Type 0
-EndsAudit known end before now = ((end ≡ Unable) × (now ≡ before))
+EndsAudit known end before now = ((end ≡ CannotStart) × (now ≡ before))
     ⊎ ((found : Result Finding TraceFault) × WritesFinding found end before now × IfSome known (λ text. FindsEither (records_of text) found))
 
 -- ---- `pie migrate`

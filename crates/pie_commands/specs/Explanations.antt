@@ -10,8 +10,8 @@ use Rattle.pie_explain.specs.declared.form.Form.{Form}
 use Rattle.pie_explain.specs.declared.explanation.Explained.{Explained}
 use Rattle.pie_units.specs.declared.moment.Moment.{Moment}
 use Rattle.pie_units.specs.declared.moment.MomentFault.{MomentFault}
-use Rattle.pie_explain.specs.declared.choice.Which.{Which}
-use Rattle.pie_explain.specs.declared.choice.Which.TheVariants.{Number, Tag, Lost, Marked, All}
+use Rattle.pie_explain.specs.declared.choice.EventChoice.{EventChoice}
+use Rattle.pie_explain.specs.declared.choice.EventChoice.TheVariants.{Number, Tag, Lost, Marked, All}
 use Rattle.pie_units.specs.Moment.{moment_in}
 use Rattle.pie_units.specs.When.{when_in}
 use Rattle.pie_units.specs.declared.when.When.{When}
@@ -72,7 +72,7 @@ abbrev pub is_either : Bool → Option ℕ → Bool
 is_either digest flows = not (digest && is_some flows)
 
 -- the chosen events, if exactly one of the five options chooses some; without any of them a summary is of all events
-abbrev pub chosen : Bool → Option ℕ → Option ℕ → Bool → Bool → Bool → Option Which
+abbrev pub chosen : Bool → Option ℕ → Option ℕ → Bool → Bool → Bool → Option EventChoice
 chosen summary (Some event) None false false false = Some (Number event)
 chosen summary None (Some tag) false false false = Some (Tag tag)
 chosen summary None None true false false = Some Lost
@@ -82,7 +82,7 @@ chosen true None None false false false = Some All
 chosen _ _ _ _ _ _ = None
 
 -- the events that these options choose
-abbrev pub chosen_events : List Row → Option Which
+abbrev pub chosen_events : List Row → Option EventChoice
 chosen_events options = chosen (is_summary options) (number_given (codes "event") options) (number_given (codes "tag") options)
     (flag_given (codes "lost") options)
     (flag_given (codes "marked") options) (flag_given (codes "all") options)
@@ -100,7 +100,7 @@ in_order _ _ = true
 
 -- the selection of these events between these bounds, if the bounds and the length of an interval are valid, the length is above 0, and `allowed` is
 -- true
-abbrev pub choice_at : Option Which → Option (Option When) → Option (Option When) → Option (Option ℕ) → Bool → Option Selection
+abbrev pub choice_at : Option EventChoice → Option (Option When) → Option (Option When) → Option (Option ℕ) → Bool → Option Selection
 choice_at (Some which) (Some from) (Some to) (Some every) allowed =
     if lasts every && (allowed && in_order from to) then Some (record { which = which; from = from; to = to }) else None
 choice_at _ _ _ _ allowed = None

@@ -17,7 +17,7 @@ use Rattle.pie_commands.specs.Files.{opens_after, text_given}
 use Rattle.pie_commands.specs.declared.audit.Unaudited.{Unaudited}
 use Rattle.pie_commands.specs.declared.audit.Unaudited.TheVariants.{Unopened, Faulty}
 use Rattle.pie_commands.specs.declared.end.End.{End}
-use Rattle.pie_commands.specs.declared.end.End.TheVariants.{Done, Differs, Fault, Unable, Failed}
+use Rattle.pie_commands.specs.declared.end.End.TheVariants.{Done, Differs, Fault, CannotStart, Failed}
 use Rattle.pie_commands.specs.Ends.{EndsAudit}
 
 -- ---- the lines
@@ -125,7 +125,7 @@ pub record AuditsFiles (works joined : Bool) (input : Option (List ℕ)) (files 
 -- written
 abbrev pub EndsFiles : Bool → Bool → Option (List ℕ) → (Text → Option (List ℕ)) → List Text → End → Option (List ℕ) → Option (List ℕ) → Type 0
 EndsFiles works joined input files names end before now =
-    (end ≡ Fault trace_fault.Write) ⊎ ((end ≡ Unable) × (now ≡ before))
+    (end ≡ Fault trace_fault.Write) ⊎ ((end ≡ CannotStart) × (now ≡ before))
     ⊎ ((unfound : Bool) × (broken : Bool) × (last : Option EndView) × (end ≡ worst unfound broken)
     × AuditsFiles works joined input files names unfound broken last before now)
 

@@ -12,7 +12,7 @@ ghost use Rattle.pie_record.specs.Text.{records_of};
 use crate::end::{End, end_with_fault, named_fault};
 use crate::files::{NamedFiles, reader_named};
 use crate::options::flag;
-use crate::perform::{Task, perform_task_on};
+use crate::perform::{Task, run_task};
 use crate::progress::{ProgressReader, Screen, shows_progress};
 use clap::ArgMatches;
 use either::{Either, Left};
@@ -264,7 +264,7 @@ fn audit_any<H: NamedFiles + Screen, R: Read + Drop, W: Write, E: Write>(
         // The type equals the type of a file's reader, so an audit is compiled once.
         let given: Either<R, H::File> = Left(input);
         let task = Task::Audit;
-        return perform_task_on(rt, alloc, task, options, is_shown, given, output, errors);
+        return run_task(rt, alloc, task, options, is_shown, given, output, errors);
     }
     let are_joined = flag(options, "joined");
     audit_files(

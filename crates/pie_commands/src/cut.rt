@@ -177,7 +177,7 @@ fn cut_last<H: NamedFiles + Screen, R: Read + Drop, W: Write, E: Write>(
 {
     let is_shown = shows_progress(rt, options, true);
     match last_named::<H, R, E>(rt, alloc, is_shown, name, errors) {
-        None => End::Unable,
+        None => End::CannotStart,
         Some(Err(why)) => end_with_fault(errors, why),
         Some(Ok(number)) => {
             let pieces = Pieces::Part(Span::last(number, many));

@@ -19,9 +19,9 @@ pub enum End {
     /// The trace or the history has this fault, or the reader, the writer or memory failed.
     Fault(TraceFault),
     /// A file can't be opened, or memory or a thread is missing at the start. Nothing was written.
-    Unable,
+    CannotStart,
     /// The output file can't be created, or can't be moved onto its name. Each file is unchanged.
-    Unplaced,
+    OutputNotRenamed,
     /// The options select nothing that exists, or one of several files has a fault. The error stream has a line for
     /// it.
     Failed,
@@ -76,7 +76,7 @@ impl End {
         ensures { result ≡ after_output self is_there }
     {
         if self.is_whole() && !is_there {
-            return End::Unplaced;
+            return End::OutputNotRenamed;
         }
         self
     }
@@ -106,10 +106,10 @@ pub(crate) fn end_with_fault<E: Write>(errors: &mut E, why: TraceFault) -> End
 
 /// Returns the end of a subcommand that cannot begin, and writes its line to `errors`.
 pub(crate) fn end_unable<E: Write, D: Display + Drop>(errors: &mut E, text: D) -> End
-    ensures { result ≡ End.Unable }
+    ensures { result ≡ End.CannotStart }
 {
     fault(errors, text);
-    End::Unable
+    End::CannotStart
 }
 
 /// Returns the end for a request that selects nothing, and writes its line to `errors`.

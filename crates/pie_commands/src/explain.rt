@@ -9,7 +9,7 @@ use crate::end::{End, end_failed, end_with_fault, fault};
 use crate::options::{NO_ORDER, bound, flag, in_order, moment, number, parsed};
 use crate::progress::ProgressReader;
 use clap::ArgMatches;
-use pie_explain::{ExplainFault, Form, Records, Selection, Which, Words};
+use pie_explain::{EventChoice, ExplainFault, Form, Records, Selection, Words};
 use pie_summary::{ByFlow, Summary, SumsAlone};
 use std::alloc::Global;
 use std::io::{Read, Write};
@@ -44,19 +44,25 @@ fn is_summary(options: &ArgMatches<'_>) -> bool
 }
 
 /// Returns the chosen events, if exactly one of the five options chooses some. Without any of them a summary is of all events.
-fn chosen_events(options: &ArgMatches<'_>) -> Option<Which>
+fn chosen_events(options: &ArgMatches<'_>) -> Option<EventChoice>
     ensures { result ≡ chosen_events (rows_of (found_of options.now)) }
 {
     let (event, tag) = (number(options, "event"), number(options, "tag"));
     let (lost, marked) = (flag(options, "lost"), flag(options, "marked"));
     let (all, summary) = (flag(options, "all"), is_summary(options));
     match (event, tag, lost, marked, all) {
-        (Some(event), None, false, false, false) => Some(Which::Number(event)),
-        (None, Some(tag), false, false, false) => Some(Which::Tag(tag)),
-        (None, None, true, false, false) => Some(Which::Lost),
-        (None, None, false, true, false) => Some(Which::Marked),
-        (None, None, false, false, true) => Some(Which::All),
-        (None, None, false, false, false) => { if summary { Some(Which::All) } else { None } }
+        (Some(event), None, false, false, false) => Some(EventChoice::Number(event)),
+        (None, Some(tag), false, false, false) => Some(EventChoice::Tag(tag)),
+        (None, None, true, false, false) => Some(EventChoice::Lost),
+        (None, None, false, true, false) => Some(EventChoice::Marked),
+        (None, None, false, false, true) => Some(EventChoice::All),
+        (None, None, false, false, false) => {
+            if summary {
+                Some(EventChoice::All)
+            } else {
+                None
+            }
+        }
         _ => None,
     }
 }

@@ -60,7 +60,7 @@ fn report_counts<E: Write>(
 
 /// Performs `task` with the text of `input`. If progress `is_shown`, it is reported on `errors`. After a run
 /// without a fault the numbers of events and refused records are written there, if the options request it.
-pub(crate) fn perform_task_on<H: Clock, R: Read + Drop, W: Write, E: Write>(
+pub(crate) fn run_task<H: Clock, R: Read + Drop, W: Write, E: Write>(
     rt: &H,
     alloc: Global,
     task: Task,
@@ -116,8 +116,8 @@ pub(crate) fn perform_task<H: NamedFiles + Screen, R: Read + Drop, W: Write, E: 
 {
     let is_shown = shows_progress(rt, options, true);
     match reader_of(rt, file(options), input, errors) {
-        Some(reader) => perform_task_on(rt, alloc, task, options, is_shown, reader, output, errors),
-        None => End::Unable,
+        Some(reader) => run_task(rt, alloc, task, options, is_shown, reader, output, errors),
+        None => End::CannotStart,
     }
 }
 
@@ -166,7 +166,7 @@ fn perform_to_file<H: Threads + Wait + Sync + NamedFiles + Screen, R: Read + Dro
 {
     let is_forced = flag(options, "force");
     let Some(mut made) = create_output(rt, name, file(options), is_forced, errors) else {
-        return End::Unplaced;
+        return End::OutputNotRenamed;
     };
     let end = perform(&*rt, alloc, subcommand, options, input, &mut made, errors);
     let is_there = finish_output(rt, made, name, is_forced, end.is_whole(), errors);

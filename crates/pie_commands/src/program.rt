@@ -63,7 +63,7 @@ pub fn command<H: Threads + Wait + Sync + NamedFiles + Screen, R: Read + Drop, W
         (W.contents output.old) (W.contents output.new) }
 {
     let found = matches_of(alloc, words);
-    let end = perform_found(rt, alloc, &found, input, output, errors);
+    let end = perform_matches(rt, alloc, &found, input, output, errors);
     drop(found);
     end
 }
@@ -76,7 +76,7 @@ fn matches_of<'a>(alloc: Global, words: &'a [String]) -> Result<ArgMatches<'a>, 
 }
 
 /// Performs the subcommand of the command line, or writes the help or the message of `clap`.
-fn perform_found<
+fn perform_matches<
     H: Threads + Wait + Sync + NamedFiles + Screen,
     R: Read + Drop,
     W: Write,
@@ -119,7 +119,7 @@ fn chosen_subcommand<'a, 'b>(
 /// Writes the help that was requested to `output`, or the message of a mistake to `errors`.
 fn mistake<W: Write, E: Write>(error: &Error, output: &mut W, errors: &mut E) -> End
     ensures same { result ≡ End.Differs → ⊥ }
-    ensures memory { kind_of error.now ≡ ErrorKind.OutOfMemory → (result ≡ End.Unable) × (W.contents output.new ≡ W.contents output.old) }
+    ensures memory { kind_of error.now ≡ ErrorKind.OutOfMemory → (result ≡ End.CannotStart) × (W.contents output.new ≡ W.contents output.old) }
     ensures help { (kind_of error.now ≡ ErrorKind.DisplayHelp) ⊎ (kind_of error.now ≡ ErrorKind.DisplayVersion)
         → (result ≡ End.Done) ⊎ (result ≡ End.Fault TraceFault.Write) }
     ensures mistake { (kind_of error.now ≡ ErrorKind.OutOfMemory → ⊥) → (kind_of error.now ≡ ErrorKind.DisplayHelp → ⊥)

@@ -8,7 +8,7 @@ pub use Rattle.std.proofs.lemmas.List.{append-nil}
 pub use Rattle.std.proofs.lemmas.List.Concat.{flat_map-append}
 pub use Rattle.std.proofs.lemmas.List.Elements.{All-cons, All-head, All-tail}
 pub use Rattle.std.specs.Prelude.{decimal, unwrap_or, ◌&&◌, ◌||◌}
-pub use Rattle.pie_excerpt.specs.{All, Appends, HasPreamble, CoreView, Draft, EndRefusal, Err, Event, ExcerptView, Flaw, HasField, IfSome, IsWritten}
+pub use Rattle.pie_excerpt.specs.{All, Appends, HasPreamble, CoreView, Draft, EndRefusal, Err, Event, ExcerptView, RecordFault, HasField, IfSome, IsWritten}
 pub use Rattle.pie_excerpt.specs.{None, Ok, Opening, Option, Packet, QueueRefusal, RawCycle, Result, Resume, ResumeFits, ResumeRefusal, ResumingView}
 pub use Rattle.pie_excerpt.specs.{Row, SetterFits, Some, CoreSnapshot, TraceFault, Waiting, WaitingFits, and_then, append_known, are_plain, are_registers}
 pub use Rattle.pie_excerpt.specs.{begun_at, begun_by, begun_with, checked_opening, choices_of, chosen_row, codes, core_by, core_of, cycle_bytes}

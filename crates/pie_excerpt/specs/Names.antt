@@ -31,5 +31,5 @@ pub use Rattle.pie_record.specs.Text.{rows_setup, HasField, Row, records_of, tex
 unfoldable pub use Rattle.pie_record.specs.Text.{rows_text}
 pub use Rattle.pie_record.specs.Words.{ecn_word, mode_word}
 pub use Rattle.pie_record.specs.Write.{chosen_row, decay_row, event_row, nine_of}
-pub use Rattle.pie_record.specs.declared.{fault.Flaw.Flaw, fault.TraceFault.TraceFault, first_record.Draft.Draft}
+pub use Rattle.pie_record.specs.declared.{fault.RecordFault.RecordFault, fault.TraceFault.TraceFault, first_record.Draft.Draft}
 pub use Rattle.pie_text.specs.Plain.{are_plain, onto}

@@ -9,8 +9,8 @@ use Rattle.pie_audit.specs.Follower.{Follows}
 use Rattle.pie_audit.specs.Finding.{finding_from}
 use Rattle.pie_explain.specs.declared.fault.ExplainFault.{ExplainFault}
 use Rattle.pie_explain.specs.declared.fault.ExplainFault.TheVariants.{Trace, Differs, Earlier, NoEvent, NoTag, NoneWithin}
-use Rattle.pie_explain.specs.declared.choice.Which.{Which}
-use Rattle.pie_explain.specs.declared.choice.Which.TheVariants.{Number, Tag, Lost, Marked, All}
+use Rattle.pie_explain.specs.declared.choice.EventChoice.{EventChoice}
+use Rattle.pie_explain.specs.declared.choice.EventChoice.TheVariants.{Number, Tag, Lost, Marked, All}
 use Rattle.pie_explain.specs.Explanations.{explanations_since}
 use Rattle.pie_audit.specs.declared.auditor.Finding.TheVariants as finding
 
@@ -21,7 +21,7 @@ no_event before event events = if nat_lt 0 event && nat_le event before then Ear
 
 -- the result if no event was explained, by the selection (`whole` if it has no bounds), the number of events before
 -- the text, and the number up to its end
-abbrev pub none_picked : Bool → Which → ℕ → ℕ → Result ℕ ExplainFault
+abbrev pub none_picked : Bool → EventChoice → ℕ → ℕ → Result ℕ ExplainFault
 none_picked true (Number event) before events = Err (no_event before event events)
 none_picked true (Tag tag) before events = Err (NoTag tag)
 none_picked false (Number event) before events = Err NoneWithin

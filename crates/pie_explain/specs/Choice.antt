@@ -8,8 +8,8 @@ use Rattle.pie_event.specs.declared.command.Answer.{Answer}
 use Rattle.pie_event.specs.declared.command.Answer.TheVariants.{DroppedEarly, DroppedBytes, DroppedPackets, Left}
 use Rattle.pie_event.specs.declared.command.Answer.TheVariants as answer
 use Rattle.pie_event.specs.declared.command.Event.{Event}
-use Rattle.pie_explain.specs.declared.choice.Which.{Which}
-use Rattle.pie_explain.specs.declared.choice.Which.TheVariants.{Number, Tag, Lost, Marked, All}
+use Rattle.pie_explain.specs.declared.choice.EventChoice.{EventChoice}
+use Rattle.pie_explain.specs.declared.choice.EventChoice.TheVariants.{Number, Tag, Lost, Marked, All}
 
 -- the packet that left
 abbrev pub packet_left : Answer → Option Packet
@@ -42,7 +42,7 @@ is_marked answer.Marked = true
 is_marked _ = false
 
 -- true if the event with this number is chosen
-abbrev pub chooses : Which → ℕ → Event → Bool
+abbrev pub chooses : EventChoice → ℕ → Event → Bool
 chooses (Number wanted) number event = wanted == number
 chooses (Tag tag) number event = has_tag tag event
 chooses Lost number event = is_lost event.answer

@@ -7,7 +7,7 @@ use pie_queue::Packet;
 
 /// The choice of the events to explain.
 #[derive(Clone, Copy)]
-pub enum Which {
+pub enum EventChoice {
     /// The event with this number, counted from 1.
     Number(u64),
     /// Every event of a packet with this tag: its arrival and its departure.
@@ -61,7 +61,7 @@ fn is_marked(answer: Answer) -> bool
     matches!(answer, Answer::Marked)
 }
 
-impl Which {
+impl EventChoice {
     ghost use Rattle.pie_explain.specs.Choice.{chooses};
 
     /// Returns true if the event with this number is chosen.
@@ -69,11 +69,11 @@ impl Which {
         ensures { result ≡ chooses self number event.now }
     {
         match self {
-            Which::Number(wanted) => wanted == number,
-            Which::Tag(tag) => has_tag(tag, event),
-            Which::Lost => is_lost(event.answer),
-            Which::Marked => is_marked(event.answer),
-            Which::All => true,
+            EventChoice::Number(wanted) => wanted == number,
+            EventChoice::Tag(tag) => has_tag(tag, event),
+            EventChoice::Lost => is_lost(event.answer),
+            EventChoice::Marked => is_marked(event.answer),
+            EventChoice::All => true,
         }
     }
 }

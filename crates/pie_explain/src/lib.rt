@@ -25,7 +25,7 @@ mod text;
 mod text_cache;
 pub mod units;
 
-pub use choice::Which;
+pub use choice::EventChoice;
 pub use explainer::{explain, increase};
 pub use explanation::{Explained, Explanation, moment_of};
 pub use fault::ExplainFault;

@@ -2,7 +2,7 @@
 ghost use Rattle.std.specs.Prelude.{◌≡◌};
 ghost use Rattle.pie_explain.specs.Selection.{is_from, is_to, time_of};
 
-use crate::choice::Which;
+use crate::choice::EventChoice;
 use pie_audit::Auditor;
 use pie_book::Event;
 use pie_record::Clock;
@@ -12,7 +12,7 @@ use pie_units::When;
 #[derive(Clone, Copy)]
 pub struct Selection {
     /// The choice of events.
-    pub which: Which,
+    pub which: EventChoice,
     /// The first effective moment or wall-clock time; `None` without such a bound.
     pub from: Option<When>,
     /// The last effective moment or wall-clock time; `None` without such a bound.
@@ -60,7 +60,7 @@ impl Selection {
     ghost use Rattle.pie_explain.specs.Selection.{is_whole, picks};
 
     /// Returns the selection of these events, at every moment.
-    pub fn of(which: Which) -> Selection
+    pub fn of(which: EventChoice) -> Selection
         ensures { result ≡ record { which = which; from = None; to = None } }
     {
         Selection {
@@ -77,7 +77,7 @@ impl Selection {
         ensures { result ≡ picks self.now number moment auditor.now.clock event.now }
     {
         match (self.which, self.from, self.to) {
-            (Which::All, None, None) => true,
+            (EventChoice::All, None, None) => true,
             _ => self.picks_apart(number, moment, auditor, event),
         }
     }

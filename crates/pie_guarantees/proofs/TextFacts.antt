@@ -6,7 +6,7 @@ use Rattle.pie_guarantees.proofs.Names.{All-tail, first_bad, Command, Event, Ope
 use Rattle.std.specs.List.{filter_map}
 use Rattle.pie_event.specs.Opening.{opening_refusal}
 use Rattle.pie_event.specs.Ranges.{CommandFits}
-use Rattle.pie_record.specs.declared.fault.Flaw.{Flaw}
+use Rattle.pie_record.specs.declared.fault.RecordFault.{RecordFault}
 use Rattle.pie_record.specs.declared.first_record.Draft.{Draft}
 use Rattle.pie_record.specs.declared.first_record.FirstKind.{FirstKind}
 use Rattle.pie_record.specs.declared.history_record.Line.{Line}
@@ -29,7 +29,7 @@ row-opens : (row : Row) (opening : Opening) → opening_of row ≡ Ok opening �
 unfolding opening_of
 row-opens row opening = by (first_kind row)
   where
-    read : (kind : FirstKind) (o : Result Draft Flaw) → opening_read kind o ≡ Ok opening → OpensWell opening
+    read : (kind : FirstKind) (o : Result Draft RecordFault) → opening_read kind o ≡ Ok opening → OpensWell opening
     read kind (Err what) e = cc
     read kind (Ok draft) e =
         let c = checked kind draft opening e in

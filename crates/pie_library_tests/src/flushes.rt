@@ -3,7 +3,7 @@
 
 use pie_audit::{Finding, write_finding};
 use pie_book::{Answer, Command, Event, Opening};
-use pie_explain::{ExplainFault, Records, Selection, Which, explain};
+use pie_explain::{EventChoice, ExplainFault, Records, Selection, explain};
 use pie_params::{Elements, Params};
 use pie_trace::{TraceFault, migrate, run_trace, run_trace_within, write_history};
 use pie_units::{opening_for, write_opening};
@@ -80,7 +80,7 @@ fn is_write(fault: Option<TraceFault>) -> bool {
 
 fn explained(alloc: Global, text: &[u8], writer: &mut Sink) -> bool {
     let report = Records { by_wall: false };
-    let answer = explain(alloc, text, writer, Selection::of(Which::All), report);
+    let answer = explain(alloc, text, writer, Selection::of(EventChoice::All), report);
     matches!(answer, Err(ExplainFault::Trace(TraceFault::Write)))
 }
 

@@ -3,8 +3,8 @@ ghost use Rattle.std.specs.Prelude.{◌≡◌, ◌<◌, Bool, drop, length, map,
 ghost use Rattle.pie_port.specs.{Reply, always, has_left_or_updated, PieEvent, EventCall, Arrive, Depart, asks, command_unless, call_of_event, event_answered};
 ghost use Rattle.pie_port.specs.{has_bad_ecn, IsTriedAll, TriesAll, budget_of};
 
-use crate::code::{BUSY, CLOSED, of_refusal};
-use crate::event_results::{EventCall, fill_answer, fill_number};
+use crate::code::{BUSY, CLOSED, code_of_refusal};
+use crate::event_results::{EventCall, fill_answer, fill_code};
 use crate::handle::PiePort;
 use crate::port::{Port, has_bad_ecn};
 use pie_abi::PieEvent;
@@ -140,11 +140,11 @@ fn fill_event(event: &mut PieEvent, asked: EventCall, caller: u16, reply: &Reply
 {
     let asked = call_of_event(asked, event);
     if has_bad_ecn(asked, event) {
-        fill_number(event, asked, BAD_ECN);
+        fill_code(event, asked, BAD_ECN);
     } else {
         match reply {
             Ok(reply) => fill_answer(event, asked, &reply.answer),
-            Err(why) => fill_number(event, asked, of_refusal(why)),
+            Err(why) => fill_code(event, asked, code_of_refusal(why)),
         }
     }
     event.caller = caller;

@@ -43,7 +43,7 @@ pub(crate) const TOO_SMALL: u32 = 129;
 
 /// Returns the number of an answer.
 #[inline(always)]
-pub(crate) fn of_answer(answer: &Answer) -> u32
+pub(crate) fn code_of_answer(answer: &Answer) -> u32
     ensures { result ≡ answer_number answer.now }
 {
     match answer {
@@ -57,7 +57,7 @@ pub(crate) fn of_answer(answer: &Answer) -> u32
 }
 
 /// Returns the number of a refusal.
-pub(crate) fn of_refusal(why: &Refusal) -> u32
+pub(crate) fn code_of_refusal(why: &Refusal) -> u32
     ensures { result ≡ refusal_number why.now }
 {
     match why {
@@ -71,12 +71,12 @@ pub(crate) fn of_refusal(why: &Refusal) -> u32
 
 /// Returns the number of a call's result.
 #[inline(always)]
-pub(crate) fn of_reply(reply: &Result<Told<Answer>, Tried<Refusal>>) -> u32
+pub(crate) fn code_of_reply(reply: &Result<Told<Answer>, Tried<Refusal>>) -> u32
     ensures { result ≡ code_of reply.now }
 {
     match reply {
-        Ok(reply) => of_answer(&reply.answer),
+        Ok(reply) => code_of_answer(&reply.answer),
         Err(Tried::Busy) => BUSY,
-        Err(Tried::Refused(why)) => of_refusal(why),
+        Err(Tried::Refused(why)) => code_of_refusal(why),
     }
 }

@@ -3,7 +3,7 @@ ghost use Rattle.std.specs.Prelude.{◌≡◌};
 ghost use Rattle.pie_port.specs.{set_event, code_of, answered_event, numbered_event, under};
 ghost use Rattle.pie_port.specs.Events.{filled};
 
-use crate::code::{BUSY, of_answer, of_refusal, of_reply};
+use crate::code::{BUSY, code_of_answer, code_of_refusal, code_of_reply};
 use pie_abi::PieEvent;
 use pie_abi::event::{DEPART, PARAMS, RESET, UPDATE};
 use pie_event::{Answer, Refusal};
@@ -24,7 +24,7 @@ pub enum EventCall {
 
 /// Writes the number `number`, and 0 to the numbers that the call does not use.
 #[inline(always)]
-pub(crate) fn fill_number(event: &mut PieEvent, asked: EventCall, number: u32)
+pub(crate) fn fill_code(event: &mut PieEvent, asked: EventCall, number: u32)
     ensures { event.new ≡ numbered_event asked event.old number }
 {
     match asked {
@@ -40,8 +40,8 @@ pub(crate) fn fill_number(event: &mut PieEvent, asked: EventCall, number: u32)
 pub(crate) fn fill_answer(event: &mut PieEvent, asked: EventCall, answer: &Answer)
     ensures { event.new ≡ answered_event asked event.old answer.now }
 {
-    let number = of_answer(answer);
-    fill_number(event, asked, number);
+    let number = code_of_answer(answer);
+    fill_code(event, asked, number);
     match answer {
         Answer::Left(packet) => {
             event.tag = packet.tag;
@@ -73,12 +73,12 @@ pub(crate) fn fill(
         Ok(reply) => {
             fill_answer(event, asked, &reply.answer);
             event.caller = caller;
-            of_answer(&reply.answer)
+            code_of_answer(&reply.answer)
         }
         Err(Tried::Busy) => BUSY,
         Err(Tried::Refused(why)) => {
-            let number = of_refusal(why);
-            fill_number(event, asked, number);
+            let number = code_of_refusal(why);
+            fill_code(event, asked, number);
             event.caller = caller;
             number
         }
@@ -94,7 +94,7 @@ pub(crate) fn fill_set(
     ensures code { result ≡ code_of reply.now }
     ensures event { event.new ≡ set_event caller event.old reply.now }
 {
-    let number = of_reply(reply);
+    let number = code_of_reply(reply);
     if !matches!(reply, Err(Tried::Busy)) {
         event.fill_other(PARAMS, number);
         event.caller = caller;

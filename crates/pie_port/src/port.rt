@@ -4,7 +4,7 @@ ghost use Rattle.std.specs.Prelude.{vec_capacity};
 ghost use Rattle.pie_port.specs.{arc_value, has_bad_ecn};
 
 use crate::code::{NO_MEMORY, ONE_NUMBER};
-use crate::event_results::{EventCall, fill, fill_number, fill_set};
+use crate::event_results::{EventCall, fill, fill_code, fill_set};
 use crate::excerpt::ExcerptText;
 use crate::folding::{MOST, room, write_folded};
 use atomic_table::TableRule;
@@ -118,7 +118,7 @@ impl Port {
     {
         let caller = self.caller.first();
         if has_bad_ecn(asked, event) {
-            fill_number(event, asked, BAD_ECN);
+            fill_code(event, asked, BAD_ECN);
             event.caller = caller;
             return BAD_ECN;
         }

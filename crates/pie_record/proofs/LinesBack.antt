@@ -7,7 +7,7 @@ use Rattle.std.proofs.lemmas.Slice.Eq.{bytes_eq-Decides}
 use Rattle.pie_record.specs.Names.{Answer, Command, Clock, Field}
 use Rattle.pie_record.specs.{One, Two, ◌≡◌, ◌<◌, ◌==◌, ◌^◌, ℕ, List, [], ◌∷◌, ◌++◌, Bool, true, length, decimal, refl, Option, Some, None, Result, Ok}
 use Rattle.pie_record.specs.{codes, ⊤, field_at, Packet, AnswerFits, RegistersFit, StatsFit, Empty, Left, Updated, Done, Arrive, Depart, Update}
-use Rattle.pie_record.specs.{Reset, SetParams, Event, CommandFields, CommandKind, Flaw, Line, Version, Three, clock_at, clock_in, clock_row, most_moment}
+use Rattle.pie_record.specs.{Reset, SetParams, Event, CommandFields, CommandKind, RecordFault, Line, Version, Three, clock_at, clock_in, clock_row, most_moment}
 use Rattle.pie_record.specs.{command_at, command_kind, is_kind, most_u128, most_u64, packet_at, word_at, active_line, answer_at, departure_at}
 use Rattle.pie_record.specs.{event_line, has_length, line_by, line_for, line_of, made, note_line, numbers_at, registers_at, shown_line, update_at}
 use Rattle.pie_record.specs.{verdict_of, number, EventFits, AreLinesOf, Row, request_of, word_of_answer, command_fields, event_row, line_rows, without_notes}
@@ -21,7 +21,7 @@ use Rattle.pie_record.proofs.FieldFacts.{found, same-bytes}
 use Rattle.pie_record.proofs.HistoryFacts.{read-all}
 use Rattle.pie_record.proofs.NumberFacts.{number-back}
 use Rattle.pie_record.specs.declared.command.CommandFields.TheVariants as asked
-use Rattle.pie_record.specs.declared.fault.Flaw.TheVariants as flaw
+use Rattle.pie_record.specs.declared.fault.RecordFault.TheVariants as flaw
 use Rattle.pie_record.specs.declared.history_record.Line.TheVariants as line
 use Rattle.pie_record.specs.declared.trace_record.Request.TheVariants as request
 use Rattle.pie_record.specs.declared.words.AnswerWord.TheVariants as said
@@ -85,7 +85,7 @@ change-read : (row : Row) (caller moment : ℕ) (asks : CommandFields) → Has r
     → moment < 2 ^ 64 → Says (change_at row caller moment) asks → Reads row kind.Params asks
 unfolding change_at command_fields
 change-read row caller moment asks who when few small e =
-    let p = and_after (params_at row 3) (λ (p : RawParams). let it : Result CommandFields Flaw = Ok (change_to caller moment p (first_bad p)) in it) asks e in
+    let p = and_after (params_at row 3) (λ (p : RawParams). let it : Result CommandFields RecordFault = Ok (change_to caller moment p (first_bad p)) in it) asks e in
     by p.got (params-read row p.got p.is) (first_bad p.got) refl p.rest
   where
     by : (p : RawParams) → ParamsRead row p → (bad : Option Field) → first_bad p ≡ bad → Says (Ok (change_to caller moment p bad)) asks
@@ -334,7 +334,7 @@ unfolding event_line
 event-read row k parsed known e =
     let long = tested (has_length k (length row)) _ _ parsed e in
     let a = and_after (command_at row k) _ parsed long.1 in
-    let b = and_after (answer_at row k) (λ (answer : Answer). let it : Result Line Flaw = Ok (line_for a.got answer) in it) parsed a.rest in
+    let b = and_after (answer_at row k) (λ (answer : Answer). let it : Result Line RecordFault = Ok (line_for a.got answer) in it) parsed a.rest in
     let read = command-read row k a.got a.is in
     let ends = answer-ends row a.got b.got (subst (λ (k : CommandKind). has_length k (length row) ≡ true) read.kind long.0)
     (subst (λ (k : CommandKind). Says (answer_at row k) b.got) read.kind b.is) in
@@ -363,7 +363,7 @@ event-read row k parsed known e =
 clock-parsed : (version : Version) (row : Row) (parsed : Line) → is_kind row (codes "clock") ≡ true
     → Says (and_then (clock_in version row) (λ clock. Ok (line.Clock clock))) parsed → IsReadFrom row parsed
 clock-parsed version row parsed is e =
-    let a = and_after (clock_in version row) (λ (clock : Clock). let it : Result Line Flaw = Ok (line.Clock clock) in it) parsed e in
+    let a = and_after (clock_in version row) (λ (clock : Clock). let it : Result Line RecordFault = Ok (line.Clock clock) in it) parsed e in
     let read = clock-read version row a.got a.is in
     read-as (IsReadFrom row) (line.Clock a.got) parsed a.rest (read.fits, ap (λ (r : Row). r ∷ []) (sym (read.is is)))
 

@@ -7,7 +7,7 @@ use Rattle.std.proofs.lemmas.List.Elements.{All-head, All-nil, All-tail}
 use Rattle.pie_event.specs.declared.profile.Profile.TheVariants.{One, Two}
 use Rattle.pie_record.specs.{Opening, ◌≡◌, ◌<◌, ◌+◌, ◌^◌, ℕ, List, [], ◌∷◌, ◌++◌, map, Bool, true, false, decimal, refl, if◌then◌else◌, Some, None}
 use Rattle.pie_record.specs.{Result, Ok, field_at, usual, default_profile, Elements, Half, Zero, RawParams, first_bad, Mode, Bounded, Rolling}
-use Rattle.pie_record.specs.{Profile, are_of_version_two, opening_refusal, ParamsFit, Flaw, TraceFault, Draft, FirstKind, chosen_at, decay_at}
+use Rattle.pie_record.specs.{Profile, are_of_version_two, opening_refusal, ParamsFit, RecordFault, TraceFault, Draft, FirstKind, chosen_at, decay_at}
 use Rattle.pie_record.specs.{draft_at, elements_at, first_fields, first_kind, holds_limits, limits_at, profile_of, version_one_fields}
 use Rattle.pie_record.specs.{version_three_fields, version_two_fields, one_of_two, opening_of, opening_read, params_at, LimitsFit, NineFit, Row}
 use Rattle.pie_record.specs.{delay_word, mode_word, picking_word, profile_number, size_word, step_word, are_default, are_usual, chosen_row}
@@ -33,7 +33,7 @@ abbrev pub numbers_row : ℕ → Limits → Row → Row
 numbers_row moment limits params = map decimal (moment ∷ limits.packets ∷ limits.tail ∷ limits.events ∷ []) ++ params
 
 -- the draft of these numbers, parameters and choices
-abbrev pub drafted : ℕ → Limits → RawParams → Choices → Result Draft Flaw
+abbrev pub drafted : ℕ → Limits → RawParams → Choices → Result Draft RecordFault
 drafted moment limits params choices = Ok (record { moment = moment; limits = limits; params = params; choices = choices })
 
 params-behind : (a b c d : List ℕ) (params : RawParams) (more : Row) → NineFit params

@@ -41,6 +41,6 @@ pub use Rattle.pie_params.specs.declared.elements.Picking.TheVariants.{Derandomi
 pub use Rattle.pie_params.specs.declared.elements.Size.TheVariants.{Scaled, Unscaled}
 pub use Rattle.pie_params.specs.declared.elements.Step.TheVariants.{Capped, Uncapped}
 pub use Rattle.pie_record.specs.declared.{clock.Clock.Clock, command.CommandFields.CommandFields, command.BadChange.BadChange, command.CommandKind.CommandKind}
-pub use Rattle.pie_record.specs.declared.{fault.Flaw.Flaw, fault.TraceFault.TraceFault, first_record.Draft.Draft, first_record.FirstKind.FirstKind}
+pub use Rattle.pie_record.specs.declared.{fault.RecordFault.RecordFault, fault.TraceFault.TraceFault, first_record.Draft.Draft, first_record.FirstKind.FirstKind}
 pub use Rattle.pie_record.specs.declared.{history_record.Line.Line, trace_record.Request.Request, version.Version.Version}
 pub use Rattle.pie_record.specs.declared.version.Version.TheVariants.{One, Three, Two}

@@ -36,7 +36,7 @@ pub mod words;
 
 pub use clock::Clock;
 pub use command::BadChange;
-pub use fault::{ExcerptFault, Flaw, OpenFault, TraceFault};
+pub use fault::{ExcerptFault, OpenFault, RecordFault, TraceFault};
 pub use history_reader::HistoryLines;
 pub use history_record::Line;
 pub use law::{

@@ -4,7 +4,7 @@ use Rattle.std.specs.List.{flat_map}
 use Rattle.pie_aqm.specs.Places.{Place, places}
 use Rattle.pie_explain.specs.declared.form.Form.{Form}
 use Rattle.pie_explain.specs.declared.explanation.Explained.{Explained}
-use Rattle.pie_explain.specs.declared.choice.Which.TheVariants.{Lost, Marked}
+use Rattle.pie_explain.specs.declared.choice.EventChoice.TheVariants.{Lost, Marked}
 use Rattle.pie_explain.specs.Output.{clock_for, header_of}
 use Rattle.pie_explain.specs.Choice.{chooses}
 use Rattle.pie_explain.specs.Words.{words_by}

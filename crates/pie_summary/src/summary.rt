@@ -10,7 +10,7 @@ use crate::meter::Meter;
 use crate::period::{Period, Sums, begins, has_summary, period_of, starts};
 use crate::record::{NAMES, push_record};
 use crate::words::{Written, push_words};
-use pie_explain::{Explained, Form, Report, Which, push_header};
+use pie_explain::{EventChoice, Explained, Form, Report, push_header};
 use pie_text::{LongRow, Page};
 use std::alloc::AllocError;
 
@@ -104,7 +104,7 @@ fn is_lost_or_marked(explained: &Explained) -> bool
     ensures { result ≡ is_lost_or_marked explained.now }
 {
     let (number, event) = (explained.explanation.number, &explained.explanation.event);
-    Which::Lost.chooses(number, event) || Which::Marked.chooses(number, event)
+    EventChoice::Lost.chooses(number, event) || EventChoice::Marked.chooses(number, event)
 }
 
 /// Writes the words for an event that lost or marked a packet, if packets are explained.

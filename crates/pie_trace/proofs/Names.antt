@@ -11,7 +11,7 @@ pub use Rattle.pie_record.specs.{Field.and_then, Field.number_at, FirstRecord.fi
 pub use Rattle.pie_record.specs.{ReadBack.TextsAreReadBack, Text.TakesRow, Text.Took, declared.first_record.Draft.Draft}
 pub use Rattle.pie_text.proofs.{LostFacts.lost-later, WriteFacts.contents-read}
 pub use Rattle.pie_trace.specs.{Answer, Appends, Ask, BadParams, Begins, BookRepresents, BookView, Bounded, Clean, Clock, CoreView, Err, Event}
-pub use Rattle.pie_trace.specs.{FirstKind, Flaw, Fold, FoldRefusal, HasField, HasOutcome, HaveSameLines, IfErr, IfOk, IfSome, IsAt, IsHistoryText}
+pub use Rattle.pie_trace.specs.{FirstKind, RecordFault, Fold, FoldRefusal, HasField, HasOutcome, HaveSameLines, IfErr, IfOk, IfSome, IsAt, IsHistoryText}
 pub use Rattle.pie_trace.specs.{IsProgressOf, IsWrite, Line, NoDeviceFailed, None, Ok, OnOk, One, Opening, Option, Progress, Promises, Refusal}
 pub use Rattle.pie_trace.specs.{Registers, RemainingLines, Replies, Represents, Request, Result, Rolling, Row, Show, Some, Stats, Tally, Three}
 pub use Rattle.pie_trace.specs.{TraceFault, Two, Version, after, append_known, apply_in, beginning_of_preamble, closed, code_of, core_after, end_at}

@@ -1,6 +1,6 @@
 -- The history text of a trace is read back: its opening, the events of its run, and notes.
 use Rattle.pie_trace.proofs.Names.{All, All-append, All-cons, All-nil, AreLegal, AreLinesOf, Ask, BadParams, Begins, Bool, CanBeMade, Clean, Clock}
-use Rattle.pie_trace.proofs.Names.{Command, Draft, Err, Event, Finding, FirstKind, Flaw, Fold, FoldRefusal, IsHistoryText, IsLegal, Line, List, Mode}
+use Rattle.pie_trace.proofs.Names.{Command, Draft, Err, Event, Finding, FirstKind, RecordFault, Fold, FoldRefusal, IsHistoryText, IsLegal, Line, List, Mode}
 use Rattle.pie_trace.proofs.Names.{None, Ok, Opening, Option, Preamble, Progress, Promises, Refusal, Reply, Represents, Request, Result, Row, RunEnd}
 use Rattle.pie_trace.proofs.Names.{Show, Some, Tally, TextsAreReadBack, Three, TraceFault, Version, [], after, and_then, ap, append-nil, append_assoc}
 use Rattle.pie_trace.proofs.Names.{arith, before_fault, beginning_of_preamble, code_of, decision, drop, end_left, end_of, event_of, false, fault_from}
@@ -148,7 +148,7 @@ each-good version most opening P none one number progress (row ∷ rows) =
     rest : List Row
     rest = before_fault version most (number + 1) rows
 
-    by : (o : Option TraceFault) (r : Result Request Flaw) → record_fault version most number row ≡ o → request_of version row ≡ r
+    by : (o : Option TraceFault) (r : Result Request RecordFault) → record_fault version most number row ≡ o → request_of version row ≡ r
         → ((request : Request) → P (number + 1) (after opening progress request) rest (requests_of version rest))
         → P number progress (before_fault version most number (row ∷ rows)) (requests_of version (before_fault version most number (row ∷ rows)))
     by o r e q later = grind (arith, nat_tests)
@@ -219,7 +219,7 @@ pub opened : Promises → (row : Row) (opening : Opening) → opening_of row ≡
 unfolding opening_of
 opened held row opening = by (first_kind row) refl
   where
-    read : (kind : FirstKind) → first_kind row ≡ Some kind → (o : Result Draft Flaw) → opening_read kind o ≡ Ok opening
+    read : (kind : FirstKind) → first_kind row ≡ Some kind → (o : Result Draft RecordFault) → opening_read kind o ≡ Ok opening
         → Opened row opening
     read kind is (Err what) e = cc
     read kind is (Ok draft) e =

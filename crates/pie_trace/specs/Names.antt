@@ -12,7 +12,7 @@ pub use Rattle.pie_record.specs.{Fault.fault_at, Fault.is_device, Field.and_then
 pub use Rattle.pie_record.specs.{Text.HasField, Text.Row, Text.records_of, Text.text_of, Write.command_fields, Write.version_two_row}
 pub use Rattle.pie_record.specs.HistoryLines.{RemainingLines, event_count, events_in, fault_from, history_lines, line_in, lines_from}
 pub use Rattle.pie_record.specs.HistoryLines.{remaining_after_opening}
-pub use Rattle.pie_record.specs.declared.{fault.Flaw.Flaw, fault.TraceFault.TraceFault, first_record.FirstKind.FirstKind, history_record.Line.Line}
+pub use Rattle.pie_record.specs.declared.{fault.RecordFault.RecordFault, fault.TraceFault.TraceFault, first_record.FirstKind.FirstKind, history_record.Line.Line}
 pub use Rattle.pie_record.specs.declared.{trace_record.Request.Request, version.Version.Version}
 pub use Rattle.pie_record.specs.declared.trace_record.Request.TheVariants.{Ask, BadParams, Clock, Fold, Show, Tally}
 pub use Rattle.pie_record.specs.declared.version.Version.TheVariants.{One, Three, Two}

@@ -35,6 +35,6 @@ pub use law::{
 };
 pub use migration::migrate;
 pub use pie_book::Opening;
-pub use pie_record::{Flaw, HistoryLines, Line, OpenFault, TraceFault, Version};
+pub use pie_record::{HistoryLines, Line, OpenFault, RecordFault, TraceFault, Version};
 pub use pie_text::write_history;
 pub use run::{RunEnd, run_trace, run_trace_within};

@@ -1,6 +1,6 @@
 use Rattle.pie_explain.proofs.Names.{◌≡◌, ◌∙◌, [], ◌∷◌, ◌++◌, Some, true, false, ap, refl, rules, is_some, events_of, none_of, sym}
 use Rattle.pie_explain.proofs.ExplainFacts.{clock-same, ended-represents, explains-silent, explains-reported, given-none, given-reported, reported-represents}
-use Rattle.pie_explain.proofs.explainer.Explaining.explain.Goals as goal
+use Rattle.pie_explain.proofs.explainer.ExplainVisitor.explain.Goals as goal
 
 pub returns-then-differs-clause-explains : goal.returns-then-differs-clause-explains
 returns-then-differs-clause-explains g c = λ start origin lines before out was explanation_texts.

@@ -1,6 +1,6 @@
 use Rattle.clap.specs.Words.{found_of, rows_of}
 use Rattle.pie_commands.proofs.SubcommandFacts.{answers-performed, answers-unable}
-use Rattle.pie_commands.proofs.program.perform_found.Goals as goal
+use Rattle.pie_commands.proofs.program.perform_matches.Goals as goal
 
 pub returns-in-Some : goal.returns-in-Some
 returns-in-Some g c words finds =

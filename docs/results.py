@@ -489,8 +489,9 @@ def not_same_rows():
     for name, queue, bounds, field, blocks, found in equal_queues():
         if found[3] != "same":
             one, other = ("tail", "pfifo") if queue == "tail" else (f"{queue}-again", queue)
-            part, digits = f"{bounds[0]:g}-{bounds[1]:g}", 3 if field == "goodput" else 1
+            part = f"{bounds[0]:g}-{bounds[1]:g}"
             margin = margin_of(name, one, other, field, part, difference_of(name, one, other, field, part)[1])
+            digits = 1 if field == "probe" else 3 if margin > 0.002 else 4
             rates = sent(name, one, other, bounds, margin)
             equal += field == "goodput" and rates[3] == "same"
             cells = [plus_minus(found, field, digits).rpartition(" ")[0], shown(margin, field, digits), str(blocks)]

@@ -131,7 +131,7 @@ def difference_of(scenario, one, other, field, part="after", other_scenario=None
 
 
 # The margins are half the spread of queues that are known to differ and are not compared: of goodput Linux's queues with other algorithms, in the
-# same scenario and part, and of waits Linux's pie with two targets in `four`.
+# same scenario and part, and of waits Linux's pie with two targets, in the scenario or in `four`.
 LINUX = ["pfifo", "pie", "fq_codel", "cake"]
 TARGETS = ("pie-high", "pie-low")
 
@@ -174,13 +174,21 @@ def goodput_share(scenario, one, other, part):
     return max(own, half_spread("four", references(one, other), "goodput", kind))
 
 
+def target_scenario(scenario):
+    """Returns the scenario whose two targets give the margin of waits: this one, or the one whose blocks it has, or `four`."""
+    return next(name for name in (scenario, SAME_BLOCKS.get(scenario), "four") if (name, TARGETS[0]) in RUNS.rows)
+
+
 @functools.cache
-def wait_share():
-    return half_spread("four", TARGETS, "probe", "after")
+def wait_share(scenario="four"):
+    """Returns the margin of the waits of PIE as a share, or nothing if the two targets are not known to differ."""
+    name = target_scenario(scenario)
+    differs = compare_pairs(*difference_of(name, *TARGETS, "probe"), 1)[1] > 0
+    return half_spread(name, TARGETS, "probe", "after") if differs else None
 
 
 def wait_margin():
-    """Returns the margin of the waits of tail drop, in ms."""
+    """Returns the margin of waits in ms: of tail drop, and where the target has no effect."""
     high, low = means_of("four", TARGETS, "probe", "after")
     return (high - low) / 2
 
@@ -189,7 +197,8 @@ def margin_of(scenario, one, other, field, part, theirs):
     """Returns the margin of a comparison in ms or in Mbit/s."""
     if field == "goodput":
         return goodput_share(scenario, one, other, part) * fmean(theirs)
-    return wait_margin() if algorithm(one) == algorithm(other) == "pfifo" else wait_share() * fmean(theirs)
+    is_fixed = algorithm(one) == algorithm(other) == "pfifo" or not wait_share(scenario)
+    return wait_margin() if is_fixed else wait_share(scenario) * fmean(theirs)
 
 
 @functools.cache
@@ -260,7 +269,7 @@ def scenarios_table():
 def suite():
     """Returns the number of runs of RFC 7928's suite, and the processor time that they take, in words."""
     runs, stored, hours = estimate(ROWS)
-    return f"{runs} runs, {stored} of them stored, which take {hours:.1f} processor hours in all"
+    return f"{runs} runs, {'all' if stored == runs else stored} of them stored, which take {hours:.1f} processor hours in all"
 
 
 def version_of(row):
@@ -368,18 +377,16 @@ def print_needs():
 # comparisons of equal queues that are not `same`: scenario, queue, part and measure. docs/RESULTS.in has the reasons, and
 # tests/documents/results.py lets this list only shrink
 NOT_SAME = [tuple(it.split()) for it in """
-    slow stamp 0-10 goodput, slow stamp 10-40 goodput, hundred stamp 4-12 goodput, probe20 stamp 0-4 goodput,
-    probe200 stamp 0-4 goodput, hundred20 stamp 0-4 goodput, hundred20 stamp 4-12 goodput,
-    hundred200 stamp 0-4 goodput, hundred200 stamp 0-4 probe, hundred200 stamp 4-12 goodput, trips stamp 0-4 goodput,
-    ecnmany stamp 0-4 goodput, tight stamp 4-12 goodput, back stamp 0-4 probe, back stamp 4-12 goodput,
-    back stamp 4-12 probe, reverse stamp 0-5 probe, bbrcubic stamp 0-4 goodput, bbrcubic stamp 4-12 goodput,
-    sixteen stamp 0-4 goodput, sixteen stamp 4-12 goodput, onoff stamp 5-10 goodput, grant30 stamp 0-4 goodput,
-    grant30 stamp 4-12 goodput, gigabit stamp 0-1 goodput, gigabit stamp 0-1 probe, gigabit stamp 1-2 goodput,
-    gigabit stamp 1-2 probe, two pie 0-5 goodput, slow pie 0-10 goodput, slow pie 10-40 goodput,
-    hundred pie 4-12 goodput, trips pie 0-4 goodput, tight pie 4-12 goodput, back pie 4-12 goodput,
-    back pie 4-12 probe, bbrcubic pie 0-4 goodput, bbrcubic pie 4-12 goodput, onoff pie 5-10 goodput,
-    gigabit pie 0-1 goodput, gigabit pie 0-1 probe, gigabit pie 1-2 goodput, gigabit pie 1-2 probe,
-    four tail 4-12 goodput, reno tail 4-12 probe
+    slow stamp 0-10 probe, slow stamp 10-40 goodput, hundred stamp 4-12 goodput, probe20 stamp 0-4 goodput,
+    probe200 stamp 0-4 goodput, hundred20 stamp 4-12 goodput, hundred200 stamp 0-4 goodput, hundred200 stamp 0-4 probe,
+    hundred200 stamp 4-12 goodput, trips stamp 0-4 goodput, back stamp 0-4 probe, back stamp 4-12 goodput,
+    back stamp 4-12 probe, bbrcubic stamp 4-12 goodput, sixteen stamp 4-12 goodput, onoff stamp 5-10 goodput,
+    grant30 stamp 0-4 goodput, grant30 stamp 4-12 goodput, gigabit stamp 0-1 goodput, gigabit stamp 1-2 goodput,
+    gigabit stamp 1-2 probe, two pie 0-5 probe, slow pie 0-10 goodput, slow pie 0-10 probe, slow pie 10-40 goodput,
+    hundred pie 4-12 goodput, trips pie 0-4 goodput, back pie 4-12 goodput, back pie 4-12 probe,
+    bbrcubic pie 0-4 goodput, bbrcubic pie 4-12 goodput, onoff pie 5-10 goodput, bucket pie 0-5 probe,
+    gigabit pie 0-1 goodput, gigabit pie 1-2 goodput, gigabit pie 1-2 probe, four tail 4-12 goodput,
+    reno tail 4-12 probe
 """.split(",")]
 
 # scenarios through both bottlenecks with the same algorithm
@@ -405,11 +412,11 @@ NEAR, NEAR_GOODPUT = 0.15, 0.001
 
 
 @functools.cache
-def starts():
+def starts(*names):
     """Returns for the start of each block of tail drop here and `pfifo` the differences of the wait in ms, of the goodput as a share, and of the
-    number of dropped probes."""
+    number of dropped probes; of all scenarios if none is named."""
     found = []
-    for name in dict.fromkeys(name for name, _, _ in pairs_of("tail", "pfifo")):
+    for name in names or dict.fromkeys(name for name, _, _ in pairs_of("tail", "pfifo")):
         ours, theirs = (RUNS.blocks(name, queue, "start") for queue in ("tail", "pfifo"))
         for block in sorted(ours.keys() & theirs.keys()):
             (wait, goodput, lost), (wait_there, goodput_there, lost_there) = ([float(row[field]) for field in ("probe", "goodput", "lost")]
@@ -482,8 +489,9 @@ def not_same_rows():
     for name, queue, bounds, field, blocks, found in equal_queues():
         if found[3] != "same":
             one, other = ("tail", "pfifo") if queue == "tail" else (f"{queue}-again", queue)
-            part, digits = f"{bounds[0]:g}-{bounds[1]:g}", 3 if field == "goodput" else 1
+            part = f"{bounds[0]:g}-{bounds[1]:g}"
             margin = margin_of(name, one, other, field, part, difference_of(name, one, other, field, part)[1])
+            digits = 1 if field == "probe" else 3 if margin > 0.002 else 4
             rates = sent(name, one, other, bounds, margin)
             equal += field == "goodput" and rates[3] == "same"
             cells = [plus_minus(found, field, digits).rpartition(" ")[0], shown(margin, field, digits), str(blocks)]
@@ -513,7 +521,8 @@ def comparisons():
 
 
 # comparisons of queues that are known to differ, and that give no margin: scenario, queues, measure, part
-CONTROLS = [("four", "wide", "stamp", "probe", "after"), ("far", "wide", "stamp", "probe", "after"), ("four", "tail", "stamp", "probe", "after"),
+CONTROLS = [("four", "wide", "stamp", "probe", "after"), ("far", "wide", "stamp", "probe", "after"), ("slow", "slowwide", "stamp", "probe", "after"),
+            ("four", "tail", "stamp", "probe", "after"),
             ("udp", "fq_codel", "stamp", "probe", "after"), ("udp", "fq_codel", "stamp", "goodput", "after"),
             ("step", "rate", "stamp", "goodput", "18-32")]
 

@@ -15,7 +15,7 @@
 . "$(dirname "$0")/../shared/script.sh"
 uml=$top/bench/uml
 if ! missing=$(env -u UML_LINUX "$uml/install.sh" --check); then
-    echo "NOT RUN: $script: no queue of the kernel's beside this one in real time, for want of $(tr '\n' ' ' <<< "$missing")"
+    echo "NOT RUN: $script: no queue of the kernel's beside this one, for want of $(tr '\n' ' ' <<< "$missing")"
     [ -n "${UML_LINUX:-}" ] || exit 0
 fi
 if ! (cd "$top/crates/pie_c" && { [ -e out/libpie_c.a ] || rt lib; } && make -s -C "$top/examples/link") > "$work/build.log" 2>&1; then

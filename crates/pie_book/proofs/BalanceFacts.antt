@@ -1,5 +1,5 @@
 -- A core stays balanced at each command.
-use Rattle.std.proofs.Common.{◌≡◌, ◌≤◌, ◌+◌, ◌*◌, ℕ, length, true, refl, sym, arith, length-append, length-drop}
+use Rattle.std.proofs.Common.{◌≡◌, ◌≤◌, ◌+◌, ◌*◌, ℕ, length, true, sym, arith, length-append, length-drop}
 use Rattle.std.proofs.Common.{subst, None}
 use Rattle.std.proofs.lemmas.Bool.Decides.{nat_tests}
 use Rattle.pie_book.specs.{Command, CoreView, bytes_of, core_after, snapshot_of, IsBalanced, are_balanced}
@@ -15,18 +15,7 @@ balanced_to s b = let no_update = b.no_update in grind (arith, nat_tests, b, no_
 
 pub balanced_of : (s : CoreSnapshot) → are_balanced s ≡ true → IsBalanced s
 unfolding are_balanced
-balanced_of s e = record {
-  events = grind (arith, nat_tests, e);
-  arrivals = grind (arith, nat_tests, e);
-  queued = grind (arith, nat_tests, e);
-  largest_queue = grind (arith, nat_tests, e);
-  largest_delay = grind (arith, nat_tests, e);
-  last_wait = grind (arith, nat_tests, e);
-  waits = grind (arith, nat_tests, e);
-  no_update = grind (arith, nat_tests, e);
-  delay = grind (arith, nat_tests, e);
-  picking = grind (arith, nat_tests, e);
-}
+balanced_of s e = grind (arith, nat_tests)
 
 -- ---- One more command
 
@@ -65,18 +54,7 @@ module _ (core : CoreView) where
 -- ---- Without events, and with all packets
 
 pub balanced_first : (opening : Opening) → IsBalanced (snapshot_of (first_core opening))
-balanced_first opening = record {
-  events = refl;
-  arrivals = refl;
-  queued = refl;
-  largest_queue = omega arith;
-  largest_delay = omega arith;
-  last_wait = omega arith;
-  waits = omega arith;
-  no_update = refl;
-  delay = grind (arith, nat_tests);
-  picking = grind (arith, nat_tests);
-}
+balanced_first opening = grind (arith, nat_tests)
 
 -- a resumed core from which no announced packet or byte is missing has a balanced snapshot, if the announced numbers are balanced
 pub balanced_ended : (core : CoreView) (packets bytes : ℕ) → length core.waiting ≤ packets → bytes_of core.waiting ≤ bytes

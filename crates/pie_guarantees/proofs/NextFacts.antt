@@ -295,21 +295,8 @@ module _ (elements : Elements) (params : RawParams) (delay : ℕ) where
     unfolding after_updates
     falls zero fall least prob = grind (arith, nat_tests)
     falls (suc n) fall least prob =
-        grind (
-          arith,
-          nat_tests,
-          next_down,
-          one-fall,
-          div-more,
-          untuned_fall,
-          tuning_divisor,
-          divisor-some,
-          divisor-falls,
-          more-times,
-          one-fall-most,
-          once-within,
-          falls n fall least (once prob),
-        )
+        let rest = falls n fall least (once prob) in
+        grind (arith, nat_tests, next_down, one-fall, div-more, divisor-some, divisor-falls, more-times, one-fall-most, once-within)
 
     pub stays_down : (n prob : ℕ) → after n prob ≤ prob
     stays_down n prob = (falls n 0 0 prob).0

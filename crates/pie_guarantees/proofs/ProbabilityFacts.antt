@@ -101,16 +101,8 @@ faded-after : (n : ℕ) (elements : Elements) (params : RawParams) (delay prob :
 unfolding after_updates
 faded-after zero elements params delay prob is = omega arith
 faded-after (suc n) elements params delay prob is =
-    grind (
-      arith,
-      nat_tests,
-      next,
-      next_decays,
-      pow-suc,
-      fades-more,
-      after_updates,
-      faded-after n elements params delay (next elements params prob delay delay) is,
-    )
+    let rest = faded-after n elements params delay (next elements params prob delay delay) is in
+    grind (arith, nat_tests, next_decays, pow-suc, fades-more)
 
 pub fades_with_updates : (delay : ℕ) → BetweenAny (λ opening before between. AllAlong (IsSteady delay opening) before between
     → decays opening.choices.elements.decay (params_after opening before) delay delay ≡ true

@@ -134,6 +134,7 @@ impl Report for Records {
     }
 
     #[inline(always)]
+    #[tactic(auto, using(crate::proofs::WordFacts::pages_reported), unfolding(crate::specs::Output::explanation_text))]
     fn report_event(
         &self,
         state: &mut RecordWriter,
@@ -169,6 +170,7 @@ impl Report for Words {
         Ok(())
     }
 
+    #[tactic(auto, using(crate::proofs::WordFacts::pages_reported), unfolding(crate::specs::Output::explanation_text))]
     fn report_event(&self, state: &mut (), explained: &Explained, page: &mut Page) -> Written {
         let (csv, by_wall) = (false, self.by_wall);
         let form = Form { csv, by_wall };

@@ -107,9 +107,9 @@ module _ (known : Option (List ℕ)) (bytes all copied rest : List ℕ) (at end 
   ahead-long = grind (arith, nat_tests, whole, length-take, length-drop, within, inside)
 
   -- bytes that were ahead are read
-  pub read-ahead : Consumes (prepend_known (slice_range bytes at end) known) (prepend_known (slice_range bytes (at + count) end) known)
+  pub read_ahead : Consumes (prepend_known (slice_range bytes at end) known) (prepend_known (slice_range bytes (at + count) end) known)
       (take count (copied ++ rest))
-  read-ahead = by known
+  read_ahead = by known
     where
       by : (k : Option (List ℕ)) → Consumes (prepend_known (slice_range bytes at end) k) (prepend_known (slice_range bytes (at + count) end) k)
           (take count (copied ++ rest))

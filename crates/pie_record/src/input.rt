@@ -156,6 +156,7 @@ impl<R: Read> Input<R> {
 impl<R: Read> Read for Input<R> {
     ghost remaining = { λ input. input };
 
+    #[tactic(auto, using(crate::proofs::InputFacts::read_ahead))]
     fn read(&mut self, buf: &mut [u8]) -> io::Result<usize> {
         if self.at >= self.end {
             return self.reader.read(buf);

@@ -203,6 +203,7 @@ impl Record {
     /// # Errors
     ///
     /// `Memory`.
+    #[tactic(auto, using(crate::proofs::LineReads::line_text, crate::proofs::PlainFacts::some_fields))]
     pub fn text(&self, alloc: Global) -> Result<Vec<u8>, TraceFault>
         ensures text { IfOk result (λ bytes. bytes.items ≡ text_of self.now) }
         ensures memory { IfErr result (λ why. why ≡ TraceFault.Memory) }
@@ -262,6 +263,7 @@ impl Record {
 
     /// Lets csv read a record. After a failure no record is left.
     #[inline(never)]
+    #[tactic(auto, using(crate::proofs::RecordFacts::takes_row))]
     pub(crate) fn read_quoted<R: Read>(
         &mut self,
         reader: &mut csv::Reader<R>,

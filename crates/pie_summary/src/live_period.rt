@@ -47,6 +47,7 @@ pub struct LivePeriod {
 
 impl LivePeriod {
     /// Returns the state before the first event.
+    #[tactic(auto, using(crate::proofs::RangeFacts::no_ranges), unfolding(crate::specs::Sums::meter_of, crate::specs::Sums::waits_of, pie_aqm::specs::Places::last_or, pie_aqm::specs::Places::places))]
     pub fn open(every: u64, by_wall: bool) -> LivePeriod
         ensures every { result.every ≡ every }
         ensures wall { result.wall ≡ (if by_wall then 1 else 0) }

@@ -15,29 +15,22 @@ pub unmoved : (before after : PieState) (refusal : ℕ) (held : Held) → after 
     → conditions_of (after.active == 1) after.params.target after.last after ≡ conditions_of (before.active == 1) before.params.target before.last after
 unmoved before after refusal held is = grind (arith, nat_tests)
 
--- an event with this explanation is recorded as `noted` if the fields for its kind are
-pub explained-as : (before after : PieState) (day : Option Clock) (made : Event) (decided : Option Cause) (wait : ℕ) (one : Explained) (met : Conditions) (noted : MeterInput)
-    → met ≡ conditions_of (before.active == 1) before.params.target before.last after → ExplainsCall before after day made decided wait one
-    → (HasConditions met one → one.explanation.event.answer ≡ made.answer → size_in one ≡ size_by made.command → noted ≡ meter_input_of one)
-    → (noted ≡ meter_input_of one) × (one.explanation.clock ≡ day)
-explained-as before after day made decided wait one met noted is tells notes = (
-  notes (subst (λ (m : Conditions). HasConditions m one) (sym is) tells.meets) (ap (λ (e : Event). e.answer) tells.event)
-      (ap (λ (e : Event). size_by e.command) tells.event),
-  tells.clock,
-)
-
--- a call adds its event as `Adds` states, if its flag is true exactly without a refusal
-pub adds-by : (refusal : ℕ) (before after : LivePeriod) (explained-as : Explained → Type 0) (taken : Bool) (noted : MeterInput) → IsSet before after
-    → (taken ≡ false → after ≡ before)
-    → ((all : List Explained) (one : Explained) → taken ≡ true → noted ≡ meter_input_of one → one.explanation.clock ≡ clock_of before → Holds before all
-    → Holds after (all ++ one ∷ []))
-    → Decides taken (refusal ≡ 0)
-    → ((one : Explained) → refusal ≡ 0 → explained-as one → (noted ≡ meter_input_of one) × (one.explanation.clock ≡ clock_of before))
-    → Adds refusal before after explained-as
-adds-by refusal before after explained-as taken noted set same adds decides is = record {
+-- a call adds its event as `Adds` states, if its flag is true exactly without a refusal, and the event is recorded as
+-- `noted` if the fields for its kind are
+pub adds_call : (refusal : ℕ) (before after : LivePeriod) (s t : PieState) (made : Event) (decided : Option Cause) (wait : ℕ) (taken : Bool)
+    (met : Conditions) (noted : MeterInput) → IsSet before after → (taken ≡ false → after ≡ before)
+    → ((all : List Explained) (one : Explained) → taken ≡ true → noted ≡ meter_input_of one → one.explanation.clock ≡ clock_of before
+    → Holds before all → Holds after (all ++ one ∷ []))
+    → Decides taken (refusal ≡ 0) → met ≡ conditions_of (s.active == 1) s.params.target s.last t
+    → ((one : Explained) → refusal ≡ 0 → ExplainsCall s t (clock_of before) made decided wait one → HasConditions met one
+    → one.explanation.event.answer ≡ made.answer → size_in one ≡ size_by made.command → noted ≡ meter_input_of one)
+    → Adds refusal before after (ExplainsCall s t (clock_of before) made decided wait)
+adds_call refusal before after s t made decided wait taken met noted set same adds decides is notes = record {
   refused = λ r. grind (arith, same, decides);
   settings = set;
-  adds = λ all one free tells holds. adds all one (decides.1 free) (is one free tells).0 (is one free tells).1 holds;
+  adds = λ all one free explains holds.
+      adds all one (decides.1 free) (notes one free explains (subst (λ (m : Conditions). HasConditions m one) (sym is) explains.meets)
+      (ap (λ (e : Event). e.answer) explains.event) (ap (λ (e : Event). size_by e.command) explains.event)) explains.clock holds;
 }
 
 -- ---- The refusal from the return value

@@ -1,7 +1,7 @@
 use Rattle.pie_c.proofs.Names.{◌≡◌, ◌∙◌, ℕ, ap, subst, sym, verdict_number, name_of, place_of_cause, cause, verdict, arrival_of, arrival_refusal}
 use Rattle.pie_c.proofs.Names.{unless_refused, held_in}
 use Rattle.pie_summary.specs.Sums.{cause_place}
-use Rattle.pie_c.proofs.SummedFacts.{adds-by, arrival-decides, arrival-few, arrival-place, explained-as}
+use Rattle.pie_c.proofs.SummedFacts.{adds_call, arrival-decides, arrival-few, arrival-place}
 use Rattle.pie_c.proofs.summing.arrive_summed.Goals as goal
 
 pub returns-clause-summed : goal.returns-clause-summed
@@ -15,10 +15,10 @@ returns-clause-summed c = λ packets.
     subst (λ (bits : ℕ). answer ≡ unless_refused (arrival_refusal queued event.size bits event.moment)
     (verdict_number (verdict held (arrival_of queued event.size c.args.room bits event.word)))) c.from-bits.ensures
     c.arrive-answer.ensures.arrives.answer in
-    adds-by _ _ _ _ _ c.arrived-noted.result c.add.ensures.settings c.add.ensures.refused c.add.ensures.taken
-    (arrival-decides queued event.size event.ecn event.moment answer decided is)
-    (λ one taken tells. explained-as _ _ _ _ _ _ one c.conditions_of.result _ c.conditions_of.ensures tells (λ met said. c.arrived-noted.ensures.adds one decided met said
-    (c.min.ensures ∙ arrival-place _ answer decided is taken)
+    adds_call _ _ _ _ _ _ _ _ _ _ _ c.add.ensures.settings c.add.ensures.refused c.add.ensures.taken
+    (arrival-decides queued event.size event.ecn event.moment answer decided is) c.conditions_of.ensures
+    (λ one free explains met said. c.arrived-noted.ensures.adds one decided met said
+    (c.min.ensures ∙ arrival-place _ answer decided is free)
     (subst (λ (bits : ℕ). c.arrive-answer.result.1
     ≡ place_of_cause (name_of (cause held (arrival_of queued event.size c.args.room bits event.word) packets))) c.from-bits.ensures
-    (c.arrive-answer.ensures.place (arrival-few _ answer decided is taken) packets) ∙ sym (ap cause_place tells.cause))))
+    (c.arrive-answer.ensures.place (arrival-few _ answer decided is free) packets) ∙ sym (ap cause_place explains.cause)))

@@ -1,5 +1,5 @@
 use Rattle.pie_c.proofs.Names.{◌∙◌, refl, sym, capped, departed, waited_refusal, held_in}
-use Rattle.pie_c.proofs.SummedFacts.{adds-by, done-decides, explained-as, unmoved}
+use Rattle.pie_c.proofs.SummedFacts.{adds_call, done-decides, unmoved}
 use Rattle.pie_c.proofs.summing.pie_depart_summed.Goals as goal
 
 pub returns-clause-summed : goal.returns-clause-summed
@@ -9,7 +9,7 @@ returns-clause-summed c =
     let event = c.args.event.now in
     let same = unmoved before after (waited_refusal before event.size c.args.left c.args.arrived event.moment)
     (departed (capped (held_in before)) event.size c.args.left c.args.arrived event.moment) c.pie_depart_waited-answer.ensures.steps.fields in
-    adds-by _ _ _ _ _ c.left-noted.result c.add.ensures.settings c.add.ensures.refused c.add.ensures.taken
-    (done-decides _ c.pie_depart_waited-answer.result c.pie_depart_waited-answer.ensures.answer)
-    (λ one taken tells. explained-as before after _ _ _ _ one c.conditions_of-met.result _ (c.conditions_of-met.ensures ∙ same) tells
-    (λ met answer. c.left-noted.ensures.adds one _ met answer refl (tells.waited ∙ sym c.saturating_sub-waited.ensures) tells.cause))
+    adds_call _ _ _ before after _ _ _ _ _ _ c.add.ensures.settings c.add.ensures.refused c.add.ensures.taken
+    (done-decides _ c.pie_depart_waited-answer.result c.pie_depart_waited-answer.ensures.answer) (c.conditions_of-met.ensures ∙ same)
+    (λ one free explains met said.
+    c.left-noted.ensures.adds one _ met said refl (explains.waited ∙ sym c.saturating_sub-waited.ensures) explains.cause)

@@ -38,7 +38,7 @@ fn try_two(link: &Link, caller: &mut Caller) -> Result<(u64, u64), bool>
     ensures { caller.new.lock ≡ link.now }
 {
     match link.try_fold(caller, 2) {
-        Ok(told) => Ok((told.answer.len() as u64, told.number)),
+        Ok(reply) => Ok((reply.answer.len() as u64, reply.number)),
         Err(why) => Err(matches!(why, Tried::Refused(FoldRefusal::Memory))),
     }
 }
@@ -49,7 +49,7 @@ fn fold_two<R: Wait>(rt: &R, link: &Link, caller: &mut Caller) -> Result<(u64, u
     ensures { caller.new.lock ≡ link.now }
 {
     match link.fold(rt, caller, 2) {
-        Ok(told) => Ok((told.answer.len() as u64, told.number)),
+        Ok(reply) => Ok((reply.answer.len() as u64, reply.number)),
         Err(why) => Err(matches!(why, FoldRefusal::Memory)),
     }
 }
@@ -60,7 +60,7 @@ fn count(link: &Link, caller: &mut Caller) -> u64
     ensures { caller.new.lock ≡ link.now }
 {
     match link.try_registers(caller) {
-        Ok(told) => told.answer.count,
+        Ok(reply) => reply.answer.count,
         Err(_) => 0,
     }
 }
@@ -155,13 +155,13 @@ fn waited(link: &Link, caller: &mut Caller) -> u128
     ensures { caller.new.lock ≡ link.now }
 {
     match link.try_stats(caller) {
-        Ok(told) => told.answer.waited,
+        Ok(reply) => reply.answer.waited,
         Err(_) => 0,
     }
 }
 
 /// Returns the number of the book's last events that a caller receives.
-fn told(alloc: Global, link: &Link, caller: &mut Caller) -> usize
+fn received(alloc: Global, link: &Link, caller: &mut Caller) -> usize
     requires own { caller.old.lock ≡ link.now }
     ensures { caller.new.lock ≡ link.now }
 {
@@ -182,9 +182,9 @@ fn is_done<R: Wait>(rt: &R, alloc: Global, link: &Link, caller: &mut Caller) -> 
     let answers = burst(rt, alloc, link, caller);
     let count = count(link, caller);
     let waited = waited(link, caller);
-    let told = told(alloc, link, caller);
+    let received = received(alloc, link, caller);
     let is_folded = matches!(try_two(link, caller), Ok((2, 2)));
-    are_taken && answers == 5 && count == 10 && waited == 10 && told == 10 && is_folded
+    are_taken && answers == 5 && count == 10 && waited == 10 && received == 10 && is_folded
 }
 
 /// Returns true if this caller closes the link, with a book that has the other eight events.

@@ -66,19 +66,28 @@ fn part<R: Threads + Wait + Clock + Print + Sync>(to: &mut Report<R>, alloc: Glo
     }
 }
 
+/// Prints the result of each of these calls.
+macro_rules! print_calls {
+    ($to:ident, $alloc:ident: $($name:literal $call:path $(, $waits:literal)?;)*) => {
+        $(let seen = $call($to.rt, $alloc, $($waits,)? $name);
+        print_numbers($to, $name, seen);)*
+    };
+}
+
+/// Prints the result of each of these tests.
+macro_rules! print_tests {
+    ($to:ident: $($name:literal $test:expr;)*) => { $(let holds = $test; say($to, $name, holds);)* };
+}
+
 /// Makes each call that can run out of memory and that no program makes so, and prints its result.
 fn calls<R: Wait + Clock + Print>(to: &mut Report<R>, alloc: Global) {
-    let rt = to.rt;
-    let seen = books::fold(rt, alloc, "Book::fold");
-    print_numbers(to, "Book::fold", seen);
-    let seen = books::excerpt(rt, alloc, "write_excerpt");
-    print_numbers(to, "write_excerpt", seen);
-    let seen = links::open(rt, alloc, "Link::open_with");
-    print_numbers(to, "Link::open_with", seen);
-    let seen = links::fold(rt, alloc, false, "Link::try_fold");
-    print_numbers(to, "Link::try_fold", seen);
-    let seen = links::fold(rt, alloc, true, "Link::fold");
-    print_numbers(to, "Link::fold", seen);
+    print_calls!(to, alloc:
+        "Book::fold" books::fold;
+        "write_excerpt" books::excerpt;
+        "Link::open_with" links::open;
+        "Link::try_fold" links::fold, false;
+        "Link::fold" links::fold, true;
+    );
 }
 
 /// Prints the result of each test.
@@ -87,48 +96,26 @@ fn tests<R: Threads + Wait + Clock + Print + Sync>(to: &mut Report<R>, alloc: Gl
         let (writes, name) = WRITES[place];
         say(to, name, writes.reports_its_flush(alloc));
     }
-    say(to, "rules_by_worked_rows", rules::are_worked_rows());
-    say(to, "refusals_in_words", words::refusals_in_words(alloc));
-    say(to, "the_largest_ring", words::the_largest_ring(alloc));
-    worked_rows(to, alloc);
-    let are_made = words::calls_that_nothing_else_makes(alloc);
-    say(to, "calls_that_nothing_else_makes", are_made);
-    let is_answered = links::is_answered(to.rt, alloc);
-    say(to, "a_caller_of_65535_is_answered_and_closes", is_answered);
-    storms_of_threads(to, alloc);
+    print_tests!(to:
+        "rules_by_worked_rows" rules::are_worked_rows();
+        "refusals_in_words" words::refusals_in_words(alloc);
+        "the_largest_ring" words::the_largest_ring(alloc);
+        "a_core_decides_worked_histories" rows::core_decides(alloc);
+        "a_book_decides_worked_histories_and_folds" rows::book_decides(alloc);
+        "runs_end_with_registers_and_statistics" rows::runs_end(alloc);
+        "runs_are_bounded_by_records" rows::runs_are_bounded(alloc);
+        "a_history_without_an_end_is_read" endless::lines_come(alloc);
+        "a_queue_of_two_packets" rows::queue_is_first_in_first_out(alloc);
+        "calls_that_nothing_else_makes" words::calls_that_nothing_else_makes(alloc);
+        "a_caller_of_65535_is_answered_and_closes" links::is_answered(to.rt, alloc);
+        "a_held_sender_comes_last" storms::held_comes_last(to.rt, alloc);
+        "senders_see_the_flags_of_all_others" storms::flags_are_seen(to.rt, alloc);
+        "folds_and_a_change_take_part" storms::folds_take_part(to.rt, alloc);
+        "a_fold_that_comes_too_early_is_passed_over" storms::early_fold_is_passed_over(to.rt, alloc);
+        "plans_of_storms_are_checked" storms::plans_are_checked(to.rt, alloc);
+        "a_storm_keeps_its_pace" storms::pace_is_kept(to.rt, alloc);
+    );
     sleepers(to, alloc);
-}
-
-/// Runs the tests of worked rows: a core, a book, runs, a history without an end, a queue.
-fn worked_rows<R: Clock + Print>(to: &mut Report<R>, alloc: Global) {
-    let holds = rows::core_decides(alloc);
-    say(to, "a_core_decides_worked_histories", holds);
-    let holds = rows::book_decides(alloc);
-    say(to, "a_book_decides_worked_histories_and_folds", holds);
-    let holds = rows::runs_end(alloc);
-    say(to, "runs_end_with_registers_and_statistics", holds);
-    let holds = rows::runs_are_bounded(alloc);
-    say(to, "runs_are_bounded_by_records", holds);
-    let holds = endless::lines_come(alloc);
-    say(to, "a_history_without_an_end_is_read", holds);
-    let holds = rows::queue_is_first_in_first_out(alloc);
-    say(to, "a_queue_of_two_packets", holds);
-}
-
-/// Runs the tests of storms.
-fn storms_of_threads<R: Threads + Wait + Clock + Print + Sync>(to: &mut Report<R>, alloc: Global) {
-    let holds = storms::held_comes_last(to.rt, alloc);
-    say(to, "a_held_sender_comes_last", holds);
-    let holds = storms::flags_are_seen(to.rt, alloc);
-    say(to, "senders_see_the_flags_of_all_others", holds);
-    let holds = storms::folds_take_part(to.rt, alloc);
-    say(to, "folds_and_a_change_take_part", holds);
-    let holds = storms::early_fold_is_passed_over(to.rt, alloc);
-    say(to, "a_fold_that_comes_too_early_is_passed_over", holds);
-    let holds = storms::plans_are_checked(to.rt, alloc);
-    say(to, "plans_of_storms_are_checked", holds);
-    let holds = storms::pace_is_kept(to.rt, alloc);
-    say(to, "a_storm_keeps_its_pace", holds);
 }
 
 /// Runs the test that threads which sleep at a held lock wake.

@@ -5,36 +5,20 @@ use std::rt::Clock;
 
 /// The answer of a call, and two observed numbers, which the test of the call describes.
 #[derive(Clone, Copy)]
-pub(crate) struct Seen {
-    answer: &'static str,
-    one: u64,
-    other: u64,
-}
+pub(crate) struct Seen(&'static str, u64, u64);
 
 impl Seen {
     /// The call was not made.
-    pub(crate) const NOTHING: Seen = Seen {
-        answer: "not made",
-        one: 0,
-        other: 0,
-    };
+    pub(crate) const NOTHING: Seen = Seen("not made", 0, 0);
 
     /// Returns the result of a call that succeeded.
     pub(crate) fn done(one: u64, other: u64) -> Seen {
-        Seen {
-            answer: "done",
-            one,
-            other,
-        }
+        Seen("done", one, other)
     }
 
     /// Returns the result of a call that was refused, for lack of memory or for another reason.
     pub(crate) fn refused(is_memory: bool, one: u64) -> Seen {
-        Seen {
-            answer: if is_memory { "memory" } else { "refused" },
-            one,
-            other: 0,
-        }
+        Seen(if is_memory { "memory" } else { "refused" }, one, 0)
     }
 }
 
@@ -45,7 +29,7 @@ pub(crate) fn begin(rt: &impl Print, name: &str) {
 
 /// Prints the result of a call.
 pub(crate) fn print_numbers<R: Clock + Print>(report: &mut Report<R>, name: &str, seen: Seen) {
-    let Seen { answer, one, other } = seen;
+    let Seen(answer, one, other) = seen;
     let said = println!(report.rt; "{name}: {answer}, {one}, {other}");
     report.printed(said);
 }

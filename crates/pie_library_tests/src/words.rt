@@ -25,8 +25,9 @@ fn say<T: Display>(alloc: Global, texts: &[(T, &'static str)]) -> bool {
     are_said
 }
 
-/// Returns true if the refusals of a command and of a lock have their texts.
-fn say_why_a_command_is_refused(alloc: Global) -> bool {
+/// Returns true if the refusals of a command, an opening, a fold, and numbers that no core can continue from have their
+/// texts.
+fn are_refusals_of_books_said(alloc: Global) -> bool {
     let commands = [
         (Refusal::Moment, "moment out of range"),
         (Refusal::Size, "packet size out of range"),
@@ -34,15 +35,6 @@ fn say_why_a_command_is_refused(alloc: Global) -> bool {
         (Refusal::Exhausted, "no more events"),
         (Refusal::HistoryFull, "the tail is full"),
     ];
-    let locks = [
-        (LockRefusal::NoNumbers, "a lock needs one number at least"),
-        (LockRefusal::Memory, "no memory for the lock"),
-    ];
-    say(alloc, &commands) & say(alloc, &locks)
-}
-
-/// Tests the texts of an opening, of a fold, and of numbers that no core can continue from.
-fn say_why_others_are_refused(alloc: Global) -> bool {
     let openings = [
         (OpenRefusal::BadLimits, "limits out of range"),
         (OpenRefusal::Moment, "moment out of range"),
@@ -56,36 +48,32 @@ fn say_why_others_are_refused(alloc: Global) -> bool {
         (ResumeRefusal::Count, "more events than the limits allow"),
         (ResumeRefusal::Statistics, "statistics out of range"),
     ];
-    say(alloc, &openings) & say(alloc, &folds) & say(alloc, &resumings)
+    say(alloc, &commands) & say(alloc, &openings) & say(alloc, &folds) & say(alloc, &resumings)
 }
 
-/// Returns true if the refusals of a queue and its packets have their texts.
-fn say_why_a_queue_refuses(alloc: Global) -> bool {
+/// Returns true if these and the other refusals have their texts: of a lock and a pass, of a queue and its packets, of
+/// parameters, and of a trace longer than a test can run.
+pub(crate) fn refusals_in_words(alloc: Global) -> bool {
+    let locks = [
+        (LockRefusal::NoNumbers, "a lock needs one number at least"),
+        (LockRefusal::Memory, "no memory for the lock"),
+    ];
+    let passes = [(OneNumber, "a pass with one number can't be shared")];
     let queues = [(Memory, "out of memory")];
     let orders = [(
         QueueRefusal::Order,
         "a packet that arrived before its predecessor",
     )];
     let ends = [(EndRefusal::Missing, "fewer packets than were announced")];
-    say(alloc, &queues) & say(alloc, &orders) & say(alloc, &ends)
-}
-
-/// Returns true if the faults of parameters, of a trace longer than a test can run, and of a pass have their texts.
-fn say_what_is_wrong(alloc: Global) -> bool {
     let params = [(
         BadParam(Field::DqThreshold),
         "the parameter dq_threshold is out of its range",
     )];
     let traces = [(TraceFault::TooLong, "too many records")];
-    let passes = [(OneNumber, "a pass with one number can't be shared")];
-    say(alloc, &params) & say(alloc, &traces) & say(alloc, &passes)
-}
-
-pub(crate) fn refusals_in_words(alloc: Global) -> bool {
-    say_why_a_command_is_refused(alloc)
-        & say_why_others_are_refused(alloc)
-        & say_why_a_queue_refuses(alloc)
-        & say_what_is_wrong(alloc)
+    let of_queues = say(alloc, &queues) & say(alloc, &orders) & say(alloc, &ends);
+    let of_others = say(alloc, &params) & say(alloc, &traces);
+    let of_locks = say(alloc, &locks) & say(alloc, &passes);
+    are_refusals_of_books_said(alloc) & of_queues & of_others & of_locks
 }
 
 /// Returns true if memory suffices for a ring of the greatest size.

@@ -1,6 +1,2 @@
-mod ExamplesLayer
-mod ExamplesUnits
-mod ExamplesDates
-pub mod DigitFacts
+mod Examples
 pub mod WrittenFacts
-mod ExamplesOptions

@@ -1,10 +1,13 @@
 -- Digits of a text, one more at a time: their number, and its value in a unit.
 use Rattle.std.proofs.Common.{◌≡◌, ◌+◌, ◌*◌, ◌-◌, ◌<◌, ◌≤◌, arith, ℕ, zero, suc, List, [], ◌∷◌, ◌++◌, length, slice_index, take, sym, ap, ◌∙◌}
-use Rattle.std.specs.Prelude.{min}
+use Rattle.std.proofs.Common.{append-nil}
+use Rattle.std.specs.Prelude.{min, false}
 use Rattle.std.proofs.lemmas.Bool.Decides.{nat_tests}
 use Rattle.std.proofs.lemmas.Nat.{mul-le}
 use Rattle.std.proofs.lemmas.List.Sums.{fold-append, fold_more}
 use Rattle.pie_units.specs.Number.{number_after, whole_in}
+use Rattle.std.specs.Fmt.{char_count, decimal, format_spec, padded_integral}
+use Rattle.pie_units.specs.Utc.{with_zeros}
 
 -- ---- The number, limited to a maximum
 
@@ -27,10 +30,7 @@ number_none before most small = omega arith
 pub number_more : (before : ℕ) (digits : List ℕ) (i n next most : ℕ) → i < length digits → n ≡ min (number_after before (take i digits)) most
     → next ≡ min (n * 10 + (slice_index digits i - 48)) most → next ≡ min (number_after before (take (i + 1) digits)) most
 unfolding number_after
-number_more before digits i n next most within n-is is =
-    is ∙ ap (λ (k : ℕ). min (k * 10 + (slice_index digits i - 48)) most) n-is
-    ∙ next-min (number_after before (take i digits)) (slice_index digits i - 48) most
-    ∙ ap (λ (k : ℕ). min k most) (sym (fold_more (λ number digit. number * 10 + (digit - 48)) before digits i 0 within))
+number_more before digits i n next most within n-is is = grind (arith, nat_tests, slice_index, next-min, fold_more)
 
 after-append : (n : ℕ) (xs ys : List ℕ) → number_after n (xs ++ ys) ≡ number_after (number_after n xs) ys
 unfolding number_after
@@ -40,13 +40,7 @@ after-append n xs ys = fold-append (λ number digit. number * 10 + (digit - 48))
 pub number_joined : (whole decimals zeros : List ℕ) (first second third most : ℕ) → first ≡ min (number_after 0 whole) most
     → second ≡ min (number_after first decimals) most → third ≡ min (number_after second zeros) most
     → third ≡ min (number_after 0 (whole ++ decimals ++ zeros)) most
-number_joined whole decimals zeros first second third most first-is second-is third-is =
-    let units = number_after 0 whole in
-    let digits = number_after units decimals in
-    third-is ∙ ap (λ (k : ℕ). min (number_after k zeros) most) (second-is ∙ ap (λ (k : ℕ). min (number_after k decimals) most) first-is
-    ∙ after-min units most decimals) ∙ after-min digits most zeros
-    ∙ ap (λ (k : ℕ). min k most) (sym (after-append 0 (whole ++ decimals) zeros
-    ∙ ap (λ (k : ℕ). number_after k zeros) (after-append 0 whole decimals)))
+number_joined whole decimals zeros first second third most first-is second-is third-is = grind (arith, nat_tests, after-min, after-append)
 
 -- a number at the maximum is too great
 whole-kept : (parts : ℕ) → whole_in (min parts 340282366920938463463374607431768211455) ≡ whole_in parts
@@ -70,5 +64,11 @@ product-kept parts kept (suc scale) is =
 
 pub value_kept : (parts kept scale product : ℕ) → kept ≡ min parts 340282366920938463463374607431768211455
     → product ≡ min (kept * scale) 340282366920938463463374607431768211455 → whole_in product ≡ whole_in (parts * scale)
-value_kept parts kept scale product kept-is product-is =
-    ap whole_in (product-is ∙ product-kept parts kept scale kept-is) ∙ whole-kept (parts * scale)
+value_kept parts kept scale product kept-is product-is = grind (arith, nat_tests, product-kept, whole-kept)
+
+-- ---- the text of a number with zeros before it
+
+pub some-digits : (digits n : ℕ)
+    → padded_integral (format_spec 32 0 4 digits 18446744073709551615) false [] (decimal n) ≡ with_zeros digits n
+unfolding padded_integral char_count
+some-digits digits n = grind (arith, nat_tests, append-nil)

@@ -1,6 +1,5 @@
 -- Parameters and elements of `tc`'s options, and the opening of a book with them.
-use Rattle.std.specs.Prelude.{ℕ, ◌*◌, ◌/◌, ◌^◌, ◌==◌, Bool, not, ◌&&◌, nat_lt, max, min, if◌then◌else◌}
-use Rattle.std.specs.Int.{div_ceil}
+use Rattle.std.specs.Prelude.{ℕ, ◌*◌, ◌/◌, ◌^◌, ◌==◌, Bool, not, ◌&&◌, nat_lt, if◌then◌else◌}
 use Rattle.pie_params.specs.declared.elements.Delay.TheVariants.{Rate, Stamp}
 use Rattle.pie_params.specs.declared.elements.Elements.{Elements}
 use Rattle.pie_params.specs.declared.elements.Picking.TheVariants.{Derandomized, Random}

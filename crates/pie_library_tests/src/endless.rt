@@ -83,7 +83,7 @@ pub(crate) fn departures(alloc: Global) -> io::Result<String> {
     Ok(history)
 }
 
-/// Returns the next line, if there is one without a flaw.
+/// Returns the next line, if there is one without a record fault.
 pub(crate) fn next_line<R: Read + Drop>(lines: &mut HistoryLines<R>) -> Option<Line> {
     if !matches!(lines.next_record(), Ok(true)) {
         return None;

@@ -1,9 +1,8 @@
 //! The laws of reading back.
-ghost use Rattle.std.specs.Prelude.{◌≡◌, ◌∷◌, ◌++◌};
-ghost use Rattle.pie_excerpt.specs.{ℕ, All, List, Ok, Option, map, take, true, CommandFits, Event, Opening, waiting_after, CoreSnapshot, Waiting};
-ghost use Rattle.pie_excerpt.specs.{HasField, Row, records_of, rows_text, HasPreamble, Resumes, is_resumed, resumed_of, ResumeFits, WaitingFits};
-ghost use Rattle.pie_excerpt.specs.{queued_of, resume_of, queued_row, resume_row, IsWritten, begun_at, resume_with, Resume};
-ghost use Rattle.pie_excerpt.specs.Preamble.{Preamble};
+ghost use Rattle.pie_excerpt.specs.{All, CommandFits, CoreSnapshot, Event, HasField, HasPreamble, IsWritten, List, Ok, Opening, Option, Resume};
+ghost use Rattle.pie_excerpt.specs.{ResumeFits, Resumes, Row, Waiting, WaitingFits, begun_at, is_resumed, map, queued_of, queued_row, records_of};
+ghost use Rattle.pie_excerpt.specs.{resume_of, resume_row, resume_with, resumed_of, rows_text, take, true, waiting_after, ℕ, Preamble.Preamble};
+ghost use Rattle.std.specs.Prelude.{◌++◌, ◌∷◌, ◌≡◌};
 
 use pie_book::packets_that_waited_are_taken;
 use pie_record::openings_are_checked;

@@ -10,9 +10,9 @@ returns c =
     let texts = c.texts_are_read_back.ensures in
     let goes = c.preambles_are_resumed.ensures in
     record {
-      lines = λ opening snapshot past set_by rows lines fit written some tells few.
+      lines = λ opening snapshot past set_by rows lines fit written some are_lines few.
           written-processed law texts opening snapshot past set_by rows lines (goes.read_back opening snapshot past set_by rows fit written)
-          (goes.continues opening snapshot past set_by rows fit written) tells few;
+          (goes.continues opening snapshot past set_by rows fit written) are_lines few;
       events = λ opening snapshot past events set_by fit written fits legal few.
           events-found law texts opening snapshot past events set_by
           (goes.read_back opening snapshot past set_by (map event_row events) fit written)

@@ -377,16 +377,11 @@ def print_needs():
 # comparisons of equal queues that are not `same`: scenario, queue, part and measure. docs/RESULTS.in has the reasons, and
 # tests/documents/results.py lets this list only shrink
 NOT_SAME = [tuple(it.split()) for it in """
-    slow stamp 0-10 probe, slow stamp 10-40 goodput, hundred stamp 4-12 goodput, probe20 stamp 0-4 goodput,
-    probe200 stamp 0-4 goodput, hundred20 stamp 4-12 goodput, hundred200 stamp 0-4 goodput, hundred200 stamp 0-4 probe,
-    hundred200 stamp 4-12 goodput, trips stamp 0-4 goodput, back stamp 0-4 probe, back stamp 4-12 goodput,
-    back stamp 4-12 probe, bbrcubic stamp 4-12 goodput, sixteen stamp 4-12 goodput, onoff stamp 5-10 goodput,
-    grant30 stamp 0-4 goodput, grant30 stamp 4-12 goodput, gigabit stamp 0-1 goodput, gigabit stamp 1-2 goodput,
-    gigabit stamp 1-2 probe, two pie 0-5 probe, slow pie 0-10 goodput, slow pie 0-10 probe, slow pie 10-40 goodput,
-    hundred pie 4-12 goodput, trips pie 0-4 goodput, back pie 4-12 goodput, back pie 4-12 probe,
-    bbrcubic pie 0-4 goodput, bbrcubic pie 4-12 goodput, onoff pie 5-10 goodput, bucket pie 0-5 probe,
-    gigabit pie 0-1 goodput, gigabit pie 1-2 goodput, gigabit pie 1-2 probe, four tail 4-12 goodput,
-    reno tail 4-12 probe
+    slow stamp 0-10 goodput, slow stamp 0-10 probe, slow stamp 10-40 goodput, hundred stamp 4-12 goodput,
+    hundred20 stamp 4-12 goodput, hundred200 stamp 4-12 goodput, onoff stamp 5-10 goodput, grant30 stamp 0-4 goodput,
+    gigabit stamp 0-1 goodput, gigabit stamp 1-2 goodput, gigabit stamp 1-2 probe, hundred pie 4-12 goodput,
+    trips pie 0-4 goodput, onoff pie 5-10 goodput, gigabit pie 0-1 goodput, gigabit pie 1-2 goodput,
+    gigabit pie 1-2 probe, four tail 4-12 goodput, reno tail 4-12 probe
 """.split(",")]
 
 # scenarios through both bottlenecks with the same algorithm

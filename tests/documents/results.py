@@ -40,7 +40,7 @@ for name, sentence in results.elsewhere():
 
 
 # the number of entries of results.NOT_SAME. Lower it when the list shrinks; it must never grow
-MOST_NOT_SAME = 38
+MOST_NOT_SAME = 19
 listed, found = results.NOT_SAME, results.not_same()
 for key, (_, it) in found.items():
     check(key in listed, f"{' '.join(key)}: equal queues are not `same`, but {it[3]}: {results.interval(it, key[-1], 3)}")

@@ -132,14 +132,14 @@
 .Lfunc_end3:
 	.size	"pie_summary::aggregates::Bounds::take_rare", .Lfunc_end3-"pie_summary::aggregates::Bounds::take_rare"
 
-	.section	".text.unlikely.pie_summary::aggregates::fill","ax",@progbits
+	.section	".text.unlikely.pie_explain::explainer::fill","ax",@progbits
 	.p2align	4
-	.type	"pie_summary::aggregates::fill",@function
-"pie_summary::aggregates::fill":
+	.type	"pie_explain::explainer::fill",@function
+"pie_explain::explainer::fill":
 	movq	$-1, (%rdi)
 	retq
 .Lfunc_end4:
-	.size	"pie_summary::aggregates::fill", .Lfunc_end4-"pie_summary::aggregates::fill"
+	.size	"pie_explain::explainer::fill", .Lfunc_end4-"pie_explain::explainer::fill"
 
 	.section	".text.pie_summary::ranges::range_apart","ax",@progbits
 	.p2align	4
@@ -3355,7 +3355,7 @@
 	movq	%r11, %rbx
 	movb	%r15b, 8(%rsp)
 	movq	%rsi, %r15
-	callq	"pie_summary::aggregates::fill"
+	callq	"pie_explain::explainer::fill"
 	movq	%r15, %rsi
 	movzbl	8(%rsp), %r15d
 	movq	%rbx, %r11
@@ -3368,7 +3368,7 @@
 	addq	$144, %rdi
 	movl	%r15d, %r12d
 	movq	%rsi, %r15
-	callq	"pie_summary::aggregates::fill"
+	callq	"pie_explain::explainer::fill"
 	movq	%r15, %rsi
 	movl	%r12d, %r15d
 	movq	%rsi, 272(%rbx)
@@ -3378,7 +3378,7 @@
 	leaq	288(%rbx), %rdi
 	movl	%r15d, %r12d
 	movq	%rsi, %r15
-	callq	"pie_summary::aggregates::fill"
+	callq	"pie_explain::explainer::fill"
 	movq	%r15, %rsi
 	movl	%r12d, %r15d
 	addq	%r14, 304(%rbx)
@@ -4627,7 +4627,7 @@ pie_empty_summed:
 	jne	.LBB37_10
 .LBB37_9:
 	leaq	120(%rbx), %rdi
-	callq	"pie_summary::aggregates::fill"
+	callq	"pie_explain::explainer::fill"
 	jmp	.LBB37_10
 .Lfunc_end37:
 	.size	pie_empty_summed, .Lfunc_end37-pie_empty_summed
@@ -7316,7 +7316,7 @@ pie_reset_summed:
 	jne	.LBB56_8
 .LBB56_7:
 	leaq	136(%rbx), %rdi
-	callq	"pie_summary::aggregates::fill"
+	callq	"pie_explain::explainer::fill"
 	movl	%r15d, %eax
 	jmp	.LBB56_8
 .Lfunc_end56:
@@ -7601,7 +7601,7 @@ pie_set_params_summed:
 	jne	.LBB59_8
 .LBB59_7:
 	leaq	136(%rbx), %rdi
-	callq	"pie_summary::aggregates::fill"
+	callq	"pie_explain::explainer::fill"
 	movl	%r15d, %eax
 	jmp	.LBB59_8
 .Lfunc_end59:
@@ -8128,7 +8128,7 @@ pie_update_summed:
 	movq	%rsi, %r13
 	movq	%r8, %r15
 	movq	%r9, 16(%rsp)
-	callq	"pie_summary::aggregates::fill"
+	callq	"pie_explain::explainer::fill"
 	movq	16(%rsp), %r9
 	movq	%r15, %r8
 	movzbl	6(%rsp), %edi
@@ -8161,7 +8161,7 @@ pie_update_summed:
 	jae	.LBB62_26
 .LBB62_25:
 	leaq	440(%rbx), %rdi
-	callq	"pie_summary::aggregates::fill"
+	callq	"pie_explain::explainer::fill"
 	movl	8(%rsp), %eax
 	jmp	.LBB62_26
 .Lfunc_end62:
@@ -8572,7 +8572,7 @@ pie_depart_summed:
 	movq	%rdx, %r12
 	movq	%rsi, %r15
 	movq	%r8, 8(%rsp)
-	callq	"pie_summary::aggregates::fill"
+	callq	"pie_explain::explainer::fill"
 	movq	8(%rsp), %r8
 	movq	%r15, %rsi
 	movq	%r12, %rdx
@@ -8663,14 +8663,14 @@ pie_depart_summed:
 .LBB66_38:
 	leaq	432(%rbx), %rdi
 	movq	%rdx, %r14
-	callq	"pie_summary::aggregates::fill"
+	callq	"pie_explain::explainer::fill"
 	movq	%r14, %rdx
 	movl	4(%rsp), %edi
 	jmp	.LBB66_39
 .LBB66_49:
 	leaq	(%rbx,%rax,8), %rdi
 	addq	$480, %rdi
-	callq	"pie_summary::aggregates::fill"
+	callq	"pie_explain::explainer::fill"
 	movl	4(%rsp), %edi
 	jmp	.LBB66_50
 .LBB66_6:
@@ -8686,7 +8686,7 @@ pie_depart_summed:
 	movq	%rdx, %r12
 	movq	%rsi, %r15
 	movq	%r8, 8(%rsp)
-	callq	"pie_summary::aggregates::fill"
+	callq	"pie_explain::explainer::fill"
 	movq	8(%rsp), %r8
 	movq	%r15, %rsi
 	movq	%r12, %rdx
@@ -8698,7 +8698,7 @@ pie_depart_summed:
 	movq	%rdx, %r14
 	movq	%rsi, %r15
 	movq	%r8, 8(%rsp)
-	callq	"pie_summary::aggregates::fill"
+	callq	"pie_explain::explainer::fill"
 	movq	8(%rsp), %r8
 	movq	%r15, %rsi
 	movq	%r14, %rdx
@@ -9965,7 +9965,7 @@ pie_arrive_summed:
 	movq	%r8, %r15
 	movq	%rdx, %r12
 	movq	%r9, %r13
-	callq	"pie_summary::aggregates::fill"
+	callq	"pie_explain::explainer::fill"
 	movq	%r13, %r9
 	movq	%r12, %rdx
 	movq	%r15, %r8
@@ -9976,7 +9976,7 @@ pie_arrive_summed:
 	leaq	(%r8,%rdx), %rdi
 	addq	$144, %rdi
 	movq	%r8, %r15
-	callq	"pie_summary::aggregates::fill"
+	callq	"pie_explain::explainer::fill"
 	movq	%r15, %r8
 	movq	%r14, 272(%r8)
 	incq	288(%r8)
@@ -9984,7 +9984,7 @@ pie_arrive_summed:
 .LBB70_41:
 	leaq	288(%r8), %rdi
 	movq	%r8, %r15
-	callq	"pie_summary::aggregates::fill"
+	callq	"pie_explain::explainer::fill"
 	movq	%r15, %r8
 	addq	%r12, 304(%r8)
 	jae	.LBB70_44

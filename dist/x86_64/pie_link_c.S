@@ -255,10 +255,10 @@
 .Lfunc_end1:
 	.size	"pie_abi::opening::checked", .Lfunc_end1-"pie_abi::opening::checked"
 
-	.section	".text.pie_book::deciding_core::Core::twin","ax",@progbits
+	.section	".text.pie_book::deciding_core::Core::try_clone","ax",@progbits
 	.p2align	4
-	.type	"pie_book::deciding_core::Core::twin",@function
-"pie_book::deciding_core::Core::twin":
+	.type	"pie_book::deciding_core::Core::try_clone",@function
+"pie_book::deciding_core::Core::try_clone":
 	pushq	%rbp
 	pushq	%r15
 	pushq	%r14
@@ -387,7 +387,7 @@
 	popq	%rbp
 	retq
 .Lfunc_end2:
-	.size	"pie_book::deciding_core::Core::twin", .Lfunc_end2-"pie_book::deciding_core::Core::twin"
+	.size	"pie_book::deciding_core::Core::try_clone", .Lfunc_end2-"pie_book::deciding_core::Core::try_clone"
 
 	.section	".text.pie_book::deciding_core::Core::copy_from","ax",@progbits
 	.p2align	4
@@ -2323,10 +2323,10 @@
 	.long	.LBB14_45-.LJTI14_2
 	.long	.LBB14_45-.LJTI14_2
 
-	.section	".text.pie_excerpt::writing::push_number","ax",@progbits
+	.section	".text.pie_text::long_row::LongRow::number","ax",@progbits
 	.p2align	4
-	.type	"pie_excerpt::writing::push_number",@function
-"pie_excerpt::writing::push_number":
+	.type	"pie_text::long_row::LongRow::number",@function
+"pie_text::long_row::LongRow::number":
 	pushq	%r15
 	pushq	%r14
 	pushq	%rbx
@@ -2424,7 +2424,7 @@
 	popq	%r15
 	retq
 .Lfunc_end15:
-	.size	"pie_excerpt::writing::push_number", .Lfunc_end15-"pie_excerpt::writing::push_number"
+	.size	"pie_text::long_row::LongRow::number", .Lfunc_end15-"pie_text::long_row::LongRow::number"
 
 	.section	".text.pie_text::row::Row::number","ax",@progbits
 	.p2align	4
@@ -3637,7 +3637,7 @@ pie_link_open_port:
 	leaq	944(%rsp), %rsi
 	leaq	64(%rsp), %rdx
 	movq	%r15, %rdi
-	callq	"pie_book::deciding_core::Core::twin"
+	callq	"pie_book::deciding_core::Core::try_clone"
 	cmpb	$0, 4976(%rsp)
 	jne	.LBB22_20
 	movq	5176(%rsp), %rbx
@@ -3645,7 +3645,7 @@ pie_link_open_port:
 	leaq	5568(%rsp), %rdi
 	leaq	944(%rsp), %rsi
 	leaq	64(%rsp), %rdx
-	callq	"pie_book::deciding_core::Core::twin"
+	callq	"pie_book::deciding_core::Core::try_clone"
 	cmpb	$0, 5568(%rsp)
 	je	.LBB22_15
 	movq	%rbx, %rdi
@@ -9345,73 +9345,73 @@ pie_link_write_excerpt:
 	leaq	1040(%rsp), %rbx
 	movq	%rbx, %rdi
 	movq	776(%rsp), %rsi
-	callq	"pie_excerpt::writing::push_number"
+	callq	"pie_text::long_row::LongRow::number"
 	movq	%rbx, %rdi
 	movq	704(%rsp), %rsi
-	callq	"pie_excerpt::writing::push_number"
+	callq	"pie_text::long_row::LongRow::number"
 	movq	%rbx, %rdi
 	movq	720(%rsp), %rsi
-	callq	"pie_excerpt::writing::push_number"
+	callq	"pie_text::long_row::LongRow::number"
 	movq	%rbx, %rdi
 	movq	712(%rsp), %rsi
-	callq	"pie_excerpt::writing::push_number"
+	callq	"pie_text::long_row::LongRow::number"
 	movq	%rbx, %rdi
 	movq	736(%rsp), %rsi
-	callq	"pie_excerpt::writing::push_number"
+	callq	"pie_text::long_row::LongRow::number"
 	movq	%rbx, %rdi
 	movq	688(%rsp), %rsi
-	callq	"pie_excerpt::writing::push_number"
+	callq	"pie_text::long_row::LongRow::number"
 	movq	%rbx, %rdi
 	movq	696(%rsp), %rsi
-	callq	"pie_excerpt::writing::push_number"
+	callq	"pie_text::long_row::LongRow::number"
 	movq	%rbx, %rdi
 	movq	744(%rsp), %rsi
-	callq	"pie_excerpt::writing::push_number"
+	callq	"pie_text::long_row::LongRow::number"
 	movq	%rbx, %rdi
 	movq	752(%rsp), %rsi
-	callq	"pie_excerpt::writing::push_number"
+	callq	"pie_text::long_row::LongRow::number"
 	movq	%rbx, %rdi
 	movq	760(%rsp), %rsi
-	callq	"pie_excerpt::writing::push_number"
+	callq	"pie_text::long_row::LongRow::number"
 	movq	%rbx, %rdi
 	movq	768(%rsp), %rsi
-	callq	"pie_excerpt::writing::push_number"
+	callq	"pie_text::long_row::LongRow::number"
 	movq	%rbx, %rdi
 	movq	728(%rsp), %rsi
-	callq	"pie_excerpt::writing::push_number"
+	callq	"pie_text::long_row::LongRow::number"
 	movq	%rbx, %rdi
 	movq	%r14, %rsi
-	callq	"pie_excerpt::writing::push_number"
+	callq	"pie_text::long_row::LongRow::number"
 	movq	%rbx, %rdi
 	movq	784(%rsp), %rsi
-	callq	"pie_excerpt::writing::push_number"
+	callq	"pie_text::long_row::LongRow::number"
 	movq	%rbx, %rdi
 	movq	800(%rsp), %rsi
-	callq	"pie_excerpt::writing::push_number"
+	callq	"pie_text::long_row::LongRow::number"
 	movq	%rbx, %rdi
 	movq	808(%rsp), %rsi
-	callq	"pie_excerpt::writing::push_number"
+	callq	"pie_text::long_row::LongRow::number"
 	movq	%rbx, %rdi
 	movq	816(%rsp), %rsi
-	callq	"pie_excerpt::writing::push_number"
+	callq	"pie_text::long_row::LongRow::number"
 	movq	%rbx, %rdi
 	movq	824(%rsp), %rsi
-	callq	"pie_excerpt::writing::push_number"
+	callq	"pie_text::long_row::LongRow::number"
 	movq	%rbx, %rdi
 	movq	840(%rsp), %rsi
-	callq	"pie_excerpt::writing::push_number"
+	callq	"pie_text::long_row::LongRow::number"
 	movq	%rbx, %rdi
 	movq	856(%rsp), %rsi
-	callq	"pie_excerpt::writing::push_number"
+	callq	"pie_text::long_row::LongRow::number"
 	movq	%rbx, %rdi
 	movq	864(%rsp), %rsi
-	callq	"pie_excerpt::writing::push_number"
+	callq	"pie_text::long_row::LongRow::number"
 	movq	%rbx, %rdi
 	movq	872(%rsp), %rsi
-	callq	"pie_excerpt::writing::push_number"
+	callq	"pie_text::long_row::LongRow::number"
 	movq	%rbx, %rdi
 	movq	904(%rsp), %rsi
-	callq	"pie_excerpt::writing::push_number"
+	callq	"pie_text::long_row::LongRow::number"
 	movq	2320(%rsp), %rax
 	movb	$44, 1040(%rsp,%rax)
 	incq	%rax
@@ -9429,88 +9429,88 @@ pie_link_write_excerpt:
 	movq	%rax, 24(%rsp)
 	movq	%rbx, %rdi
 	movq	832(%rsp), %rsi
-	callq	"pie_excerpt::writing::push_number"
+	callq	"pie_text::long_row::LongRow::number"
 	movq	%rbx, %rdi
 	movq	848(%rsp), %rsi
-	callq	"pie_excerpt::writing::push_number"
+	callq	"pie_text::long_row::LongRow::number"
 	movq	%rbx, %rdi
 	movq	936(%rsp), %rsi
-	callq	"pie_excerpt::writing::push_number"
+	callq	"pie_text::long_row::LongRow::number"
 	movq	%rbx, %rdi
 	movq	880(%rsp), %rsi
-	callq	"pie_excerpt::writing::push_number"
+	callq	"pie_text::long_row::LongRow::number"
 	movq	%rbx, %rdi
 	movq	888(%rsp), %rsi
-	callq	"pie_excerpt::writing::push_number"
+	callq	"pie_text::long_row::LongRow::number"
 	movq	%rbx, %rdi
 	movq	896(%rsp), %rsi
-	callq	"pie_excerpt::writing::push_number"
+	callq	"pie_text::long_row::LongRow::number"
 	movq	%rbx, %rdi
 	movq	912(%rsp), %rsi
-	callq	"pie_excerpt::writing::push_number"
+	callq	"pie_text::long_row::LongRow::number"
 	movq	%rbx, %rdi
 	movq	920(%rsp), %rsi
-	callq	"pie_excerpt::writing::push_number"
+	callq	"pie_text::long_row::LongRow::number"
 	movq	%rbx, %rdi
 	movq	928(%rsp), %rsi
-	callq	"pie_excerpt::writing::push_number"
+	callq	"pie_text::long_row::LongRow::number"
 	movq	%rbx, %rdi
 	movq	%r14, %rsi
-	callq	"pie_excerpt::writing::push_number"
+	callq	"pie_text::long_row::LongRow::number"
 	movq	%rbx, %rdi
 	movq	%r15, %rsi
-	callq	"pie_excerpt::writing::push_number"
+	callq	"pie_text::long_row::LongRow::number"
 	movq	%rbx, %rdi
 	movq	%rbp, %rsi
-	callq	"pie_excerpt::writing::push_number"
+	callq	"pie_text::long_row::LongRow::number"
 	movq	%rbx, %rdi
 	movq	960(%rsp), %rsi
-	callq	"pie_excerpt::writing::push_number"
+	callq	"pie_text::long_row::LongRow::number"
 	movq	%rbx, %rdi
 	movq	24(%rsp), %rsi
-	callq	"pie_excerpt::writing::push_number"
+	callq	"pie_text::long_row::LongRow::number"
 	movq	%rbx, %rdi
 	movq	968(%rsp), %rsi
-	callq	"pie_excerpt::writing::push_number"
+	callq	"pie_text::long_row::LongRow::number"
 	movq	%rbx, %rdi
 	movq	976(%rsp), %rsi
-	callq	"pie_excerpt::writing::push_number"
+	callq	"pie_text::long_row::LongRow::number"
 	movq	%rbx, %rdi
 	movq	984(%rsp), %rsi
-	callq	"pie_excerpt::writing::push_number"
+	callq	"pie_text::long_row::LongRow::number"
 	movq	%rbx, %rdi
 	movq	992(%rsp), %rsi
-	callq	"pie_excerpt::writing::push_number"
+	callq	"pie_text::long_row::LongRow::number"
 	movq	%rbx, %rdi
 	movq	1000(%rsp), %rsi
-	callq	"pie_excerpt::writing::push_number"
+	callq	"pie_text::long_row::LongRow::number"
 	movq	%rbx, %rdi
 	movq	1008(%rsp), %rsi
-	callq	"pie_excerpt::writing::push_number"
+	callq	"pie_text::long_row::LongRow::number"
 	movq	%rbx, %rdi
 	movq	1016(%rsp), %rsi
-	callq	"pie_excerpt::writing::push_number"
+	callq	"pie_text::long_row::LongRow::number"
 	movq	%rbx, %rdi
 	movq	1024(%rsp), %rsi
-	callq	"pie_excerpt::writing::push_number"
+	callq	"pie_text::long_row::LongRow::number"
 	movq	%rbx, %rdi
 	movq	1032(%rsp), %rsi
-	callq	"pie_excerpt::writing::push_number"
+	callq	"pie_text::long_row::LongRow::number"
 	movq	%rbx, %rdi
 	movq	96(%rsp), %rsi
-	callq	"pie_excerpt::writing::push_number"
+	callq	"pie_text::long_row::LongRow::number"
 	movq	%rbx, %rdi
 	movq	40(%rsp), %rsi
-	callq	"pie_excerpt::writing::push_number"
+	callq	"pie_text::long_row::LongRow::number"
 	movq	%rbx, %rdi
 	movq	64(%rsp), %rsi
-	callq	"pie_excerpt::writing::push_number"
+	callq	"pie_text::long_row::LongRow::number"
 	movq	%rbx, %rdi
 	movq	8(%rsp), %rsi
-	callq	"pie_excerpt::writing::push_number"
+	callq	"pie_text::long_row::LongRow::number"
 	movq	%rbx, %rdi
 	movq	48(%rsp), %rsi
-	callq	"pie_excerpt::writing::push_number"
+	callq	"pie_text::long_row::LongRow::number"
 	pxor	%xmm0, %xmm0
 	movdqa	%xmm0, 640(%rsp)
 	movdqa	%xmm0, 624(%rsp)

@@ -1,7 +1,7 @@
 #!/usr/bin/env python3
 """Compares dist/ with the proved code. The checksums of dist/MANIFEST must hold, and its commit must have its tree
 of crates/. dist/'s assembly of the libraries must be byte for byte the output of bindings/c/library.py from the
-proved crates; assembled by the toolchain, dist/'s program must be the object file that `rt ci` built. If crates/ is
+proved crates; assembled and linked by the toolchain, dist/'s program must be the one that `rt ci` built. If crates/ is
 no longer the manifest's tree, a difference is printed, with the number of commits by which dist/ is older, and is
 no failure. Then `make check` runs in a new folder, with clang if it is installed: with cc, tests/documents/pages.py
 runs it, as the README has it.
@@ -133,12 +133,6 @@ def tree_of_crates():
         return git("rev-parse", f"{written}:crates")
 
 
-def plain(made, work):
-    """Returns an object file's bytes without the table by which LLVM's linker merges functions, which dist/ omits."""
-    subprocess.run(["objcopy", "--remove-section=.llvm_addrsig", made, f"{work}/plain.o"], check=True)
-    return Path(f"{work}/plain.o").read_bytes()
-
-
 def differs(name, text, work):
     """Returns the parts of the proved code that differ from dist/; prints a line and returns None if they cannot be
     compared."""
@@ -148,14 +142,20 @@ def differs(name, text, work):
             print(f"NOT RUN: {NAME}: {made.relative_to(ROOT)} is not here (bindings/c/library.py writes it), so {name}.S was not compared")
             return None
         return "" if made.read_text() == text else f"{name}.S is not the assembly of crates/{name}"
-    made, clang = ROOT / "crates/pie/out/pie.o", Path(shutil.which("rt") or "/").resolve().parent.parent / "toolchain/bin/clang"
-    if not made.exists() or not clang.exists() or not shutil.which("objcopy"):
-        print(f"NOT RUN: {NAME}: no {made.relative_to(ROOT)}, toolchain or objcopy here, so pie.S was not compared")
+    made, kit = ROOT / "crates/pie/out/pie", Path(shutil.which("rt") or "/").resolve().parent.parent
+    if not made.exists() or not (kit / "bin/rattle-link").exists():
+        print(f"NOT RUN: {NAME}: no {made.relative_to(ROOT)} or toolchain here, so pie.S was not compared")
         return None
     Path(f"{work}/pie.s").write_text(text)
-    words = [clang, "--target=x86_64-unknown-linux-gnu", "--no-default-config", "-march=x86-64-v2", "-x", "assembler", "-c", f"{work}/pie.s", "-o", f"{work}/pie.o"]
-    subprocess.run(words, check=True)
-    return "" if plain(f"{work}/pie.o", work) == plain(made, work) else "pie.S is not the assembly of the program that was built"
+    target = "x86_64-unknown-linux-gnu"
+    subprocess.run([kit / "toolchain/bin/clang", f"--target={target}", "--no-default-config", "-march=x86-64-v2", "-x", "assembler", "-c", f"{work}/pie.s",
+        "-o", f"{work}/pie.o"], check=True)
+    # (as rt links the program)
+    done = subprocess.run([kit / "bin/rattle-link", "--target", target, "--toolchain", kit / "toolchain", "-o", f"{work}/pie", f"{work}/pie.o",
+        kit / "c/libos_c.a", kit / "c/liblibc_c.a"], capture_output=True, text=True, check=False)
+    if done.returncode:
+        return f"pie.S can't be linked: {done.stderr}"
+    return "" if Path(f"{work}/pie").read_bytes() == made.read_bytes() else "pie.S is not the assembly of the program that was built"
 
 
 def compare(manifest, work):

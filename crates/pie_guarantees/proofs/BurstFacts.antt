@@ -4,7 +4,7 @@ use Rattle.pie_guarantees.proofs.Names.{deed, is_update, after_call, Held, Waiti
 use Rattle.pie_guarantees.proofs.Names.{held_after, params_after, parts_after, effective_moment, waiting_after, AllAllow, Allows, IsAllowed}
 use Rattle.pie_guarantees.proofs.Names.{KeepsParams, SetsAllow, nat_tests, burst_left, updates_in, IsLawful, IsEarly, ◌<◌, bytes_of}
 use Rattle.pie_guarantees.proofs.Names.{Some, ◌∙◌, AtEachEvent, deed_of, caller_moment, refusal_with, refusal_by_rule, in-range, length}
-use Rattle.pie_guarantees.proofs.Names.{effective_moment-push}
+use Rattle.pie_guarantees.proofs.Names.{effective_moment-push, refl, Reset}
 use Rattle.pie_aqm.specs.Steps as Steps
 use Rattle.pie_guarantees.proofs.LawfulFacts.{IsStep, all_along, along, along_updates, counted_with, first-held, sound_at, step_at}
 use Rattle.pie_guarantees.proofs.EarlyFacts.{early_at}
@@ -133,6 +133,10 @@ allowed_where_kept opening before later lawful keep =
     lawful (all_along (λ (event : Event). KeepsParams event.command) [] before keep) (subst Within (first-held opening) (omega arith))
 
 -- ---- moments with a whole allowance
+
+pub reset-whole : (h : Held) (waiting : List Waiting) (packets moment : ℕ)
+    → (after_call h (call_of waiting packets (Reset moment))).control.burst ≡ (after_call h (call_of waiting packets (Reset moment))).params.max_burst
+reset-whole h waiting packets moment = refl
 
 pub wakes-whole : (h : Held) (waiting : List Waiting) (packets : ℕ) (command : Command) → h.active ≡ false
     → (after_call h (call_of waiting packets command)).active ≡ true

@@ -1,5 +1,5 @@
 use Rattle.pie_guarantees.proofs.Names.{AtEachEvent, ◌≡◌, ◌∙◌, refl, subst, sym, ap, Command, Held, after_call, call_of, held_after, waiting_after}
-use Rattle.pie_guarantees.proofs.BurstFacts.{calm-whole, wakes-whole}
+use Rattle.pie_guarantees.proofs.BurstFacts.{calm-whole, reset-whole, wakes-whole}
 use Rattle.pie_guarantees.proofs.LawfulFacts.{first-held, step_at}
 use Rattle.pie_guarantees.proofs.bursts.allowances_begin_whole.Goals as goal
 
@@ -14,7 +14,8 @@ returns c = record {
   reset = λ opening before event later lawful moment is.
       let step = step_at opening before event later lawful in
       subst Whole (sym (step.held ∙ ap (λ (c : Command). after_call (held_after opening before)
-      (call_of (waiting_after opening before) opening.limits.packets c)) is)) refl;
+      (call_of (waiting_after opening before) opening.limits.packets c)) is))
+      (reset-whole (held_after opening before) (waiting_after opening before) opening.limits.packets moment);
   turned_on = λ opening before event later lawful off on.
       let step = step_at opening before event later lawful in
       subst Whole (sym step.held)

@@ -169,7 +169,8 @@ def half_spread(scenario, queues, field, part):
 @functools.cache
 def goodput_share(scenario, one, other, part):
     """Returns the margin of goodput as a share: that of the scenario, and at least that of the same part of `four`."""
-    name, kind = reference_scenario(scenario, one, other), "start" if is_start(scenario, RUNS.part(scenario, part)) else "after"
+    name = reference_scenario(scenario, one, other)
+    kind = "whole" if part == "whole" else "start" if is_start(scenario, RUNS.part(scenario, part)) else "after"
     own = half_spread(name, references(one, other), "goodput", part if name == scenario else kind)
     return max(own, half_spread("four", references(one, other), "goodput", kind))
 
@@ -232,9 +233,9 @@ def add(scenario, queue, *fields):
 
 
 def verdict_sentence(scenario):
-    goodput, wait = (test(scenario, "stamp", "pie", field) for field in ("goodput", "probe"))
-    return (f"the goodput differs by {interval(goodput, 'goodput')} Mbit/s, `{goodput[3]}`, and the wait by {interval(wait, 'probe')} ms, "
-            f"`{wait[3]}`")
+    goodput, wait = test(scenario, "stamp", "pie", "goodput", "whole"), test(scenario, "stamp", "pie", "probe")
+    return (f"the goodput differs by {interval(goodput, 'goodput')} Mbit/s, `{goodput[3]}`, and the wait after the start by "
+            f"{interval(wait, 'probe')} ms, `{wait[3]}`")
 
 
 def table(heads, lines):
@@ -300,36 +301,37 @@ def split_parts(scenario):
 
 
 def pairs_of(one="stamp", other="pie"):
-    """Yields scenario and part of each comparison of two queues."""
+    """Yields scenario, measure, part and seconds of each comparison of two queues: goodput over the whole run, and the wait in each part."""
     for name in SCENARIOS:
         if RUNS.rows.get((name, one)) and RUNS.rows.get((name, other)):
+            yield name, "goodput", "whole", RUNS.part(name, "whole")
             for part in split_parts(name):
-                yield name, f"{part[0]:g}-{part[1]:g}", part
+                yield name, "probe", f"{part[0]:g}-{part[1]:g}", part
 
 
 def same_table(one="stamp", other="pie"):
-    lines = []
-    for name, part, bounds in pairs_of(one, other):
-        cells = [f"`{name}`", name_of_part(bounds)]
-        for field in ("goodput", "probe"):
-            found = test(name, one, other, field, part)
-            ours = difference_of(name, one, other, field, part)[0]
-            digits = 3 if field == "goodput" and ours and fmean(ours) < 3 else None
-            cells.append(plus_minus(found, field, digits))
-        lines += [cells] * any(cells[2:])
-    return table(["scenario", "seconds", "goodput", "wait"], lines)
+    lines = {}
+    for name, field, part, bounds in pairs_of(one, other):
+        if found := test(name, one, other, field, part):
+            cells = lines.setdefault(name, [f"`{name}`", "", ""])
+            if field == "goodput":
+                is_slow = fmean(difference_of(name, one, other, field, part)[0]) < 3
+                cells[1] = plus_minus(found, field, 3 if is_slow else None)
+            else:
+                cells[2] += f"{'; ' * bool(cells[2])}{name_of_part(bounds)} s: {plus_minus(found, field)}"
+    return table(["scenario", "goodput", "wait"], lines.values())
 
 
 def verdicts(field, one="stamp", other="pie"):
     """Returns the number of comparisons with each verdict, in words."""
-    found = [test(name, one, other, field, part) for name, part, _ in pairs_of(one, other)]
+    found = [test(name, one, other, measure, part) for name, measure, part, _ in pairs_of(one, other) if measure == field]
     found = [it[3] for it in found if it]
     return f"{found.count('same')} same, {found.count('different')} different, {found.count('open')} open"
 
 
 def differing(one="stamp", other="pie"):
     """Returns the number of `different` comparisons, and their scenarios, in words."""
-    found = [(name, test(name, one, other, field, part)) for name, part, _ in pairs_of(one, other) for field in ("goodput", "probe")]
+    found = [(name, test(name, one, other, field, part)) for name, field, part, _ in pairs_of(one, other)]
     found = [(name, it[3]) for name, it in found if it]
     names = dict.fromkeys(f"`{name}`" for name, verdict in found if verdict == "different")
     return f"Of all {len(found)} comparisons, {sum(it[1] == 'different' for it in found)} are `different`: {', '.join(names)}."
@@ -337,7 +339,7 @@ def differing(one="stamp", other="pie"):
 
 def later_waits():
     """Returns the scenario and the result of each comparison of waits after a start."""
-    return [(name, test(name, "stamp", "pie", "probe", part)) for name, part, bounds in pairs_of() if bounds[0] > 0]
+    return [(name, test(name, "stamp", "pie", field, part)) for name, field, part, bounds in pairs_of() if field == "probe" and bounds[0] > 0]
 
 
 def longer():
@@ -366,39 +368,20 @@ PAIRS = [("stamp", "pie"), ("tail", "pfifo"), *((f"{it}-again", it) for it in TW
 
 def print_needs():
     """Prints for each open comparison the blocks that it has, and those that it needs."""
-    for name, part, _, one, other in [(*it, *pair) for pair in PAIRS for it in pairs_of(*pair)]:
-        for field in ("goodput", "probe"):
-            found = test(name, one, other, field, part)
-            if found and found[3] == "open":
-                has = len(difference_of(name, one, other, field, part)[0])
-                print(f"{name}, {part} s, {one} and {other}, {field}: {has} of {blocks_needed(name, one, other, field, part)}")
-
-
-# comparisons of equal queues that are not `same`: scenario, queue, part and measure. docs/RESULTS.in has the reasons, and
-# tests/documents/results.py lets this list only shrink
-NOT_SAME = [tuple(it.split()) for it in """
-    slow stamp 0-10 goodput, slow stamp 0-10 probe, slow stamp 10-40 goodput, hundred stamp 4-12 goodput,
-    hundred20 stamp 4-12 goodput, hundred200 stamp 4-12 goodput, onoff stamp 5-10 goodput, grant30 stamp 0-4 goodput,
-    gigabit stamp 0-1 goodput, gigabit stamp 1-2 goodput, gigabit stamp 1-2 probe, hundred pie 4-12 goodput,
-    trips pie 0-4 goodput, onoff pie 5-10 goodput, gigabit pie 0-1 goodput, gigabit pie 1-2 goodput,
-    gigabit pie 1-2 probe, four tail 4-12 goodput, reno tail 4-12 probe
-""".split(",")]
-
-# scenarios through both bottlenecks with the same algorithm
-SAME_ALGORITHM = ["full", "waves", "four", "reno", "short"]
+    for name, field, part, _, one, other in [(*it, *pair) for pair in PAIRS for it in pairs_of(*pair)]:
+        found = test(name, one, other, field, part)
+        if found and found[3] == "open":
+            has = len(difference_of(name, one, other, field, part)[0])
+            print(f"{name}, {part}, {one} and {other}, {field}: {has} of {blocks_needed(name, one, other, field, part)}")
 
 
 def same_calibration_table():
     """Compares the same algorithm through both bottlenecks."""
     lines = []
-    for name in filter(was_run, SAME_ALGORITHM):
-        for part in split_parts(name):
-            for field in ("probe", "goodput"):
-                bounds = f"{part[0]:g}-{part[1]:g}"
-                ours, theirs = difference_of(name, "tail", "pfifo", field, bounds)
-                found = test(name, "tail", "pfifo", field, bounds)
-                lines.append([f"`{name}`", name_of_part(part), "wait" if field == "probe" else field, str(len(ours)),
-                              shown(fmean(ours), field, 3), shown(fmean(theirs), field, 3), plus_minus(found, field, 3)])
+    for name, field, part, bounds in pairs_of("tail", "pfifo"):
+        ours, theirs = difference_of(name, "tail", "pfifo", field, part)
+        lines.append([f"`{name}`", name_of_part(bounds), "wait" if field == "probe" else field, str(len(ours)), shown(fmean(ours), field, 3),
+                      shown(fmean(theirs), field, 3), plus_minus(test(name, "tail", "pfifo", field, part), field, 3)])
     return table(["scenario", "seconds", "measure", "blocks", "tail drop, here", "`pfifo`", "difference"], lines)
 
 
@@ -411,7 +394,7 @@ def starts(*names):
     """Returns for the start of each block of tail drop here and `pfifo` the differences of the wait in ms, of the goodput as a share, and of the
     number of dropped probes; of all scenarios if none is named."""
     found = []
-    for name in names or dict.fromkeys(name for name, _, _ in pairs_of("tail", "pfifo")):
+    for name in names or dict.fromkeys(name for name, _, _, _ in pairs_of("tail", "pfifo")):
         ours, theirs = (RUNS.blocks(name, queue, "start") for queue in ("tail", "pfifo"))
         for block in sorted(ours.keys() & theirs.keys()):
             (wait, goodput, lost), (wait_there, goodput_there, lost_there) = ([float(row[field]) for field in ("probe", "goodput", "lost")]
@@ -429,74 +412,24 @@ def alike():
 
 
 @functools.cache
-def repeats():
-    """Returns the comparisons of two runs of the same queue in the same blocks, with different random words: scenario, queue, part, measure, the
-    number of blocks, and the result."""
-    found = []
-    for queue in TWICE:
-        for name, part, bounds in pairs_of(f"{queue}-again", queue):
-            for field in ("goodput", "probe"):
-                result = test(name, f"{queue}-again", queue, field, part)
-                if result:
-                    found.append((name, queue, bounds, field, len(difference_of(name, f"{queue}-again", queue, field, part)[0]), result))
-    return found
+def equal_queues(*pairs):
+    """Returns the comparisons of queues that are equal: by default two runs of each PIE in the same blocks, with different random words, and tail drop
+    here with `pfifo`. Each has the scenario, both queues, the measure, the part, and the result."""
+    found = [(name, one, other, field, part, test(name, one, other, field, part))
+             for one, other in pairs or PAIRS[1:] for name, field, part, _ in pairs_of(one, other)]
+    return [it for it in found if it[-1]]
 
 
 def is_start(scenario, part):
     return part == RUNS.part(scenario, "start") and len(RUNS.parts(scenario)) > 1
 
 
-@functools.cache
-def equal_queues():
-    """Returns the comparisons of equal queues: each PIE with itself, and tail drop here with `pfifo`."""
-    found = []
-    for name, part, bounds in pairs_of("tail", "pfifo"):
-        for field in ("goodput", "probe"):
-            found.append((name, "tail", bounds, field, len(difference_of(name, "tail", "pfifo", field, part)[0]),
-                          test(name, "tail", "pfifo", field, part)))
-    return [*repeats(), *found]
-
-
-def not_same():
-    """Returns the comparisons of equal queues whose verdict is not `same`, by the keys of NOT_SAME."""
-    return {(name, queue, f"{part[0]:g}-{part[1]:g}", field): (blocks, found)
-            for name, queue, part, field, blocks, found in equal_queues() if found[3] != "same"}
-
-
 def repeats_count():
-    """Returns the number of comparisons of a PIE with itself, of 90 % intervals that contain 0, and of verdicts, in words."""
-    inside = sum(it[-1][1] <= 0 <= it[-1][2] for it in repeats())
-    same = sum(it[-1][3] == "same" for it in repeats())
-    return f"{same} of {len(repeats())} comparisons are `same`, and the 90 % interval contains 0 in {100 * inside / len(repeats()):.0f} % of them."
-
-
-def sent(name, one, other, bounds, margin):
-    """Judges the difference of the rates at which the bottleneck sent."""
-    both = difference_of(name, one, other, "sent", f"{bounds[0]:g}-{bounds[1]:g}")
-    return compare_pairs(*([8e-6 * it / (bounds[1] - bounds[0]) for it in them] for them in both), margin)
-
-
-@functools.cache
-def not_same_rows():
-    """Returns the rows of equal queues that are not `same`, with the blocks that they need and the difference of what the bottleneck sent; and the
-    number of comparisons of goodput in which the bottleneck sent equally much."""
-    lines, equal = [], 0
-    for name, queue, bounds, field, blocks, found in equal_queues():
-        if found[3] != "same":
-            one, other = ("tail", "pfifo") if queue == "tail" else (f"{queue}-again", queue)
-            part = f"{bounds[0]:g}-{bounds[1]:g}"
-            margin = margin_of(name, one, other, field, part, difference_of(name, one, other, field, part)[1])
-            digits = 1 if field == "probe" else 3 if margin > 0.002 else 4
-            rates = sent(name, one, other, bounds, margin)
-            equal += field == "goodput" and rates[3] == "same"
-            cells = [plus_minus(found, field, digits).rpartition(" ")[0], shown(margin, field, digits), str(blocks)]
-            lines.append([f"`{name}`", f"`{queue}`", name_of_part(bounds), "wait" if field == "probe" else field, *cells,
-                          str(blocks_needed(name, one, other, field, part)), plus_minus(rates, "goodput", 3).rpartition(" ")[0]])
-    return lines, equal
-
-
-def not_same_table():
-    return table(["scenario", "queue", "seconds", "measure", "difference", "margin", "blocks", "needed", "bottleneck sent"], not_same_rows()[0])
+    """Returns the number of comparisons of equal queues, of verdicts, and of 90 % intervals that contain 0, in words."""
+    verdicts_of = [it[-1][3] for it in equal_queues()]
+    inside = [it[-1][1] <= 0 <= it[-1][2] for it in equal_queues()]
+    return (f"{verdicts_of.count('same')} of {len(verdicts_of)} comparisons are `same`, and the 90 % interval contains 0 in "
+            f"{100 * sum(inside) / len(inside):.0f} % of them.")
 
 
 @functools.cache
@@ -504,12 +437,10 @@ def comparisons():
     """Returns the rows of docs/comparisons.csv: PIE here beside Linux's, tail drop beside pfifo, and both PIEs beside themselves."""
     lines = [["scenario", "from", "to", "measure", "queue", "beside", "blocks", "difference", "least", "most", "margin", "verdict"]]
     for one, other in PAIRS:
-        for name, part, bounds in pairs_of(one, other):
-            for field in ("goodput", "probe"):
-                found, theirs = test(name, one, other, field, part), difference_of(name, one, other, field, part)[1]
-                if found:
-                    lines.append([name, *bounds, field, one, other, len(theirs), *found[:3], margin_of(name, one, other, field, part, theirs),
-                                  found[3]])
+        for name, field, part, bounds in pairs_of(one, other):
+            found, theirs = test(name, one, other, field, part), difference_of(name, one, other, field, part)[1]
+            if found:
+                lines.append([name, *bounds, field, one, other, len(theirs), *found[:3], margin_of(name, one, other, field, part, theirs), found[3]])
     measures = {"goodput": "goodput in Mbit/s", "probe": "wait in ms"}
     return "".join(",".join(measures.get(it, it) if isinstance(it, str) else f"{it:g}" if isinstance(it, int) or it == int(it) and abs(it) < 1e6
                             else shown(it, "", 4) for it in line) + "\n" for line in lines)
@@ -518,8 +449,8 @@ def comparisons():
 # comparisons of queues that are known to differ, and that give no margin: scenario, queues, measure, part
 CONTROLS = [("four", "wide", "stamp", "probe", "after"), ("far", "wide", "stamp", "probe", "after"), ("slow", "slowwide", "stamp", "probe", "after"),
             ("four", "tail", "stamp", "probe", "after"),
-            ("udp", "fq_codel", "stamp", "probe", "after"), ("udp", "fq_codel", "stamp", "goodput", "after"),
-            ("step", "rate", "stamp", "goodput", "18-32")]
+            ("udp", "fq_codel", "stamp", "probe", "after"), ("udp", "fq_codel", "stamp", "goodput", "whole"),
+            ("step", "rate", "stamp", "goodput", "whole")]
 
 
 def control_table():
@@ -534,11 +465,11 @@ def control_table():
 
 @functools.cache
 def extremes():
-    """Returns for each scenario and part the verdict of its reference queues with the greatest and the least mean goodput, if they differ by more
-    than those of `four`, so that they give the margin."""
+    """Returns for each scenario the verdict of its reference queues with the greatest and the least mean goodput, if they differ by more than those of
+    `four`, so that they give the margin."""
     found, queues = [], references("stamp", "pie")
-    for name, part, _ in pairs_of("stamp", "pie"):
-        is_own = reference_scenario(name, "stamp", "pie") == name
+    for name, field, part, _ in pairs_of("stamp", "pie"):
+        is_own = field == "goodput" and reference_scenario(name, "stamp", "pie") == name
         if is_own and half_spread(name, queues, "goodput", part) == goodput_share(name, "stamp", "pie", part):
             means = means_of(name, queues, "goodput", part)
             most, least = queues[means.index(max(means))], queues[means.index(min(means))]

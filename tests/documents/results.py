@@ -2,8 +2,8 @@
 """Checks docs/RESULTS.md, docs/comparisons.csv and docs/ellipses.svg: docs/results.py computes them from the stored runs. docs/RESULTS.in has no
 figure of its own, and README.md and docs/PARAMETERS.md repeat figures of the runs. A page with a changed figure fails.
 
-The stored A/A runs hold: each comparison of a PIE with itself, and of tail drop here with pfifo, is `same`, except those of results.NOT_SAME, for
-which the page has the reasons. The list may only shrink, and none of them is `different`. 84 % of the 90 % intervals contain 0. In each scenario
+The stored A/A runs hold: each comparison of a PIE with itself, and of tail drop here with pfifo, is `same`. 84 % of the 90 % intervals of a PIE with
+itself contain 0. In each scenario
 but reno, three of four starts agree within 0.15 ms at both bottlenecks, and of all starts 49 of 50 within 0.1 % of goodput. The margins can fail:
 queues that are known to differ are `different`. The page contains every scenario that was run, and all runs of RFC 7928's suite are stored.
 needs: nothing"""
@@ -39,28 +39,24 @@ for name, sentence in results.elsewhere():
     check(place >= 0 and results.differences({name: changed}), f"{name}: another figure than {sentence[begin:end]} passes")
 
 
-# the number of entries of results.NOT_SAME. Lower it when the list shrinks; it must never grow
-MOST_NOT_SAME = 19
-listed, found = results.NOT_SAME, results.not_same()
-for key, (_, it) in found.items():
-    check(key in listed, f"{' '.join(key)}: equal queues are not `same`, but {it[3]}: {results.interval(it, key[-1], 3)}")
-    check(it[3] == "open", f"{' '.join(key)}: equal queues differ: {results.interval(it, key[-1], 3)}")
-for key in listed:
-    check(key in found, f"{' '.join(key)}: these equal queues are `same`; results.NOT_SAME lists them")
-check(len(listed) == len(set(listed)) <= MOST_NOT_SAME, f"results.NOT_SAME has {len(listed)} comparisons, more than {MOST_NOT_SAME}")
+for name, one, other, field, part, it in results.equal_queues():
+    check(it[3] == "same", f"{name}, {part}: {one} and {other} are equal queues, but {it[3]}: {field}: {results.interval(it, field, 3)}")
+compared = {name for name, *_ in results.equal_queues()}
+for name, it in results.SCENARIOS.items():
+    check(name in compared or not it["again"] and not {"tail", "pfifo"} <= it["queues"].keys(), f"scenario {name}: no queue is compared with its equal")
 for name, one, other, field, part in results.CONTROLS:
     it = results.test(name, one, other, field, part)
     check(it[3] == "different", f"{name}, {part}: {one} and {other} are known to differ, and are {it[3]}: {field}: {results.interval(it, field)}")
 wide = results.test("four", "wide", "stamp", "probe")
 margin = results.margin_of("four", "wide", "stamp", "probe", "after", list(results.RUNS.values("four", "stamp", "probe").values()))
 check(margin < wide[1], f"the margin of waits, {margin}, does not tell targets of 15 and 20 ms apart")
-for name in results.SAME_ALGORITHM:
+for name in dict.fromkeys(name for name, *_ in results.pairs_of("tail", "pfifo")):
     waits = [wait for wait, _, _ in results.starts(name)]
     near, least = sum(wait <= results.NEAR for wait in waits), 0.75 if name != "reno" else 0.3    # (Reno's starts lose many packets, and some probes)
     check(near >= least * len(waits), f"{name}: only {near} of {len(waits)} starts are alike at both bottlenecks")
 far = sum(goodput >= results.NEAR_GOODPUT for _, goodput, _ in results.starts())
 check(50 * far <= len(results.starts()), f"the goodput of {far} of {len(results.starts())} starts differs at both bottlenecks")
-inside = [it[-1][1] <= 0 <= it[-1][2] for it in results.repeats()]
+inside = [it[-1][1] <= 0 <= it[-1][2] for it in results.equal_queues(*results.PAIRS[2:])]
 check(sum(inside) >= 0.84 * len(inside), f"of {len(inside)} intervals of 90 per cent for no difference only {sum(inside)} contain 0")
 runs, stored, _ = results.estimate(results.ROWS)
 check(runs == stored, f"{stored} of {runs} runs of the suite of RFC 7928 are stored")

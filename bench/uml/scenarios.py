@@ -35,7 +35,7 @@ TABLE = [
      "--seconds 8 --from 2 --probe 20ms --flows 1:udp=7mbit:20ms 1:burst=200x1s:20ms"),
     ("reno", "", "4 Reno", "tail,pfifo,pie:4,fq_codel:4,cake:4", 77, "--flows 4:reno:20ms"),
     ("two", "", "2 Mbit/s, 4 CUBIC", "stamp,pie:50,fq_codel:4,cake:4,pfifo:4,pie-low:6,pie-high:6", 30, "--rate 2mbit --seconds 25 --from 5"),
-    ("slow", "", "0.5 Mbit/s, 4 CUBIC, limit 1 s", "stamp:460,pie:112,fq_codel:4,cake:4,pfifo:4,slowwide:14,mtu:10,pie-low:8,pie-high:8", 20,
+    ("slow", "", "0.5 Mbit/s, 4 CUBIC, limit 1 s", "stamp:470,pie:112,fq_codel:4,cake:4,pfifo:4,slowwide:14,mtu:10,pie-low:8,pie-high:8", 20,
      "--rate 500kbit --limit 1s --seconds 40 --from 10"),
     ("far", "6", "4 CUBIC, 100 ms", f"{FIVE},half:12,wide:8", 12, "--flows 4:cubic:100ms"),
     ("udp", "5.3", "4 CUBIC, UDP of 12 Mbit/s", FIVE, 14, "--flows 4:cubic:20ms 1:udp=12mbit:20ms"),
@@ -68,11 +68,11 @@ TABLE = [
     ("sixteen", "8", "16 CUBIC", "stamp:36,pie,fq_codel:4,cake:4,pfifo:4", 16, "--flows 16:cubic:20ms"),
     ("onoff", "8.2.5", "2 CUBIC, and 16 more from 5 to 10 s", f"{FIVE},half:3", 10,
      "--seconds 15 --from 0 --flows 2:cubic:20ms 8:cubic:20ms:5s-10s 8:cubic:20ms:5s-10s"),
-    ("grant30", "", "4 CUBIC, grants of 30 ms", "stamp:215,rate:12", 46, "--grant 30ms"),
+    ("grant30", "", "4 CUBIC, grants of 30 ms", "stamp:240,rate:12", 46, "--grant 30ms"),
     ("bucket", "", "2 Mbit/s, 4 CUBIC, a bucket of 1514 bytes in htb", "pie", 43, "--rate 2mbit --seconds 25 --from 5 --bucket 1514"),
     ("fifty", "", "50 Mbit/s, 4 CUBIC", FIVE, 10, "--rate 50mbit --seconds 7 --from 3 --probe 50ms"),
-    ("gigabit", "", "1 Gbit/s, 16 CUBIC", "stamp:48,pie:16,fq_codel:2,cake:2,pfifo:2", 4,
-     "--rate 1gbit --seconds 2 --from 1 --probe 10ms --flows 16:cubic:20ms"),
+    ("gigabit", "", "1 Gbit/s, 16 CUBIC", "stamp,pie,fq_codel:2,cake:2,pfifo:2", 10,
+     "--rate 1gbit --seconds 2 --from 0 --probe 10ms --flows 16:cubic:20ms"),
 ]
 # queues that run each block twice
 TWICE = ["stamp", "pie"]

@@ -3,9 +3,9 @@
 figure of its own, and README.md and docs/PARAMETERS.md repeat figures of the runs. A page with a changed figure fails.
 
 The stored A/A runs hold: each comparison of a PIE with itself, and of tail drop here with pfifo, is `same`. 84 % of the 90 % intervals of a PIE with
-itself contain 0. In each scenario
-but reno, three of four starts agree within 0.15 ms at both bottlenecks, and of all starts 49 of 50 within 0.1 % of goodput. The margins can fail:
-queues that are known to differ are `different`. The page contains every scenario that was run, and all runs of RFC 7928's suite are stored.
+itself contain 0. In each scenario but reno, three of four starts agree within 0.15 ms at both bottlenecks, and of all starts 24 of 25 within 0.1 % of
+goodput. The margins can fail: queues that are known to differ are `different`. The page contains every scenario that was run, and all runs of RFC
+7928's suite are stored.
 needs: nothing"""
 import os
 import re
@@ -55,7 +55,7 @@ for name in dict.fromkeys(name for name, *_ in results.pairs_of("tail", "pfifo")
     near, least = sum(wait <= results.NEAR for wait in waits), 0.75 if name != "reno" else 0.3    # (Reno's starts lose many packets, and some probes)
     check(near >= least * len(waits), f"{name}: only {near} of {len(waits)} starts are alike at both bottlenecks")
 far = sum(goodput >= results.NEAR_GOODPUT for _, goodput, _ in results.starts())
-check(50 * far <= len(results.starts()), f"the goodput of {far} of {len(results.starts())} starts differs at both bottlenecks")
+check(25 * far <= len(results.starts()), f"the goodput of {far} of {len(results.starts())} starts differs at both bottlenecks")
 inside = [it[-1][1] <= 0 <= it[-1][2] for it in results.equal_queues(*results.PAIRS[2:])]
 check(sum(inside) >= 0.84 * len(inside), f"of {len(inside)} intervals of 90 per cent for no difference only {sum(inside)} contain 0")
 runs, stored, _ = results.estimate(results.ROWS)

@@ -74,7 +74,7 @@ def interrupted(process):
     return process.returncode, printed, errors
 
 
-def told(printed):
+def totals(printed):
     """Returns the numbers of the last line, by their keywords."""
     last = printed.splitlines()[-1]
     assert last.startswith("pie-fwd: ") and last.endswith(" 0 mbufs missing"), printed
@@ -118,7 +118,7 @@ def interrupt():
         process.send_signal(signal.SIGINT)
         rest = process.communicate(timeout=PATIENCE)[0]
         assert process.returncode == 0 and all(LINE.match(line) for line in lines), (process.returncode, lines, rest)
-        told(rest)
+        totals(rest)
         assert os.listdir(work) == ["json"]
     return "interrupt"
 
@@ -264,10 +264,10 @@ def telemetry():
             assert (after["changes"], after["target"]) == (1, 3000000) and after["updates"] > stats["updates"], (stats, after)
             process.send_signal(signal.SIGHUP)
             printed = process.communicate(timeout=PATIENCE)[0]
-        assert process.returncode == 0 and told(printed)["changes of parameters"] == 1, printed
+        assert process.returncode == 0 and totals(printed)["changes of parameters"] == 1, printed
         text = Path(path).read_text()
         assert re.findall(r"^params,.*$", text, re.M)[0].split(",")[3:] == [*map(str, wanted.values()), "done"]
-        assert audited(path)[1] == events_of(told(printed))
+        assert audited(path)[1] == events_of(totals(printed))
         holds_records(f"{work}/records", path, "100ms")
     return "telemetry"
 
@@ -296,7 +296,7 @@ def full_speed():
                     gaps += len(found)
                     lost += sum(map(int, found))
         printed = forward.communicate(timeout=PATIENCE)[0]
-        numbers = told(printed)
+        numbers = totals(printed)
         events = events_of(numbers)
         assert forward.returncode == 0 and numbers["events lost to the history"] == lost, printed
         assert lines == 2 + events - lost + gaps, (lines, events, lost, gaps)
@@ -348,7 +348,7 @@ def queues():
         assert set(departed) == {"0", "1"} and int(departed["0"]) > 0 and departed["1"] == "0", departed
         assert [queue["packets"] > 0 for queue in two] == [True, False], two
         ends = [audited(f"{work}/history{it}")[1] for it in ("", "-1")]
-        assert sum(ends) == events_of(told(printed)) and ends[1] > 0, (ends, printed)
+        assert sum(ends) == events_of(totals(printed)) and ends[1] > 0, (ends, printed)
         assert all(audited(f"{work}/flight{it}")[1] <= end for it, end in zip(("", "-1"), ends))
         for it in ("", "-1"):
             holds_records(f"{work}/records{it}", f"{work}/history{it}", "150ms")
@@ -387,7 +387,7 @@ def flows():
             until(lambda: Path(work, "history.4").exists() and Path(work, "flight").exists(), process)
             status, printed, errors = interrupted(process)
         assert status == 0, (status, printed, errors)
-        events_of(told(printed))
+        events_of(totals(printed))
         header, *rows = [line.split(",") for line in Path(work, "flows").read_text().splitlines()]
         assert header[0] == "flow" and len(rows) == len(FLOWS), rows
         numbers = {tuple(row[1:]): int(row[0], 16) for row in rows}
@@ -412,7 +412,7 @@ def device_full():
     everything freed if its output is closed."""
     status, printed, errors = run(PACED, "--total-num-mbufs=2048", "--receive", "20mbit", "--for", "1s", "--history", "/dev/full")
     assert status == 1 and errors.count("--history /dev/full: No space left on device") == 1, (status, errors)
-    told(printed)
+    totals(printed)
     status, _, errors = run(PACED, "--receive", "20mbit", "--for", "1s", "--records", "/dev/full")
     assert status == 1 and errors.count("--records /dev/full: No space left on device") == 1, (status, errors)
     process = subprocess.Popen(command(PACED, "--total-num-mbufs=2048", "--receive", "20mbit"), stdout=subprocess.PIPE, text=True)
@@ -427,7 +427,7 @@ def paced():
         path = f"{work}/history"
         since = now()
         status, printed, errors = run(PACED, "--rate", "40mbit", "--receive", "48mbit", "--for", "1s", "--history", path)
-        events = events_of(told(printed))
+        events = events_of(totals(printed))
         assert status == 0 and Path(path).read_bytes().count(NEWLINE) == events + 2, (status, printed, errors)
         audited(path)
         tells_time(path, since)
@@ -453,7 +453,7 @@ def flight():
             texts.append(audited(path))
         process.send_signal(signal.SIGINT)
         printed = process.communicate(timeout=PATIENCE)[0]
-        told(printed)
+        totals(printed)
         assert process.returncode == 0 and len(texts) == 3 and all(last > before > 0 for before, last in texts), (printed, texts)
         assert texts[0][1] <= texts[1][1] <= texts[2][1] and audited(f"{path}.before") == texts[1], texts
         words = ["--rate", "20mbit", "--receive", "40mbit", "--flight-wait", "30ms", "--flight", path, "--limit", "400p"]
@@ -478,7 +478,7 @@ def segments():
         with running(PACED, *words) as process:
             until(path.with_name("history.5").exists, process)
             status, printed, errors = interrupted(process)
-        events = events_of(told(printed))
+        events = events_of(totals(printed))
         names = sorted(os.listdir(work), key=lambda name: int(name.rpartition(".")[2]))
         assert status == 0 and len(names) == 3 and names[0] != "history.1", (names, printed, errors)
         ends = [audited(str(path.with_name(name))) for name in names]
@@ -506,7 +506,7 @@ def real_time():
     packets = sum(count for _, count, _ in lines)
     wait = sum(count * wait for _, count, wait in lines) / packets
     rate = sum(rate for rate, _, _ in lines) / len(lines)
-    told(printed)
+    totals(printed)
     waits = [it[2] for it in lines]
     print(f"mean wait {wait:.3f} ms at {rate:.3f} Mbit/s in {len(lines)} s; of each second {min(waits)} to {max(waits)} ms")
     assert status == 0 and 13.5 <= wait <= 16.5 and 99 <= rate <= 101, printed

@@ -238,24 +238,24 @@ static bool write_texts(void) {
 static void report(void) {
     char port[RTE_ETH_NAME_MAX_LEN];
     struct pie_stage_stats before[FWD_QUEUES] = {0}, after[FWD_QUEUES];
-    uint64_t hz = rte_get_tsc_hz(), start = rte_rdtsc(), told = start, written[FWD_QUEUES];
+    uint64_t hz = rte_get_tsc_hz(), start = rte_rdtsc(), printed = start, written[FWD_QUEUES];
     const struct fwd_options *options = &forward.options;
-    bool is_told_of_file = false, is_quick = options->history != NULL || options->records != NULL || options->stage.flight_wait != 0;
+    bool is_reported = false, is_quick = options->history != NULL || options->records != NULL || options->stage.flight_wait != 0;
     rte_eth_dev_get_name_by_port(OUT, port);
     for (uint32_t i = 0; i < FWD_QUEUES; i++)
         written[i] = start - hz;
     for (;;) {
         uint64_t now = rte_rdtsc();
         bool is_over = is_stopped() || (options->lasts != 0 && (double)(now - start) / (double)hz * 1e9 >= (double)options->lasts);
-        if (now - told >= hz || is_over) {
+        if (now - printed >= hz || is_over) {
             read_all(after);
-            fwd_print_lines(forward.queues.count, before, after, (double)(now - told) / (double)hz);
-            if (!fwd_write_files(options, port, after) && !is_told_of_file) {
+            fwd_print_lines(forward.queues.count, before, after, (double)(now - printed) / (double)hz);
+            if (!fwd_write_files(options, port, after) && !is_reported) {
                 fprintf(stderr, "pie-fwd: the file of --metrics or --json: %s\n", strerror(errno));
-                is_told_of_file = true;
+                is_reported = true;
             }
             memcpy(before, after, sizeof before);
-            told = now;
+            printed = now;
         }
         write_flights(written);
         // the program ends if the reader of its lines is gone

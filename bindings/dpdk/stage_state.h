@@ -37,12 +37,12 @@ struct cut {
     uint64_t at; /* number of the first event of the new text */
     struct pie_state pie;
     struct pie_stats stats;
-    uint64_t count, bytes;  /* number of events, bytes in the queue */
-    uint64_t first;         /* number of the oldest queued packet */
-    uint32_t packets, told; /* number of queued packets, and of those written */
-    struct waiting *queue;  /* the queued packets: packet n has the index n modulo the queue's room */
-    uint32_t *flows;        /* their flows with the same indexes; NULL without flows */
-    struct clock clock;     /* wall-clock time of the new text */
+    uint64_t count, bytes;     /* number of events, bytes in the queue */
+    uint64_t first;            /* number of the oldest queued packet */
+    uint32_t packets, written; /* number of queued packets, and of those written */
+    struct waiting *queue;     /* the queued packets: packet n has the index n modulo the queue's room */
+    uint32_t *flows;           /* their flows with the same indexes; NULL without flows */
+    struct clock clock;        /* wall-clock time of the new text */
 };
 
 /* The records that a stage keeps. */

@@ -182,7 +182,7 @@ static void test_decisions(uint32_t events, uint32_t flight) {
     params.events = events;
     params.flight = flight;
     struct pie_stage *stage = stage_of(&params);
-    struct told told = {0};
+    struct content content = {0};
     char name[64];
     FILE *file = events != 0 ? open_history(flight != 0 ? "decisions-both" : "decisions") : NULL;
     uint64_t hz = rte_get_tsc_hz(), start = rte_rdtsc(), marked = 0, in = 0, out = 0, shared = 0;
@@ -219,9 +219,9 @@ static void test_decisions(uint32_t events, uint32_t flight) {
     EXPECT(stats.prob > 0 && stats.no_ip == 0 && stats.refused == 0);
     EXPECT(stats.marked >= marked && stats.marked - marked <= stats.waiting && stats.waiting == stats.queued - out);
     if (events != 0) {
-        take_history(stage, file, &told);
-        EXPECT(fclose(file) == 0 && told.gaps == 0);
-        expect_told(stage, &told);
+        take_history(stage, file, &content);
+        EXPECT(fclose(file) == 0 && content.gaps == 0);
+        expect_history(stage, &content);
     }
     pie_stage_free(stage);
     expect_all_back();
@@ -265,7 +265,7 @@ static void test_first_marks(void) {
 static void test_record(void) {
     struct pie_stage_params params;
     struct pie_stage_stats stats;
-    struct told told = {0};
+    struct content content = {0};
     unrecorded(&params);
     params.opening.packets = 4;
     params.events = 16;
@@ -278,13 +278,13 @@ static void test_record(void) {
     EXPECT(pie_stage_enqueue(stage, mbufs, 7, now) == 4 && pie_stage_dequeue(stage, out, 2, now - hz) == 2);
     rte_pktmbuf_free_bulk(out, 2);
     EXPECT(pie_stage_update(stage, now + hz));
-    take_history(stage, file, &told);
+    take_history(stage, file, &content);
     pie_stage_read(stage, &stats);
-    EXPECT(fclose(file) == 0 && told.lines == 11 && stats.oversized == 1 && stats.earlier == 1 && stats.full == 2);
-    expect_told(stage, &told);
+    EXPECT(fclose(file) == 0 && content.lines == 11 && stats.oversized == 1 && stats.earlier == 1 && stats.full == 2);
+    expect_history(stage, &content);
     pie_stage_free(stage);
     stage = stage_of(&params);
-    told = (struct told){0};
+    content = (struct content){0};
     file = open_history("gap");
     for (int round = 0; round < 20; round++) {
         for (int i = 0; i < 7; i++)
@@ -295,16 +295,16 @@ static void test_record(void) {
     }
     pie_stage_read(stage, &stats);
     EXPECT(stats.lost > 0);
-    take_history(stage, file, &told);
-    EXPECT(told.gaps == 1 && told.lost >= stats.lost);
+    take_history(stage, file, &content);
+    EXPECT(content.gaps == 1 && content.lost >= stats.lost);
     EXPECT(pie_stage_update(stage, now + 2 * hz));
-    take_history(stage, file, &told);
-    EXPECT(told.gaps == 1);
+    take_history(stage, file, &content);
+    EXPECT(content.gaps == 1);
     for (int i = 0; i < 200; i++)
         EXPECT(pie_stage_update(stage, now + (uint64_t)(3 + i) * hz));
-    take_history(stage, file, &told);
-    EXPECT(fclose(file) == 0 && told.gaps == 2);
-    expect_told(stage, &told);
+    take_history(stage, file, &content);
+    EXPECT(fclose(file) == 0 && content.gaps == 2);
+    expect_history(stage, &content);
     pie_stage_free(stage);
     expect_all_back();
     printf("stage_test: the record, and events that are missed\n");
@@ -368,7 +368,7 @@ static void test_cut(void) {
     params.opening.packets = 100;
     params.events = 1024;
     struct pie_stage *stage = stage_of(&params);
-    struct told told = {0};
+    struct content content = {0};
     uint64_t hz = rte_get_tsc_hz(), now = rte_rdtsc(), lost = 0;
     EXPECT(!pie_stage_history_cut(stage)); // (nothing was written yet)
     FILE *file = open_history("cut-0");
@@ -382,13 +382,13 @@ static void test_cut(void) {
         if (round == 250) { // more than may be pending
             for (int i = 0; i < 2000; i++)
                 EXPECT(pie_stage_update(stage, now += hz / 500));
-            lost = told.lost;
+            lost = content.lost;
         }
         if (round % 50 != 0)
             continue;
-        take_history(stage, file, &told);
+        take_history(stage, file, &content);
         EXPECT(pie_stage_history_cut(stage) && !pie_stage_history_cut(stage));
-        take_history(stage, file, &told);
+        take_history(stage, file, &content);
         EXPECT(fclose(file) == 0);
         if (round > 0) {
             struct resumed resumed = read_resumed(name);
@@ -396,17 +396,17 @@ static void test_cut(void) {
             struct pie_stage_stats stats;
             pie_stage_read(stage, &stats);
             last = events_of(&stats);
-            EXPECT(told.gaps != 0 || resumed.before + resumed.events == last);
+            EXPECT(content.gaps != 0 || resumed.before + resumed.events == last);
         } else {
-            last = told.lines - 1;
+            last = content.lines - 1;
         }
-        EXPECT((told.gaps != 0) == (round == 250) && told.lost >= lost && told.clocks == 1);
-        told = (struct told){0};
+        EXPECT((content.gaps != 0) == (round == 250) && content.lost >= lost && content.clocks == 1);
+        content = (struct content){0};
         snprintf(name, sizeof name, "cut-%d", round + 1);
         file = open_history(name);
     }
-    take_history(stage, file, &told);
-    EXPECT(fclose(file) == 0 && told.gaps == 0 && read_resumed(name).before == last);
+    take_history(stage, file, &content);
+    EXPECT(fclose(file) == 0 && content.gaps == 0 && read_resumed(name).before == last);
     pie_stage_free(stage);
     expect_all_back();
     printf("stage_test: a history that is cut\n");
@@ -470,7 +470,7 @@ static void test_params(uint32_t events, uint32_t flight) {
     struct pie_stage_params params;
     struct pie_params wanted, found;
     struct pie_stage_stats stats;
-    struct told told = {0};
+    struct content content = {0};
     struct rte_mbuf *mbufs[8], *out[8];
     char name[64];
     unrecorded(&params);
@@ -508,9 +508,9 @@ static void test_params(uint32_t events, uint32_t flight) {
     }
     EXPECT(stats.changes == 5 && stats.bytes > 0); // (the new limit drops)
     if (file != NULL) {
-        take_history(stage, file, &told);
+        take_history(stage, file, &content);
         EXPECT(fclose(file) == 0);
-        expect_told(stage, &told);
+        expect_history(stage, &content);
     }
     if (flight != 0)
         expect_flight(stage, strcat(name, "-flight"), flight);

@@ -42,13 +42,13 @@ void unrecorded(struct pie_stage_params *params);
 struct pie_stage *stage_of(struct pie_stage_params *params);
 
 /* The content of a history. */
-struct told {
+struct content {
     uint64_t lines, lost, gaps; /* lines except clock records; missing events; lines `lost`, which report them */
     uint64_t clocks;            /* clock records */
 };
 
-/* Writes the pending part of the history to a file, and adds its lines to `told`. */
-void take_history(struct pie_stage *stage, FILE *file, struct told *told);
+/* Writes the pending part of the history to a file, and adds its lines to `content`. */
+void take_history(struct pie_stage *stage, FILE *file, struct content *content);
 
 /* Opens the file NAME.ENDING in the folder. open_history opens NAME.history. */
 FILE *open_text(const char *name, const char *ending);
@@ -71,7 +71,7 @@ struct resumed read_resumed(const char *name);
 struct resumed expect_flight(struct pie_stage *stage, const char *name, uint64_t least);
 
 /* Checks that each decision of a recorded stage is in its history, or counted as lost. */
-void expect_told(struct pie_stage *stage, const struct told *told);
+void expect_history(struct pie_stage *stage, const struct content *content);
 
 /* The content of interval records. */
 struct summed {

@@ -57,11 +57,11 @@ void expect_summed(struct pie_stage *stage, const struct summed *summed) {
 }
 
 /* Cuts the history, and opens the file of the next text. */
-static FILE *next_part(struct pie_stage *stage, FILE *history, struct told *told, const char *name, int part) {
+static FILE *next_part(struct pie_stage *stage, FILE *history, struct content *content, const char *name, int part) {
     char next[96];
-    take_history(stage, history, told);
+    take_history(stage, history, content);
     EXPECT(pie_stage_history_cut(stage));
-    take_history(stage, history, told);
+    take_history(stage, history, content);
     EXPECT(fclose(history) == 0);
     snprintf(next, sizeof next, "%s-%d", name, part);
     return open_history(next);
@@ -72,7 +72,7 @@ static FILE *next_part(struct pie_stage *stage, FILE *history, struct told *told
  * records. Writes files with this name, and the history in parts. */
 static void sum_up(const char *kind, uint64_t every, uint64_t profile, uint32_t events, int silent) {
     struct pie_stage_params params;
-    struct told told = {0};
+    struct content content = {0};
     struct summed summed = {0};
     struct rte_mbuf *mbufs[8], *out[16];
     char name[64];
@@ -102,15 +102,15 @@ static void sum_up(const char *kind, uint64_t every, uint64_t profile, uint32_t 
             EXPECT(pie_stage_set_params(stage, &params.opening.params, now) == PIE_DONE);
         }
         if (history != NULL && round % 300 == 299)
-            history = next_part(stage, history, &told, name, ++part);
+            history = next_part(stage, history, &content, name, ++part);
         if (round % 40 == 0 && (round < 600 || round >= 600 + silent))
             take_records(stage, false, records, &summed);
     }
     take_records(stage, true, records, &summed);
     EXPECT(fclose(records) == 0 && pie_stage_record(stage, true, (unsigned char[PIE_RESUME_ROOM]){0}, PIE_RESUME_ROOM) == 0);
     if (history != NULL) {
-        take_history(stage, history, &told);
-        EXPECT(fclose(history) == 0 && told.gaps == 0);
+        take_history(stage, history, &content);
+        EXPECT(fclose(history) == 0 && content.gaps == 0);
     }
     expect_summed(stage, &summed);
     EXPECT((summed.lost != 0) == (silent != 0) && summed.records >= 40 && (summed.turned_off != 0) == (profile == PIE_ON_AND_OFF));
@@ -121,7 +121,7 @@ static void sum_up(const char *kind, uint64_t every, uint64_t profile, uint32_t 
 /* Tests events less than a nanosecond apart: those at the very end of an interval belong to the next one. */
 static void sum_up_closely(void) {
     struct pie_stage_params params;
-    struct told told = {0};
+    struct content content = {0};
     struct summed summed = {0};
     unrecorded(&params);
     params.events = 1 << 16;
@@ -136,8 +136,8 @@ static void sum_up_closely(void) {
         take_records(stage, false, records, &summed);
     }
     take_records(stage, true, records, &summed);
-    take_history(stage, history, &told);
-    EXPECT(fclose(records) == 0 && fclose(history) == 0 && told.gaps == 0 && summed.lost == 0 && summed.records >= 10);
+    take_history(stage, history, &content);
+    EXPECT(fclose(records) == 0 && fclose(history) == 0 && content.gaps == 0 && summed.lost == 0 && summed.records >= 10);
     expect_summed(stage, &summed);
     pie_stage_free(stage);
     expect_all_back();
@@ -199,7 +199,7 @@ static uint64_t expect_flows(const char *name) {
  * is full at times. */
 void test_flows(uint32_t events, uint32_t flight) {
     struct pie_stage_params params;
-    struct told told = {0};
+    struct content content = {0};
     struct rte_mbuf *mbufs[40], *out[32];
     char name[64];
     uint64_t now = rte_rdtsc();
@@ -226,12 +226,12 @@ void test_flows(uint32_t events, uint32_t flight) {
             EXPECT(expect_flight(stage, name, flight).queued > 10 && expect_flows(name) >= flight);
         }
         if (events != 0 && round % 100 == 0)
-            file = next_part(stage, file, &told, "flows", round);
+            file = next_part(stage, file, &content, "flows", round);
     }
     EXPECT(asked == 300 * 40);
     if (events != 0) {
-        take_history(stage, file, &told);
-        EXPECT(fclose(file) == 0 && told.gaps == 0);
+        take_history(stage, file, &content);
+        EXPECT(fclose(file) == 0 && content.gaps == 0);
         EXPECT(expect_flows("flows-0") > 3000 && expect_flows("flows-100") > 3000 && expect_flows("flows-200") > 3000);
     }
     pie_stage_free(stage);

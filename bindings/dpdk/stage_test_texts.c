@@ -15,18 +15,18 @@ struct pie_stage *stage_of(struct pie_stage_params *params) {
     return stage;
 }
 
-void take_history(struct pie_stage *stage, FILE *file, struct told *told) {
+void take_history(struct pie_stage *stage, FILE *file, struct content *content) {
     unsigned char text[4096];
     size_t size;
     while ((size = pie_stage_history(stage, text, sizeof text)) != 0) {
         EXPECT(size <= sizeof text && text[size - 1] == '\n' && fwrite(text, 1, size, file) == size);
         for (unsigned char *line = text; line < text + size; line = (unsigned char *)memchr(line, '\n', size) + 1) {
             bool is_clock = memcmp(line, "clock,", 6) == 0;
-            told->lines += !is_clock;
-            told->clocks += is_clock;
+            content->lines += !is_clock;
+            content->clocks += is_clock;
             if (memcmp(line, "lost,", 5) == 0) {
-                told->gaps++;
-                told->lost += strtoull((const char *)line + 5, NULL, 10);
+                content->gaps++;
+                content->lost += strtoull((const char *)line + 5, NULL, 10);
             }
         }
     }
@@ -94,10 +94,10 @@ struct resumed expect_flight(struct pie_stage *stage, const char *name, uint64_t
     return resumed;
 }
 
-void expect_told(struct pie_stage *stage, const struct told *told) {
+void expect_history(struct pie_stage *stage, const struct content *content) {
     struct pie_stage_stats stats;
     pie_stage_read(stage, &stats);
     uint64_t events = events_of(&stats);
-    EXPECT(stats.refused == 0 && told->lost == stats.lost && (told->lost == 0) == (told->gaps == 0));
-    EXPECT(told->lines == 1 + events - told->lost + told->gaps && told->clocks == 1);
+    EXPECT(stats.refused == 0 && content->lost == stats.lost && (content->lost == 0) == (content->gaps == 0));
+    EXPECT(content->lines == 1 + events - content->lost + content->gaps && content->clocks == 1);
 }

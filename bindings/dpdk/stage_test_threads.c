@@ -27,7 +27,7 @@ static void *churn(void *argument) {
 
 void test_cut_beside(int cuts) {
     struct pie_stage_params params;
-    struct told told = {0};
+    struct content content = {0};
     pthread_t other;
     char name[64] = "turns-0";
     uint64_t last = 0;
@@ -41,23 +41,23 @@ void test_cut_beside(int cuts) {
     EXPECT(pthread_create(&other, NULL, churn, stage) == 0);
     for (int cut = 0; cut < cuts; cut++) {
         FILE *file = open_history(name);
-        while (told.lines < 5000) // (so that the queue is long, and packets queued at one cut are gone at the next)
-            take_history(stage, file, &told);
+        while (content.lines < 5000) // (so that the queue is long, and packets queued at one cut are gone at the next)
+            take_history(stage, file, &content);
         EXPECT(pie_stage_history_cut(stage) && !pie_stage_history_cut(stage));
-        take_history(stage, file, &told);
+        take_history(stage, file, &content);
         EXPECT(fclose(file) == 0);
-        struct resumed resumed = {.before = 0, .events = told.lines - 1};
+        struct resumed resumed = {.before = 0, .events = content.lines - 1};
         if (cut > 0)
             resumed = read_resumed(name);
         EXPECT(last == 0 || resumed.before == last);
-        last = told.gaps != 0 ? 0 : resumed.before + resumed.events;
-        told = (struct told){0};
+        last = content.gaps != 0 ? 0 : resumed.before + resumed.events;
+        content = (struct content){0};
         snprintf(name, sizeof name, "turns-%d", cut + 1);
     }
     __atomic_store_n(&are_done, 1, __ATOMIC_SEQ_CST);
     EXPECT(pthread_join(other, NULL) == 0);
     FILE *file = open_history(name);
-    take_history(stage, file, &told);
+    take_history(stage, file, &content);
     EXPECT(fclose(file) == 0);
     pie_stage_free(stage);
     expect_all_back();
@@ -139,7 +139,7 @@ static void *update_and_read(void *argument) {
 struct writer {
     struct pie_stage *stage;
     FILE *file;
-    struct told told;
+    struct content content;
 };
 
 struct record_writer {
@@ -172,7 +172,7 @@ static void *write_flights(void *argument) {
 static void *write_history(void *argument) {
     struct writer *writer = argument;
     while (!__atomic_load_n(&are_done, __ATOMIC_SEQ_CST))
-        take_history(writer->stage, writer->file, &writer->told);
+        take_history(writer->stage, writer->file, &writer->content);
     return NULL;
 }
 
@@ -229,9 +229,9 @@ void test_threads(uint32_t rounds, uint32_t events, uint32_t flight, uint64_t ev
     EXPECT(pthread_join(taker, NULL) == 0 && pthread_join(updater, NULL) == 0);
     if (events != 0) {
         EXPECT(pthread_join(recorder, NULL) == 0);
-        take_history(stage, writer.file, &writer.told);
+        take_history(stage, writer.file, &writer.content);
         EXPECT(fclose(writer.file) == 0);
-        expect_told(stage, &writer.told);
+        expect_history(stage, &writer.content);
     }
     if (every != 0) {
         EXPECT(pthread_join(summer, NULL) == 0);

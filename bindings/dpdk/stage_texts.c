@@ -18,21 +18,21 @@ static size_t begin_text(struct pie_stage *stage, unsigned char *text, size_t ro
         stage->is_timed = false;
         cut->state = BEGUN;
     }
-    for (; cut->told < cut->packets && room - size >= PIE_RECORD_ROOM; cut->told++, stage->text.records++) {
-        uint64_t place = (cut->first + cut->told) % stage->room;
+    for (; cut->written < cut->packets && room - size >= PIE_RECORD_ROOM; cut->written++, stage->text.records++) {
+        uint64_t place = (cut->first + cut->written) % stage->room;
         const struct waiting *it = &cut->queue[place];
         uint64_t tag = tag_of(stage, it->tag, stage->flow != NULL ? cut->flows[place] : 0);
         size += pie_write_queued(tag, it->size, it->ecn, it->arrived, text + size, room - size);
     }
-    if (cut->told == cut->packets)
+    if (cut->written == cut->packets)
         cut->state = NONE;
     return size;
 }
 
 /* Passes the queued packets with the numbers `next` to `end` - 1 to `take`, at most `most`. Returns the next number.
  * Packets are numbered from 0 in the order of the queue; packets that departed are skipped. The lock is held. */
-static uint64_t hand_turn(struct pie_stage *stage, uint64_t next, uint64_t end, uint64_t most,
-                          void take(void *to, uint64_t number, const struct waiting *packet), void *to) {
+static uint64_t visit_queued(struct pie_stage *stage, uint64_t next, uint64_t end, uint64_t most,
+                             void take(void *to, uint64_t number, const struct waiting *packet), void *to) {
     struct rte_ring_zc_data data = {0};
     uint64_t first = stage->stats.departed;
     next = RTE_MAX(next, first);
@@ -64,7 +64,7 @@ static void cut_here(struct pie_stage *stage) {
     cut->bytes = stage->bytes;
     cut->first = stage->stats.departed;
     cut->packets = stage->packets;
-    cut->told = 0;
+    cut->written = 0;
     cut->state = AHEAD_OF_US;
     if (stage->periods != NULL)
         pie_period_clock(&stage->periods->current, cut->clock.moment, cut->clock.unix_time);
@@ -78,7 +78,7 @@ static void cut_history(struct pie_stage *stage) {
         before = left;
         stage->cut.clock = read_clock(stage);
         rte_spinlock_lock(&stage->lock);
-        next = hand_turn(stage, next, UINT64_MAX, most, copy_packet, stage);
+        next = visit_queued(stage, next, UINT64_MAX, most, copy_packet, stage);
         left = stage->stats.queued - next;
         if (left == 0)
             cut_here(stage);
@@ -149,14 +149,14 @@ size_t pie_stage_record(struct pie_stage *stage, bool is_over, unsigned char *te
     return size;
 }
 
-/* The arguments of tell_packet: the stage, and the ring of packets that a flight recorder's owner fills. */
+/* The arguments of record_packet: the stage, and the ring of packets that a flight recorder's owner fills. */
 struct handed {
     const struct pie_stage *stage;
     PIE_WORD *queued;
     uint64_t places;
 };
 
-static void tell_packet(void *to, uint64_t number, const struct waiting *packet) {
+static void record_packet(void *to, uint64_t number, const struct waiting *packet) {
     const struct handed *handed = to;
     const struct pie_stage *stage = handed->stage;
     uint64_t tag = tag_of(stage, packet->tag, stage->flow != NULL ? stage->flows[number % stage->room] : 0);
@@ -172,7 +172,7 @@ static void hand_over(void *owner, PIE_WORD *queued, uint64_t places) {
     while (next < end) {
         rte_spinlock_lock(&stage->lock);
         end = RTE_MIN(end, stage->stats.queued);
-        next = hand_turn(stage, next, end, HANDED_OVER, tell_packet, &handed);
+        next = visit_queued(stage, next, end, HANDED_OVER, record_packet, &handed);
         rte_spinlock_unlock(&stage->lock);
     }
 }

@@ -305,7 +305,7 @@ static void tell(struct bottleneck *link, uint64_t now) {
     counted->burst = link->pie.burst;
     counted->packets = link->queue.count;
     counted->bytes = link->queue.bytes;
-    tell_metrics(&link->metrics, counted, now);
+    pass_metrics(&link->metrics, counted, now);
 }
 
 /* Moves all packets that are due. */
@@ -372,7 +372,7 @@ static void *write_history(void *argument) {
     while (!atomic_load(&link->is_closed)) {
         write_if_asked(link);
         tell_flows(link);
-        write_told_metrics(&link->metrics, "link");
+        write_pending_metrics(&link->metrics, "link");
         follow(link);
         nanosleep(&pause, NULL);
     }

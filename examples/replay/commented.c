@@ -34,11 +34,11 @@ bool write_interface(FILE *file, int link, uint32_t longest) {
 }
 
 bool write_frame(FILE *file, const struct pcap_pkthdr *header, uint64_t moment, const uint8_t *bytes, const char *comment) {
-    size_t told = strlen(comment);
-    uint32_t size = 32 + padded(header->caplen) + (told != 0 ? 8 + padded(told) : 0);
+    size_t length = strlen(comment);
+    uint32_t size = 32 + padded(header->caplen) + (length != 0 ? 8 + padded(length) : 0);
     const uint32_t words[] = {PACKET, size, 0, (uint32_t)(moment >> 32), (uint32_t)moment, header->caplen, header->len};
     bool is_put = put(file, words, sizeof words) && put(file, bytes, header->caplen);
-    if (told != 0)
-        is_put = is_put && put_option(file, OPTION_COMMENT, comment, told) && put_option(file, OPTION_END, "", 0);
+    if (length != 0)
+        is_put = is_put && put_option(file, OPTION_COMMENT, comment, length) && put_option(file, OPTION_END, "", 0);
     return is_put && put(file, &size, sizeof size);
 }

@@ -41,8 +41,8 @@ static uint32_t transport_header(uint32_t protocol, const uint8_t *bytes, size_t
         return UDP_HEADER;
     if (protocol != PROTOCOL_TCP)
         return 0;
-    uint32_t told = caught > 12 ? (bytes[12] >> 4) * 4u : TCP_HEADER;
-    return told < TCP_HEADER ? TCP_HEADER : told;
+    uint32_t stated = caught > 12 ? (bytes[12] >> 4) * 4u : TCP_HEADER;
+    return stated < TCP_HEADER ? TCP_HEADER : stated;
 }
 
 static int read_ipv4(const uint8_t *bytes, size_t caught, size_t length, struct ip_packet *packet) {

@@ -208,23 +208,23 @@ bool write_metrics(const char *path, const struct metrics_queue *queues, size_t 
 void open_metrics(struct metrics_file *file, const char *path, const char *link) {
     memset(file, 0, sizeof *file);
     file->path = path;
-    file->queue = (struct metrics_queue){.link = link, .metrics = &file->told};
+    file->queue = (struct metrics_queue){.link = link, .metrics = &file->copy};
 }
 
-void tell_metrics(struct metrics_file *file, const struct metrics *metrics, uint64_t moment) {
+void pass_metrics(struct metrics_file *file, const struct metrics *metrics, uint64_t moment) {
     if (!is_metrics_due(file, moment))
         return;
-    file->told = *metrics;
+    file->copy = *metrics;
     file->due = moment + METRICS_PERIOD;
-    atomic_store_explicit(&file->is_told, true, memory_order_release);
+    atomic_store_explicit(&file->is_pending, true, memory_order_release);
 }
 
-void write_told_metrics(struct metrics_file *file, const char *program) {
-    if (file->path == NULL || !atomic_load_explicit(&file->is_told, memory_order_acquire))
+void write_pending_metrics(struct metrics_file *file, const char *program) {
+    if (file->path == NULL || !atomic_load_explicit(&file->is_pending, memory_order_acquire))
         return;
     if (!write_metrics(file->path, &file->queue, 1) && !file->is_refused) {
         fprintf(stderr, "%s: --metrics %s: %s\n", program, file->path, strerror(errno));
         file->is_refused = true;
     }
-    atomic_store_explicit(&file->is_told, false, memory_order_release);
+    atomic_store_explicit(&file->is_pending, false, memory_order_release);
 }

@@ -54,9 +54,9 @@ bool remove_metrics(void);
 struct metrics_file {
     const char *path; /* NULL if none are written */
     struct metrics_queue queue;
-    struct metrics told;
+    struct metrics copy;
     uint64_t due;            /* the moment at which the metrics are written again */
-    atomic_bool is_told;     /* true while `told` belongs to the writing thread, false while to the deciding one */
+    atomic_bool is_pending;  /* true while `copy` belongs to the writing thread, false while to the deciding one */
     bool is_refused;         /* true after the error of a failed write was printed */
 };
 
@@ -67,13 +67,13 @@ void open_metrics(struct metrics_file *file, const char *path, const char *link)
 
 /* Returns true if a second has passed and the last metrics were written. The deciding thread calls it. */
 static inline bool is_metrics_due(const struct metrics_file *file, uint64_t moment) {
-    return file->path != NULL && moment >= file->due && !atomic_load_explicit(&file->is_told, memory_order_acquire);
+    return file->path != NULL && moment >= file->due && !atomic_load_explicit(&file->is_pending, memory_order_acquire);
 }
 
 /* Passes the metrics to the writer, if they are due. */
-void tell_metrics(struct metrics_file *file, const struct metrics *metrics, uint64_t moment);
+void pass_metrics(struct metrics_file *file, const struct metrics *metrics, uint64_t moment);
 
 /* Writes the metrics, and reports an error once for `program`. The writing thread calls it. */
-void write_told_metrics(struct metrics_file *file, const char *program);
+void write_pending_metrics(struct metrics_file *file, const char *program);
 
 #endif

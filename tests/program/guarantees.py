@@ -27,18 +27,18 @@ seen, broken, reached = Counter(), Counter(), set()
 
 # The text that the contract of each law must contain, without spaces.
 CLAUSES = {
-    "bursts_are_let_in": ["0 < (parts_after opening before).burst → is_early event.answer ≡ false"],
-    "bursts_are_let_in_so_long": [
+    "no_early_drop_within_burst_allowance": ["0 < (parts_after opening before).burst → is_early event.answer ≡ false"],
+    "burst_allowance_lasts": [
         "IsEarly event → burst ≤ updates_in between * most }",
         "effective_moment opening before + updates_in between * least ≤ effective_moment opening (before ++ between) + least)",
         "effective_moment opening before + burst_left opening before "
         "≤ effective_moment opening (before ++ between) + (params_after opening before).t_update }",
         "(parts_after opening before).last + burst_left opening before ≤ effective_moment opening (before ++ between) }"],
-    "short_queues_are_left_alone": ["bytes_after opening before ≤ 2 * (params_after opening before).mean_pkt → is_early event.answer ≡ false"],
-    "low_delay_is_left_alone": ["2 * (parts_after opening before).old_delay < (params_after opening before).target "
+    "no_early_drop_in_short_queues": ["bytes_after opening before ≤ 2 * (params_after opening before).mean_pkt → is_early event.answer ≡ false"],
+    "no_early_drop_at_low_delay": ["2 * (parts_after opening before).old_delay < (params_after opening before).target "
                                 "→ (parts_after opening before).prob < 200_000_000_000 → is_early event.answer ≡ false"],
-    "inactive_controllers_let_all_in": ["(λ opening before event. active_after opening before ≡ false → is_early event.answer ≡ false)"],
-    "capable_packets_are_spared": ["(λ opening before event. OnlyMarks opening before → SparesCapable event)"],
+    "no_early_drop_while_inactive": ["(λ opening before event. active_after opening before ≡ false → is_early event.answer ≡ false)"],
+    "capable_packets_are_not_dropped_early": ["(λ opening before event. OnlyMarks opening before → SparesCapable event)"],
     "only_capable_packets_are_marked": ["(λ opening before event. MarksOnlyCapable event)"],
     "queues_stay_within_their_limits": [
         "length (waiting_after opening history) ≤ opening.limits.packets) }",
@@ -53,20 +53,20 @@ CLAUSES = {
         "probability_after opening (before ++ event ∷ []) * 100 ≤ probability_after opening before * 98)"],
     "controllers_recover": ["182 ≤ updates_in between → HasRecovered opening (before ++ between))",
                             "1204 ≤ updates_in between → HasRecovered opening (before ++ between))"],
-    "picks_start_anew": ["IsEarly event → accu_after opening (before ++ event ∷ []) ≡ 0)"],
+    "picks_reset_the_sum": ["IsEarly event → accu_after opening (before ++ event ∷ []) ≡ 0)"],
     "picks_are_far_apart": ["IsEarly event → 850_000_000_000 ≤ (considered_in opening before between + 1) * most }"],
     "picks_are_not_too_far_apart": ["considered_in opening before between * least < 8_500_000_000_000)"],
-    "picks_never_follow_at_once": ["considered_in opening (before ++ first ∷ []) between ≡ 0 → IsEarly second "
+    "picks_are_not_consecutive": ["considered_in opening (before ++ first ∷ []) between ≡ 0 → IsEarly second "
                                    "→ 850_000_000_000 ≤ counted_at opening (before ++ first ∷ [] ++ between) second }"],
     "picks_share_the_probability": [
         "850_000_000_000 * picks_in between ≤ counted_in opening before between)",
         "counted_in opening before between "
         "< 9_500_000_000_000 * picks_in between + 8_500_000_000_000 * (restarts_in opening before between + 1))"],
-    "lasting_delays_are_answered": [
+    "lasting_delays_raise_the_probability": [
         "updates_to_a_tenth (params_after opening before) least ≤ updates_in between → 10 ^ 11 ≤ probability_after opening (before ++ between))",
         "burst_left opening before ≤ updates_in between * (params_after opening before).t_update → burst_left opening (before ++ between) ≡ 0)",
         "updates_to_a_tenth default_profile 30_000_000 ≡ 164 }"],
-    "a_clock_ahead_delays_updates_by_as_much": [
+    "a_clock_ahead_delays_updates": [
         "moment < effective_moment opening before + (params_after opening before).t_update }",
         "moment < effective_moment opening before + ahead + (params_after opening (before ++ event ∷ [])).t_update)"],
     "the_link_does_not_idle": ["2 * (params_after opening before).mean_pkt < bytes_after opening (before ++ event ∷ []))",

@@ -169,7 +169,7 @@ cause_words shown cause = considered_words shown cause
 
 -- ---- The duration of a cause, by the laws of docs/GUARANTEES.md
 
--- the duration of a burst allowance: updates after the last one use it up (`bursts_are_let_in_so_long`); the
+-- the duration of a burst allowance: updates after the last one use it up (`burst_allowance_lasts`); the
 -- duration of a low accumulated probability: the number of considered packets whose shares reach 0.85
 -- (`picks_are_far_apart`)
 unfoldable pub lasting_words : Option Clock → ℕ → Cause → List ℕ

@@ -12,11 +12,11 @@ pub lowered_below : IsLegal lowered_opening lowered × (bytes_after lowered_open
 unfolding worked
 lowered_below = (all_legal lowered_opening (places lowered) refl refl, refl, refl)
 
-pub early_so_soon : IsLegal burst_opening (burst_begins ++ burst_continues ++ first_drop ∷ []) × IsWhole burst_opening burst_begins
+pub early_at_bound : IsLegal burst_opening (burst_begins ++ burst_continues ++ first_drop ∷ []) × IsWhole burst_opening burst_begins
     × (effective_moment burst_opening burst_begins ≡ 99) × (effective_moment burst_opening (burst_begins ++ burst_continues) ≡ 200)
     × IsEarly first_drop
 unfolding worked
-early_so_soon = (all_legal burst_opening (places (burst_begins ++ burst_continues ++ first_drop ∷ [])) refl refl, refl, refl, refl, refl)
+early_at_bound = (all_legal burst_opening (places (burst_begins ++ burst_continues ++ first_drop ∷ [])) refl refl, refl, refl, refl, refl)
 
 pub one_flow_picked : IsLegal flows_opening (half_is_reached ++ flows_in_turn) × (picks_of 1 flows_in_turn ≡ 3) × (picks_of 2 flows_in_turn ≡ 0)
 unfolding worked

@@ -24,7 +24,7 @@ pub fn allowances_begin_whole()
 ///
 /// If parameters change, the least allowance and the greatest and least intervals of all apply (`apart` for the
 /// time). The remaining allowance is at most `max_burst` if parameters never changed (`allowed`).
-pub fn bursts_are_let_in_so_long()
+pub fn burst_allowance_lasts()
     ensures updates { (burst : ℕ) (least : ℕ) (most : ℕ) (opening : Opening) (before : List Event) (between : List Event) (event : Event)
         (later : List Event) → IsLawful opening (before ++ between ++ event ∷ later) → burst ≤ burst_left opening before
         → AllAllow burst least most opening before between → IsEarly event → burst ≤ updates_in between * most }

@@ -10,7 +10,7 @@ ghost use Rattle.pie_guarantees.specs.{Event, Opening, Update, deed_of, is_updat
 /// moment far ahead delays updates by at most `ahead` nanoseconds. In general, an update is refused only if it is
 /// less than one `t_update` after the greatest moment so far (`at_most`), and after an update each such update is
 /// (`exactly`; RFC 8033, section 4.2; the effective moment is this project's own).
-pub fn a_clock_ahead_delays_updates_by_as_much()
+pub fn a_clock_ahead_delays_updates()
     ensures at_most { (opening : Opening) (before : List Event) (later : List Event) → IsLawful opening (before ++ later) → (moment : ℕ) (due : ℕ)
         → refusal_by_rule opening before (Update moment) ≡ Some (TooSoon due)
         → moment < effective_moment opening before + (params_after opening before).t_update }

@@ -6,13 +6,13 @@ ghost use Rattle.pie_guarantees.specs.{MarksOnlyCapable, OnlyMarks, SparesCapabl
 
 /// While burst allowance is left no packet is marked or dropped early (RFC 8033, section 4.4).
 #[tactic(auto, using(crate::proofs::EarlyFacts::in_a_burst))]
-pub fn bursts_are_let_in()
+pub fn no_early_drop_within_burst_allowance()
     ensures { AtEachEvent (λ opening before event. 0 < (parts_after opening before).burst → is_early event.answer ≡ false) }
 {}
 
 /// While at most two packets of the mean size wait, by their bytes, none is marked or dropped early (RFC 8033, section 4.1).
 #[tactic(auto, using(crate::proofs::EarlyFacts::at_a_short_queue))]
-pub fn short_queues_are_left_alone()
+pub fn no_early_drop_in_short_queues()
     ensures { AtEachEvent (λ opening before event. bytes_after opening before ≤ 2 * (params_after opening before).mean_pkt
         → is_early event.answer ≡ false) }
 {}
@@ -20,20 +20,20 @@ pub fn short_queues_are_left_alone()
 /// While the last update's delay is below half the target, and the probability below 20 per cent, no packet is marked or dropped early
 /// (RFC 8033, section 4.1).
 #[tactic(auto, using(crate::proofs::EarlyFacts::at_low_delay))]
-pub fn low_delay_is_left_alone()
+pub fn no_early_drop_at_low_delay()
     ensures { AtEachEvent (λ opening before event. 2 * (parts_after opening before).old_delay < (params_after opening before).target
         → (parts_after opening before).prob < 200_000_000_000 → is_early event.answer ≡ false) }
 {}
 
 /// While the controller is inactive no packet is marked or dropped early (RFC 8033, section 5.3; profile two alone is ever inactive).
 #[tactic(auto, using(crate::proofs::EarlyFacts::while_inactive))]
-pub fn inactive_controllers_let_all_in()
+pub fn no_early_drop_while_inactive()
     ensures { AtEachEvent (λ opening before event. active_after opening before ≡ false → is_early event.answer ≡ false) }
 {}
 
 /// A packet whose endpoints understand a mark is never dropped early while the probability is below `mark_ecnth` (RFC 8033, section 5.1).
 #[tactic(auto, using(crate::proofs::EarlyFacts::capable_spared))]
-pub fn capable_packets_are_spared()
+pub fn capable_packets_are_not_dropped_early()
     ensures { AtEachEvent (λ opening before event. OnlyMarks opening before → SparesCapable event) }
 {}
 

@@ -16,29 +16,29 @@ pub mod response;
 pub mod spacing;
 pub mod worked;
 
-pub use bursts::{allowances_begin_whole, bursts_are_let_in_so_long};
+pub use bursts::{allowances_begin_whole, burst_allowance_lasts};
 pub use clean_histories::clean_histories_are_lawful;
-pub use clock::a_clock_ahead_delays_updates_by_as_much;
+pub use clock::a_clock_ahead_delays_updates;
 pub use counts::{
     every_packet_is_accounted_for, queues_stay_within_their_limits, waits_are_bounded,
 };
 pub use early_drop::{
-    bursts_are_let_in, capable_packets_are_spared, inactive_controllers_let_all_in,
-    low_delay_is_left_alone, only_capable_packets_are_marked, short_queues_are_left_alone,
-    the_link_does_not_idle,
+    capable_packets_are_not_dropped_early, no_early_drop_at_low_delay,
+    no_early_drop_in_short_queues, no_early_drop_while_inactive,
+    no_early_drop_within_burst_allowance, only_capable_packets_are_marked, the_link_does_not_idle,
 };
 pub use links::links_are_lawful;
 pub use probability::{
-    how_fast_the_probability_changes, steady_delays_move_the_probability,
-    the_probability_follows_the_delay, what_gives_a_higher_probability,
+    causes_of_a_higher_probability, speed_of_the_probability, steady_delays_move_the_probability,
+    the_probability_follows_the_delay,
 };
 pub use rates::{the_estimated_delay_lies_between, the_rate_lies_between_its_samples};
-pub use response::{controllers_recover, lasting_delays_are_answered};
+pub use response::{controllers_recover, lasting_delays_raise_the_probability};
 pub use spacing::{
-    picks_are_far_apart, picks_are_not_too_far_apart, picks_never_follow_at_once,
-    picks_share_the_probability, picks_start_anew,
+    picks_are_far_apart, picks_are_not_consecutive, picks_are_not_too_far_apart,
+    picks_reset_the_sum, picks_share_the_probability,
 };
 pub use worked::{
-    a_clock_at_its_end_refuses_every_update, bursts_may_meet_an_early_drop_so_soon,
+    a_clock_at_its_end_refuses_every_update, burst_bound_is_tight,
     limits_may_be_lowered_below_the_queue, one_flow_may_receive_every_pick,
 };

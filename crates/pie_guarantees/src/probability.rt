@@ -37,7 +37,7 @@ pub fn the_probability_follows_the_delay()
 /// update can give a lower one after it: at a delay of one second, after none, 10 per cent becomes 12, and a hair less than 10 becomes 78.7 (`below`,
 /// `from_a_tenth`).
 #[tactic(auto, using(crate::proofs::NextFacts::next_mono, crate::proofs::ProbabilityFacts::at_a_tenth))]
-pub fn what_gives_a_higher_probability()
+pub fn causes_of_a_higher_probability()
     ensures delay { (elements : Elements) (params : RawParams) (prob : ℕ) (old : ℕ) (delay : ℕ) (more : ℕ) → delay ≤ more
         → next elements params prob delay old ≤ next elements params prob more old }
     ensures below { next usual default_profile 99_999_999_999 1_000_000_000 0 ≡ 786_562_499_999 }
@@ -51,7 +51,7 @@ pub fn what_gives_a_higher_probability()
 /// falls by at least 2 per cent with each update (`fades`); without delay from 1 to a tenth in 87 updates, 1.3
 /// seconds (`faded`, `not_yet_faded`).
 #[tactic(auto, using(crate::proofs::ProbabilityFacts::exactly, crate::proofs::ProbabilityFacts::fades_with_updates, crate::proofs::ProbabilityFacts::steadily))]
-pub fn how_fast_the_probability_changes()
+pub fn speed_of_the_probability()
     ensures steady { (delay : ℕ) → BetweenAny (λ opening before between. AllAlong (IsSteady delay opening) before between
         → probability_after opening (before ++ between)
         ≡ after_updates (updates_in between) opening.choices.elements (params_after opening before) delay (probability_after opening before)) }

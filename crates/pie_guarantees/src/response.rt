@@ -13,7 +13,7 @@ ghost use Rattle.pie_guarantees.specs.{after_updates, untuned_fall, FindsNoDelay
 /// twice the target (`at_twice_the_target`). After ⌈allowance / `t_update`⌉ updates the burst allowance is used up (`burst`). From then on, and after
 /// the first such update, each arrival that finds room, and more than two mean packets in the queue, is considered (`considered`). So by
 /// `picks_are_not_too_far_apart`, if probabilities accumulate, at most 84 more of these arrivals pass before the first is picked.
-pub fn lasting_delays_are_answered()
+pub fn lasting_delays_raise_the_probability()
     ensures probability { (least : ℕ) → BetweenAny (λ opening before between. (params_after opening before).target ≤ least
         → 2048 ≤ untuned_rise (params_after opening before) least → AllAlong (IsLasting least opening) before between
         → updates_to_a_tenth (params_after opening before) least ≤ updates_in between → 10 ^ 11 ≤ probability_after opening (before ++ between)) }

@@ -7,7 +7,7 @@ ghost use Rattle.pie_book.specs.Estimates.{accu_after};
 
 /// A packet that is marked or dropped early leaves an accumulated probability of 0 (RFC 8033, section 5.4).
 #[tactic(auto, using(crate::proofs::SpacingFacts::picks_clear))]
-pub fn picks_start_anew()
+pub fn picks_reset_the_sum()
     ensures { AtEachEvent (λ opening before event. IsEarly event → accu_after opening (before ++ event ∷ []) ≡ 0) }
 {}
 
@@ -36,7 +36,7 @@ pub fn picks_are_not_too_far_apart()
 /// If probabilities accumulate and the counted probability is less than 0.85, no two consecutive considered packets are picked. From one pick to the
 /// next either a packet between them is considered and not picked, or the counted probability is at least 0.85 for the next (RFC 8033, section 5.4).
 /// This law does not concern flows: one flow may receive every pick (`one_flow_may_receive_every_pick`).
-pub fn picks_never_follow_at_once()
+pub fn picks_are_not_consecutive()
     ensures { (opening : Opening) (before : List Event) (first : Event) (between : List Event) (second : Event) (later : List Event)
         → IsLawful opening (before ++ first ∷ [] ++ between ++ second ∷ later) → opening.choices.elements.picking ≡ Derandomized → IsEarly first
         → considered_in opening (before ++ first ∷ []) between ≡ 0 → IsEarly second

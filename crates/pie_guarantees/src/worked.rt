@@ -17,8 +17,8 @@ pub fn limits_may_be_lowered_below_the_queue()
 /// A burst that begins just before an update has its first early drop no later than the law of bursts allows, up to
 /// one nanosecond: with updates 100 apart and an allowance of 200, its first packet arrives at 99, and the first
 /// early drop is at 200. With the defaults' ten updates that is 135 milliseconds, and not 150.
-#[tactic(auto, using(crate::proofs::Examples::early_so_soon))]
-pub fn bursts_may_meet_an_early_drop_so_soon()
+#[tactic(auto, using(crate::proofs::Examples::early_at_bound))]
+pub fn burst_bound_is_tight()
     ensures legal { IsLegal burst_opening (burst_begins ++ burst_continues ++ first_drop ∷ []) }
     ensures whole { IsWhole burst_opening burst_begins }
     ensures began { effective_moment burst_opening burst_begins ≡ 99 }

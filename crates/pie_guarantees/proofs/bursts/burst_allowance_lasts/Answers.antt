@@ -1,6 +1,6 @@
 use Rattle.pie_guarantees.proofs.Names.{BetweenAny}
 use Rattle.pie_guarantees.proofs.BurstFacts.{allowed_where_kept, earliest_drop, earliest_since, updates_apart, updates_before}
-use Rattle.pie_guarantees.proofs.bursts.bursts_are_let_in_so_long.Goals as goal
+use Rattle.pie_guarantees.proofs.bursts.burst_allowance_lasts.Goals as goal
 
 pub returns : goal.returns
 unfolding BetweenAny

@@ -17,7 +17,7 @@ from pathlib import Path
 
 # names in the source, and those in pie.h
 TYPES = {"RawParams": "pie_params", "PieState": "pie_state", "PieUpdated": "pie_updated", "PieEvent": "pie_event", "PieOpening": "pie_opening",
-         "PieStats": "pie_stats", "LivePeriod": "pie_period", "Meter": "pie_meter", "Bounds": "pie_bounds", "Peak": "pie_peak", "Total": "pie_total",
+         "PieStats": "pie_stats", "LiveInterval": "pie_period", "Meter": "pie_meter", "Bounds": "pie_bounds", "Peak": "pie_peak", "Total": "pie_total",
          "usize": "size_t"}
 RUST_TYPES = {"Params": "pie_params", "State": "pie_state", "RawUpdated": "pie_updated", "RawEvent": "pie_event", "RawOpening": "pie_opening",
               "Stats": "pie_stats", "usize": "size_t"}

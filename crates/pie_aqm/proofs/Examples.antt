@@ -1,12 +1,12 @@
 -- Examples of the definitions: each theorem computes. A row is a call and the state of a controller of profile two
 -- after it, by the rules and by the look-back. The numbers are worked out by hand.
 use Rattle.std.specs.Prelude.{◌≡◌, refl, ⊤, ℕ, ◌+◌, ◌^◌, List, [], ◌∷◌, ◌++◌, map, Bool, true, false, Some, None}
-use Rattle.pie_aqm.specs.{RawParams, Elements, Stamp, Two, ArrivingPacket, ControllerEvent, Estimate, Parts, Call, Arrive, Depart, Pass, Update}
+use Rattle.pie_aqm.specs.{RawParams, Elements, Stamp, Two, ArrivingPacket, ControllerEvent, Estimate, Parts, Call, Arrive, Depart, Advance, Update}
 use Rattle.pie_aqm.specs.{Restart, Change, after_call, event_of_call, opened, no_estimate, delay_answered, cause, with_count}
 use Rattle.pie_aqm.specs.{count_kept_open, is_unmeasured, first_unsound, held_of, now_of, params_of, active_of, departure_inputs, update_inputs}
 use Rattle.pie_aqm.specs.{arrival_inputs, departures_of, waited_of, waited_at_end, delay_at_end, control_of, early_of, is_active, activity_events, activity_events_after}
 use Rattle.pie_aqm.specs.{places, greatest, last_or, verdict, accu_left}
-use Rattle.pie_aqm.specs.Held.{Held}
+use Rattle.pie_aqm.specs.ControllerState.{ControllerState}
 use Rattle.pie_params.specs.Elements.{usual}
 use Rattle.pie_params.specs.Profile.{default_profile}
 use Rattle.pie_queue.specs.declared.ecn.Ecn.TheVariants.{NotEct}
@@ -46,20 +46,20 @@ abbrev packet : ℕ → ℕ → Bool → ArrivingPacket
 packet queued size full = record { queued = queued; is_full = full; size = size; ecn = NotEct; word = 0 }
 
 -- the state after each call, beside the look-back
-abbrev both_ways : Elements → List ControllerEvent → Held → List (Call × Held) → List (Held × Held)
+abbrev both_ways : Elements → List ControllerEvent → ControllerState → List (Call × ControllerState) → List (ControllerState × ControllerState)
 both_ways elements shown h [] = []
 both_ways elements shown h (row ∷ rows) =
     let more : List ControllerEvent = shown ++ event_of_call h row.0 ∷ [] in
-    let after : Held = after_call h row.0 in
+    let after : ControllerState = after_call h row.0 in
     (after, held_of (record { profile = Two; elements = elements; params = small; moment = 0 }) more) ∷ both_ways elements more after rows
 
 -- both are the states of the rows
-abbrev Hold : Elements → List (Call × Held) → Type 0
-Hold elements rows = both_ways elements [] (opened Two elements small 0) rows ≡ map (λ (row : Call × Held). (row.1, row.1)) rows
+abbrev Hold : Elements → List (Call × ControllerState) → Type 0
+Hold elements rows = both_ways elements [] (opened Two elements small 0) rows ≡ map (λ (row : Call × ControllerState). (row.1, row.1)) rows
 
 -- ---- Delay from the departure rate: moment, activity, estimate, and state of the control law
 
-abbrev rated : ℕ → Bool → Estimate → Parts → Held
+abbrev rated : ℕ → Bool → Estimate → Parts → ControllerState
 rated moment active rate control = record (opened Two usual small moment) { active = active; rate = rate; control = control }
 
 -- The controller is inactive at the opening and measures nothing. A queue of a third of the limit activates it; a queue
@@ -77,7 +77,7 @@ by_rate : Hold usual ((Arrive (packet 2000 999 false) 0, rated 0 false no_estima
     ∷ (Depart 1024 1024 0 1005, rated 1005 true (measured 2 1005 0) (parts 0 0 1 1002))
     ∷ (Update 0 1006, rated 1006 false (measured 2 1005 0) (parts 0 0 1 1006))
     ∷ (Update 1024 1007, rated 1007 false (measured 2 1005 0) (parts 0 0 1 1007))
-    ∷ (Pass 1000, rated 1007 false (measured 2 1005 0) (parts 0 0 1 1007))
+    ∷ (Advance 1000, rated 1007 false (measured 2 1005 0) (parts 0 0 1 1007))
     ∷ (Arrive (packet 2999 65535 true) 1009, rated 1009 false (measured 2 1005 0) (parts 0 0 1 1007))
     ∷ (Arrive (packet 3000 65535 true) 1009, rated 1009 true no_estimate (parts 0 0 1 1007))
     ∷ (Depart 1000 1024 0 1010, rated 1010 true (measured 0 1010 0) (parts 0 0 1 1007))
@@ -92,7 +92,7 @@ by_rate = refl
 abbrev stamps : Elements
 stamps = record usual { delay = Stamp }
 
-abbrev stamped : ℕ → Bool → ℕ → Parts → ℕ → Held
+abbrev stamped : ℕ → Bool → ℕ → Parts → ℕ → ControllerState
 stamped moment active waited control accu =
     record (opened Two stamps small moment) { active = active; waited = waited; control = control; accu = accu }
 
@@ -122,7 +122,7 @@ by_stamps = refl
 
 -- ---- Readers of a state
 
-abbrev cycling : Bool → Held
+abbrev cycling : Bool → ControllerState
 cycling active = rated 8 active (measured 1000 2 24) (parts 0 0 1 8)
 
 -- the delay of an inactive controller is 0; then the departures with the smallest changes

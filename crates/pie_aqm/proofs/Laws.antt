@@ -10,11 +10,11 @@ use Rattle.pie_aqm.specs.{waited_at_end, waited_of, control_input, delay_at_end,
 use Rattle.pie_aqm.specs.{arrival_inputs, early_of, early_input, events_of, is_active, is_active_in, is_calm_at_end, now_of, activity_event, activity_events, activity_events_after}
 use Rattle.pie_aqm.specs.{params_of, parts_of, turns_on_by, Place, last_or, places, keeps_wait, measures, Enqueue, ArrivingPacket, considered_where}
 use Rattle.pie_aqm.specs.{verdict_input, accu_left, offered, verdict, Elements, departure, Estimate, Parts, Arrive, Call, Change, Depart}
-use Rattle.pie_aqm.specs.{HasThreshold, Pass, Restart, Update, after_call, event_of_call, RepresentsCall, Arrived, Departed, Updated, Reset, Changed, Represents}
+use Rattle.pie_aqm.specs.{HasThreshold, Advance, Restart, Update, after_call, event_of_call, RepresentsCall, Arrived, Departed, Updated, Reset, Changed, Represents}
 use Rattle.pie_aqm.specs.{estimate_of, held_of, greatest, anew, bytes_with, capped, control_updated, delay_in, departed, is_calm, judged, no_estimate}
-use Rattle.pie_aqm.specs.{opened, opens_active, passed, renewed, stays_active, turns_on, updated, wait_of}
+use Rattle.pie_aqm.specs.{opened, opens_active, advanced, renewed, stays_active, turns_on, updated, wait_of}
 use Rattle.pie_aqm.proofs.Places.{filter_map-push, from_places-push, greatest-push, last_or-one, place_of, since-push, with_one}
-use Rattle.pie_aqm.specs.Held.{Held}
+use Rattle.pie_aqm.specs.ControllerState.{ControllerState}
 use Rattle.pie_aqm.proofs.Sounds.{threshold-holds}
 use Rattle.pie_params.specs.Range.{first_bad}
 use Rattle.pie_early.specs.Decision.{counted}
@@ -175,7 +175,7 @@ early-push opened events event = rw (filtered-push (early_at opened) opened even
 -- ---- The state of early drop after an arrival, for any list that it represents
 
 -- the list after an arrival and its verdict
-pub early-step : (h : Held) (a : ArrivingPacket) (events : List EarlyEvent) → Early.Represents events h.accu
+pub early-step : (h : ControllerState) (a : ArrivingPacket) (events : List EarlyEvent) → Early.Represents events h.accu
     → Early.Represents (events ++ verdict_input (verdict h a) (considered_where h.active h.params h.control a.queued)
     (counted h.elements h.params h.control (offered a)) h.elements.picking ∷ []) (accu_left h a)
 unfolding verdict accu_left
@@ -216,7 +216,7 @@ active-update profile active calm = grind (arith, nat_tests)
 
 -- ---- Without an event
 
-pub Represents_opened : (profile : Profile) (elements : Elements) (params : RawParams) (moment : ℕ) (new : Held)
+pub Represents_opened : (profile : Profile) (elements : Elements) (params : RawParams) (moment : ℕ) (new : ControllerState)
     → new ≡ opened profile elements params moment → Represents (record { profile = profile; elements = elements; params = params; moment = moment }) [] new
 unfolding Represents held_of now_of params_of departure_inputs departures_of waited_of waited_at_end update_inputs control_of arrival_inputs early_of activity_events
     activity_events_after places greatest last_or Control.probability Control.last_delay Control.last_moment Control.granted_burst Control.burst_allowance
@@ -242,7 +242,7 @@ Represents_opened profile elements params moment new is =
 
 module _ (o : Opened) (events : List ControllerEvent) where
   -- each part after one more event, which activates the controller or not
-  abbrev next_if : Bool → ControllerEvent → Held
+  abbrev next_if : Bool → ControllerEvent → ControllerState
   next_if on event = record {
     profile = o.profile;
     elements = o.elements;
@@ -288,7 +288,7 @@ module _ (o : Opened) (events : List ControllerEvent) where
   depart-next size left since moment small =
       let rate = rated (measures (active_of o events) o.elements.delay) in
       let waited = kept (keeps_wait (active_of o events) o.elements.delay) in
-      λ i. record (passed (held_of o events) moment) { rate = rate i; waited = waited i }
+      λ i. record (advanced (held_of o events) moment) { rate = rate i; waited = waited i }
     where
       d : Departure
       d = departure size left (max (now_of o events) moment)
@@ -308,7 +308,7 @@ module _ (o : Opened) (events : List ControllerEvent) where
 
   update-next : (queued moment : ℕ) → next_if false (Updated queued moment) ≡ updated (held_of o events) queued moment
   unfolding held_of
-  update-next queued moment = rw (calm-is queued, delay-is queued) (λ i. record (passed (held_of o events) moment) {
+  update-next queued moment = rw (calm-is queued, delay-is queued) (λ i. record (advanced (held_of o events) moment) {
     active = active-update o.profile (active_of o events) (is_calm (held_of o events) queued) i;
     control = by (delay_in (held_of o events) queued) (max (now_of o events) moment) (active_of o events) i;
   })
@@ -341,45 +341,45 @@ module _ (o : Opened) (events : List ControllerEvent) where
   unfolding held_of
   call-next (Arrive a moment) small = arrive-next a moment (turns_on (held_of o events) (bytes_with (verdict (held_of o events) a) a.queued a.size))
   call-next (Depart size left since moment) small = depart-next size left since moment small
-  call-next (Pass moment) small = refl
+  call-next (Advance moment) small = refl
   call-next (Update queued moment) small = update-next queued moment
   call-next (Restart moment) small = reset-next moment
   call-next (Change params moment) small = change-next params moment
 
-pub Represents_call : (o : Opened) (events : List ControllerEvent) (held : Held) → Represents o events held → (call : Call) → HasThreshold held call
+pub Represents_call : (o : Opened) (events : List ControllerEvent) (held : ControllerState) → Represents o events held → (call : Call) → HasThreshold held call
     → Represents o (events ++ event_of_call held call ∷ []) (after_call held call)
 unfolding Represents
 Represents_call o events held shows =
-    subst (λ (h : Held). (call : Call) → HasThreshold h call → after_call h call ≡ held_of o (events ++ event_of_call h call ∷ [])) (sym shows)
+    subst (λ (h : ControllerState). (call : Call) → HasThreshold h call → after_call h call ≡ held_of o (events ++ event_of_call h call ∷ [])) (sym shows)
     (λ call small. sym (held-push o events (event_of_call (held_of o events) call) ∙ call-next o events call small))
 
-has_threshold : (held : Held) (call : Call) → held.params.dq_threshold ≤ 65536 → HasThreshold held call
+has_threshold : (held : ControllerState) (call : Call) → held.params.dq_threshold ≤ 65536 → HasThreshold held call
 has_threshold held (Depart size left since moment) small = small
 has_threshold held _ small = tt
 
 -- parameters in their ranges have a permitted threshold
-pub threshold_held : (held : Held) (call : Call) → first_bad held.params ≡ None → HasThreshold held call
+pub threshold_held : (held : ControllerState) (call : Call) → first_bad held.params ≡ None → HasThreshold held call
 threshold_held held call good = has_threshold held call (threshold-holds held.params good).1
 
-pub represents_called : (o : Opened) (events : List ControllerEvent) (held : Held) → Represents o events held → held.params.dq_threshold ≤ 65536
+pub represents_called : (o : Opened) (events : List ControllerEvent) (held : ControllerState) → Represents o events held → held.params.dq_threshold ≤ 65536
     → (call : Call) → Represents o (events ++ event_of_call held call ∷ []) (after_call held call)
 represents_called o events held shows small call = Represents_call o events held shows call (has_threshold held call small)
 
 -- the state equals the look-back
-pub held_is : (o : Opened) (events : List ControllerEvent) (held : Held) → Represents o events held → held ≡ held_of o events
+pub held_is : (o : Opened) (events : List ControllerEvent) (held : ControllerState) → Represents o events held → held ≡ held_of o events
 unfolding Represents
 held_is o events held shows = shows
 
 -- an equal state represents the same events
-pub moved : (o : Opened) (events : List ControllerEvent) (held new : Held) → new ≡ held → Represents o events held → Represents o events new
-moved o events held new e shows = subst (λ (h : Held). Represents o events h) (sym e) shows
+pub moved : (o : Opened) (events : List ControllerEvent) (held new : ControllerState) → new ≡ held → Represents o events held → Represents o events new
+moved o events held new e shows = subst (λ (h : ControllerState). Represents o events h) (sym e) shows
 
 -- a call on the state
-pub represents_with : (held new : Held) (call : Call) → new ≡ after_call held call → HasThreshold held call → RepresentsCall held call new
+pub represents_with : (held new : ControllerState) (call : Call) → new ≡ after_call held call → HasThreshold held call → RepresentsCall held call new
 unfolding RepresentsCall
 represents_with held new call is small opened events shows = moved opened _ _ new is (Represents_call opened events held shows call small)
 
 -- a departure, if the threshold is at most 65536
-pub uncapped : (h g : Held) (size left since moment : ℕ) → h.params.dq_threshold ≤ 65536
+pub uncapped : (h g : ControllerState) (size left since moment : ℕ) → h.params.dq_threshold ≤ 65536
     → g ≡ record (departed (capped h) size left since moment) { params = h.params } → g ≡ after_call h (Depart size left since moment)
 uncapped h g size left since moment small is = let e : min h.params.dq_threshold 65536 ≡ h.params.dq_threshold = omega (arith, small) in rw e at is

@@ -12,8 +12,8 @@ use Rattle.pie_rate.specs.Estimate.{after_departure, step_from}
 use Rattle.pie_control.specs.Delay.{delay_of}
 use Rattle.pie_control.specs.Next.{next}
 use Rattle.pie_early.proofs.Laws.{accu_below}
-use Rattle.pie_aqm.specs.Calls.{Arrive, Call, Change, Depart, IsTaken, Pass, Restart, Update, after_call}
-use Rattle.pie_aqm.specs.Held.{Held, IsSound, IsWithin}
+use Rattle.pie_aqm.specs.Calls.{Arrive, Call, Change, Depart, IsTaken, Advance, Restart, Update, after_call}
+use Rattle.pie_aqm.specs.ControllerState.{ControllerState, IsSound, IsWithin}
 use Rattle.pie_aqm.specs.Steps.{accu_left, anew, bytes_with, control_updated, delay_in, is_calm, judged, now_at, keeps_wait}
 use Rattle.pie_aqm.specs.Steps.{measures, opened, opens_active, stays_active, turns_on, verdict, wait_of}
 use Rattle.pie_aqm.specs.{first_unsound}
@@ -39,7 +39,7 @@ threshold-holds params e = grind (arith, nat_tests, in-range)
 
 -- ---- The accumulated probability
 
-pub accu-small : (h : Held) (a : ArrivingPacket) → h.accu < 8_500_000_000_000 → accu_left h a < 8_500_000_000_000
+pub accu-small : (h : ControllerState) (a : ArrivingPacket) → h.accu < 8_500_000_000_000 → accu_left h a < 8_500_000_000_000
 unfolding accu_left
 accu-small h a small = grind (arith, nat_tests, accu_below)
 
@@ -77,13 +77,13 @@ Sound_opened profile elements params moment good within =
     let always : profile ≡ One → opens_active profile ≡ true = λ one. ap opens_active one in
     search (rules, good, within, burst, always)
 
-Sound-anew : (h : Held) → IsSound h → (active : Bool) → (h.profile ≡ One → active ≡ true) → IsSound (record (anew h) { active = active })
+Sound-anew : (h : ControllerState) → IsSound h → (active : Bool) → (h.profile ≡ One → active ≡ true) → IsSound (record (anew h) { active = active })
 Sound-anew h sound active always = search (rules, sound, always, (in-range h.params sound.params).max_burst)
 
 -- at a later moment
-module _ (h : Held) (sound : IsSound h) (moment : ℕ) (within : moment < 2 ^ 60) where
-  passed-moment : now_at h moment < 2 ^ 60
-  passed-moment = let before = sound.moment in omega arith
+module _ (h : ControllerState) (sound : IsSound h) (moment : ℕ) (within : moment < 2 ^ 60) where
+  advanced-moment : now_at h moment < 2 ^ 60
+  advanced-moment = let before = sound.moment in omega arith
 
   cycle : IsWithin h.params.dq_threshold (now_at h moment) h.rate.begun
   cycle = let before = sound.cycle in grind (arith, nat_tests)
@@ -91,12 +91,12 @@ module _ (h : Held) (sound : IsSound h) (moment : ℕ) (within : moment < 2 ^ 60
   last : h.control.last ≤ now_at h moment
   last = let before = sound.last in omega arith
 
-  pass-sound : IsSound (record h { moment = now_at h moment })
-  pass-sound = search (rules, sound, passed-moment, cycle, last)
+  advance-sound : IsSound (record h { moment = now_at h moment })
+  advance-sound = search (rules, sound, advanced-moment, cycle, last)
 
   arrive-sound : (a : ArrivingPacket) → IsSound (after_call h (Arrive a moment))
   arrive-sound a = by (turns_on h (bytes_with (verdict h a) a.queued a.size))
-      (search (rules, sound, passed-moment, cycle, last, accu-small h a sound.accu))
+      (search (rules, sound, advanced-moment, cycle, last, accu-small h a sound.accu))
     where
       by : (on : Bool) → IsSound (judged h a moment) → IsSound (if on then record (anew (judged h a moment)) { active = true } else judged h a moment)
       by true here = Sound-anew (judged h a moment) here true (λ one. refl)
@@ -104,14 +104,14 @@ module _ (h : Held) (sound : IsSound h) (moment : ℕ) (within : moment < 2 ^ 60
 
   depart-sound : (size left since : ℕ) → IsSound (after_call h (Depart size left since moment))
   depart-sound size left since =
-      search (rules, sound, passed-moment, last, rates (measures h.active h.elements.delay), waits (keeps_wait h.active h.elements.delay))
+      search (rules, sound, advanced-moment, last, rates (measures h.active h.elements.delay), waits (keeps_wait h.active h.elements.delay))
     where
       rates : (b : Bool) → let e : Estimate = if b then after_departure h.params.dq_threshold h.rate (departure size left (now_at h moment))
           else h.rate in (e.average < 2 ^ 60) × IsWithin h.params.dq_threshold (now_at h moment) e.begun
       rates true =
           let threshold = threshold-holds h.params sound.params in
           let least = threshold.0 in
-          step-holds h.params.dq_threshold h.rate.average size left (now_at h moment) h.rate.begun (omega arith) threshold.1 passed-moment
+          step-holds h.params.dq_threshold h.rate.average size left (now_at h moment) h.rate.begun (omega arith) threshold.1 advanced-moment
           sound.average cycle
       rates false = (sound.average, cycle)
 
@@ -122,7 +122,7 @@ module _ (h : Held) (sound : IsSound h) (moment : ℕ) (within : moment < 2 ^ 60
   update-sound queued =
       let always : h.profile ≡ One → (h.active && stays_active h.profile (is_calm h queued)) ≡ true =
       λ one. let on = sound.active one in grind (arith, nat_tests) in
-      search (rules, sound, passed-moment, cycle, by h.active, always)
+      search (rules, sound, advanced-moment, cycle, by h.active, always)
     where
       by : (active : Bool) → let parts : Parts = if active then control_updated h.elements h.params h.control (delay_in h queued) (now_at h moment)
           else record h.control { last = now_at h moment } in
@@ -138,22 +138,22 @@ module _ (h : Held) (sound : IsSound h) (moment : ℕ) (within : moment < 2 ^ 60
       by false = (sound.prob, sound.old_delay, sound.burst, omega arith)
 
   change-sound : (params : RawParams) → first_bad params ≡ None → IsSound (after_call h (Change params moment))
-  change-sound params good = search (rules, sound, good, passed-moment, last)
+  change-sound params good = search (rules, sound, good, advanced-moment, last)
 
-pub Sound_call : (h : Held) → IsSound h → (call : Call) → IsTaken call → IsSound (after_call h call)
+pub Sound_call : (h : ControllerState) → IsSound h → (call : Call) → IsTaken call → IsSound (after_call h call)
 Sound_call h sound (Arrive a moment) taken = arrive-sound h sound moment taken a
 Sound_call h sound (Depart size left since moment) taken = depart-sound h sound moment taken size left since
-Sound_call h sound (Pass moment) taken = pass-sound h sound moment taken
+Sound_call h sound (Advance moment) taken = advance-sound h sound moment taken
 Sound_call h sound (Update queued moment) taken = update-sound h sound moment taken queued
-Sound_call h sound (Restart moment) taken = Sound-anew (record h { moment = now_at h moment }) (pass-sound h sound moment taken) h.active sound.active
+Sound_call h sound (Restart moment) taken = Sound-anew (record h { moment = now_at h moment }) (advance-sound h sound moment taken) h.active sound.active
 Sound_call h sound (Change params moment) taken = change-sound h sound moment taken.0 params taken.1
 
-pub stays_sound : (h g : Held) → g ≡ h → IsSound h → IsSound g
-stays_sound h g is sound = subst (λ (k : Held). IsSound k) (sym is) sound
+pub stays_sound : (h g : ControllerState) → g ≡ h → IsSound h → IsSound g
+stays_sound h g is sound = subst (λ (k : ControllerState). IsSound k) (sym is) sound
 
 -- ---- `first_unsound` returns no number exactly if the state is sound
 
-pub sound_from : (h : Held) → first_unsound h ≡ None → IsSound h
+pub sound_from : (h : ControllerState) → first_unsound h ≡ None → IsSound h
 unfolding first_unsound
 sound_from h none = record {
   params = grind (arith, nat_tests);
@@ -169,9 +169,9 @@ sound_from h none = record {
   active = λ one. grind (arith, nat_tests);
 }
 
-pub sound_to : (h : Held) → IsSound h → first_unsound h ≡ None
+pub sound_to : (h : ControllerState) → IsSound h → first_unsound h ≡ None
 unfolding first_unsound
 sound_to h s = grind (arith, nat_tests, s.params, s.cycle, s.active)
 
-pub sound_is : (h : Held) → (first_unsound h ≡ None) ↔ IsSound h
+pub sound_is : (h : ControllerState) → (first_unsound h ≡ None) ↔ IsSound h
 sound_is h = (sound_from h, sound_to h)

@@ -1,43 +1,43 @@
 -- Calls of a controller: the state after each, and the event that it adds.
 use Rattle.std.specs.Prelude.{◌≡◌, ℕ, ◌^◌, ◌<◌, ◌≤◌, List, [], ◌∷◌, ◌++◌, None, ⊤}
 use Rattle.pie_aqm.specs.Types.{RawParams, ArrivingPacket}
-use Rattle.pie_aqm.specs.Held.{Held}
+use Rattle.pie_aqm.specs.ControllerState.{ControllerState}
 use Rattle.pie_params.specs.Range.{first_bad}
 use Rattle.pie_aqm.specs.History.{Represents}
-use Rattle.pie_aqm.specs.Events.{ControllerEvent, Opened, Arrived, Departed, Passed, Updated, Reset, Changed}
-use Rattle.pie_aqm.specs.Steps.{arrived, bytes_with, changed, departed, passed, reset, updated, verdict}
+use Rattle.pie_aqm.specs.Events.{ControllerEvent, Opened, Arrived, Departed, Advanced, Updated, Reset, Changed}
+use Rattle.pie_aqm.specs.Steps.{arrived, bytes_with, changed, departed, advanced, reset, updated, verdict}
 
 -- an arrival; a departure, with the packet's size, the bytes that it leaves and the moment of its arrival; a departure
 -- that found no packet; an update, with the bytes in the queue; a reset; new parameters. The last number is the moment
 pub data Call : Type 0 where
   Arrive : ArrivingPacket → ℕ → Call
   Depart : ℕ → ℕ → ℕ → ℕ → Call
-  Pass : ℕ → Call
+  Advance : ℕ → Call
   Update : ℕ → ℕ → Call
   Restart : ℕ → Call
   Change : RawParams → ℕ → Call
 
 -- the state of a controller after a call
-abbrev pub after_call : Held → Call → Held
+abbrev pub after_call : ControllerState → Call → ControllerState
 after_call h (Arrive a moment) = arrived h a moment
 after_call h (Depart size left since moment) = departed h size left since moment
-after_call h (Pass moment) = passed h moment
+after_call h (Advance moment) = advanced h moment
 after_call h (Update queued moment) = updated h queued moment
 after_call h (Restart moment) = reset h moment
 after_call h (Change params moment) = changed h params moment
 
 -- the event of a call
-abbrev pub event_of_call : Held → Call → ControllerEvent
+abbrev pub event_of_call : ControllerState → Call → ControllerEvent
 event_of_call h (Arrive a moment) = Arrived (verdict h a) a.size a.queued (bytes_with (verdict h a) a.queued a.size) moment
 event_of_call h (Depart size left since moment) = Departed size left since moment
-event_of_call h (Pass moment) = Passed moment
+event_of_call h (Advance moment) = Advanced moment
 event_of_call h (Update queued moment) = Updated queued moment
 event_of_call h (Restart moment) = Reset moment
 event_of_call h (Change params moment) = Changed params moment
 
 -- the abstraction relation across a call: if the old state represents events e1 to en, the new state represents e1 to
 -- en and the event of the call
-unfoldable pub RepresentsCall : Held → Call → Held → Type 0
+unfoldable pub RepresentsCall : ControllerState → Call → ControllerState → Type 0
 RepresentsCall old call new = (opened : Opened) (events : List ControllerEvent) → Represents opened events old
     → Represents opened (events ++ event_of_call old call ∷ []) new
 
@@ -45,12 +45,12 @@ RepresentsCall old call new = (opened : Opened) (events : List ControllerEvent) 
 abbrev pub IsTaken : Call → Type 0
 IsTaken (Arrive a moment) = moment < 2 ^ 60
 IsTaken (Depart size left since moment) = moment < 2 ^ 60
-IsTaken (Pass moment) = moment < 2 ^ 60
+IsTaken (Advance moment) = moment < 2 ^ 60
 IsTaken (Update queued moment) = moment < 2 ^ 60
 IsTaken (Restart moment) = moment < 2 ^ 60
 IsTaken (Change params moment) = (moment < 2 ^ 60) × (first_bad params ≡ None)
 
 -- a call whose departure, if it is one, is measured at a permitted threshold
-abbrev pub HasThreshold : Held → Call → Type 0
+abbrev pub HasThreshold : ControllerState → Call → Type 0
 HasThreshold h (Depart size left since moment) = h.params.dq_threshold ≤ 65536
 HasThreshold h call = ⊤

@@ -14,7 +14,7 @@ pub record Opened : Type 0 where
 pub data ControllerEvent : Type 0 where
   Arrived : Verdict → ℕ → ℕ → ℕ → ℕ → ControllerEvent
   Departed : ℕ → ℕ → ℕ → ℕ → ControllerEvent
-  Passed : ℕ → ControllerEvent
+  Advanced : ℕ → ControllerEvent
   Updated : ℕ → ℕ → ControllerEvent
   Reset : ℕ → ControllerEvent
   Changed : RawParams → ℕ → ControllerEvent
@@ -23,7 +23,7 @@ pub data ControllerEvent : Type 0 where
 abbrev pub moment_of : ControllerEvent → ℕ
 moment_of (Arrived verdict size before after moment) = moment
 moment_of (Departed size left since moment) = moment
-moment_of (Passed moment) = moment
+moment_of (Advanced moment) = moment
 moment_of (Updated queued moment) = moment
 moment_of (Reset moment) = moment
 moment_of (Changed params moment) = moment

@@ -5,7 +5,7 @@
 use Rattle.std.specs.Prelude.{◌≡◌, ℕ, Bool, true, false, ◌&&◌, List, [], ◌∷◌, ◌++◌, map, Option, option_map, Some, None, if◌then◌else◌}
 use Rattle.std.specs.List.{filter_map, after_last}
 use Rattle.pie_aqm.specs.Types.{RawParams, Elements, Departure, departure, Parts, Enqueue, Mark, Drop, Profile, One, Two, Verdict, Picking}
-use Rattle.pie_aqm.specs.Held.{Held}
+use Rattle.pie_aqm.specs.ControllerState.{ControllerState}
 use Rattle.pie_rate.specs.Average.{average}
 use Rattle.pie_rate.specs.Cycles.{begun}
 use Rattle.pie_rate.specs.Estimate.{Estimate, begun_at}
@@ -18,7 +18,7 @@ use Rattle.pie_early.specs.History.{accumulated}
 use Rattle.pie_event.specs.declared.verdict.Verdict.TheVariants.{Enqueued, Marked, DroppedEarly, DroppedBytes, DroppedPackets}
 use Rattle.pie_aqm.specs.Events.{ControllerEvent, Opened, Arrived, Departed, Updated, Reset, Changed, moment_of, params_set}
 use Rattle.pie_aqm.specs.Places.{Place, places, greatest, last_or}
-use Rattle.pie_aqm.specs.Steps.{delay_by, keeps_wait, measures, wait_of, wakes}
+use Rattle.pie_aqm.specs.Steps.{delay_by, keeps_wait, measures, wait_of, activates}
 
 -- the effective moment: the greatest of the opening moment and the moments of all events
 unfoldable pub now_of : Opened → List ControllerEvent → ℕ
@@ -49,7 +49,7 @@ moment_at opened place = now_of opened (events_of place.before ++ place.event.ev
 -- true if an arrival activates the controller: it is inactive, and three times the bytes in the queue after it reach
 -- the limit
 abbrev pub turns_on_by : ControllerEvent → Bool → RawParams → Bool
-turns_on_by (Arrived verdict size before after moment) active params = wakes active params.limit_bytes after
+turns_on_by (Arrived verdict size before after moment) active params = activates active params.limit_bytes after
 turns_on_by event active params = false
 
 abbrev pub turns_on_at : Opened → Place ActivityEvent → Bool
@@ -234,7 +234,7 @@ estimate_of threshold departures = record {
 }
 
 -- the state of a controller after these events
-unfoldable pub held_of : Opened → List ControllerEvent → Held
+unfoldable pub held_of : Opened → List ControllerEvent → ControllerState
 held_of opened events = record {
   profile = opened.profile;
   elements = opened.elements;
@@ -248,5 +248,5 @@ held_of opened events = record {
 }
 
 -- the abstraction relation: the state of a controller with this opening after these events
-unfoldable pub Represents : Opened → List ControllerEvent → Held → Type 0
+unfoldable pub Represents : Opened → List ControllerEvent → ControllerState → Type 0
 Represents opened events held = held ≡ held_of opened events

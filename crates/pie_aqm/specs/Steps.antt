@@ -4,7 +4,7 @@ use Rattle.std.specs.Prelude.{ℕ, ◌+◌, ◌-◌, ◌*◌, ◌^◌, ◌==◌,
 use Rattle.std.specs.Prelude.{min, option_map, if◌then◌else◌}
 use Rattle.pie_aqm.specs.Types.{RawParams, Elements, Delay, Rate, Stamp, departure, Estimate, Parts, Offered, Choice, Enqueue}
 use Rattle.pie_aqm.specs.Types.{Profile, One, Two, ArrivingPacket, Verdict}
-use Rattle.pie_aqm.specs.Held.{Held}
+use Rattle.pie_aqm.specs.ControllerState.{ControllerState}
 use Rattle.pie_rate.specs.Estimate.{Begun, after_departure}
 use Rattle.pie_control.specs.Delay.{delay_of}
 use Rattle.pie_control.specs.History.{burst_after, ends_calm}
@@ -18,7 +18,7 @@ use Rattle.pie_event.specs.declared.verdict.Verdict.TheVariants.{DroppedBytes, D
 use Rattle.pie_event.specs.Verdict.{is_queued}
 
 -- the effective moment: the greatest up to now
-abbrev pub now_at : Held → ℕ → ℕ
+abbrev pub now_at : ControllerState → ℕ → ℕ
 now_at h moment = max h.moment moment
 
 -- no sample of the departure rate, and no open cycle
@@ -33,7 +33,7 @@ opens_active One = true
 opens_active Two = false
 
 -- the state at an opening: probability, delays and estimate are 0, and the burst allowance is `max_burst`
-abbrev pub opened : Profile → Elements → RawParams → ℕ → Held
+abbrev pub opened : Profile → Elements → RawParams → ℕ → ControllerState
 opened profile elements params moment = record {
   profile = profile;
   elements = elements;
@@ -52,15 +52,15 @@ renewed params control = record control { prob = 0; old_delay = 0; burst = param
 
 -- the state after a reset of the control law, the estimate, the last packet's time in the queue and the accumulated
 -- probability
-abbrev pub anew : Held → Held
+abbrev pub anew : ControllerState → ControllerState
 anew h = record h { rate = no_estimate; waited = 0; control = renewed h.params h.control; accu = 0 }
 
 -- the state after a reset, which keeps the activity
-abbrev pub reset : Held → ℕ → Held
+abbrev pub reset : ControllerState → ℕ → ControllerState
 reset h moment = record (anew h) { moment = now_at h moment }
 
 -- the state after new parameters, which clear the estimate
-abbrev pub changed : Held → RawParams → ℕ → Held
+abbrev pub changed : ControllerState → RawParams → ℕ → ControllerState
 changed h params moment = record h { params = params; moment = now_at h moment; rate = no_estimate }
 
 -- ---- Arrivals
@@ -70,7 +70,7 @@ abbrev pub offered : ArrivingPacket → Offered
 offered a = record { bytes = a.queued; size = a.size; ecn = a.ecn; word = a.word }
 
 -- the choice of early drop. An inactive controller considers no packet and queues each
-abbrev pub choice : Held → ArrivingPacket → Choice
+abbrev pub choice : ControllerState → ArrivingPacket → Choice
 choice h a = if h.active then choice_of h.elements h.params h.control (offered a) h.accu else Enqueue
 
 -- tail drop: the first value if the queue has no room for the packet's bytes, the second if the ring has no room for
@@ -79,19 +79,19 @@ abbrev pub by_room : {X : Type 0} → ℕ → ArrivingPacket → X → X → X �
 by_room limit a no_bytes no_packet room = if nat_lt limit (a.queued + a.size) then no_bytes else if a.is_full then no_packet else room
 
 -- the verdict: tail drop by bytes, then by packets, otherwise the choice of early drop
-unfoldable pub verdict : Held → ArrivingPacket → Verdict
+unfoldable pub verdict : ControllerState → ArrivingPacket → Verdict
 verdict h a = by_room h.params.limit_bytes a DroppedBytes DroppedPackets (chosen (choice h a))
 
 -- the cause, with `packets` waiting packets: the limit in bytes, the limit in packets, an inactive controller, then the
 -- cases of early drop, each with the numbers that it compares (RFC 8033, Appendix A; the limit in packets is this
 -- project's own)
-unfoldable pub cause : Held → ArrivingPacket → ℕ → Cause
+unfoldable pub cause : ControllerState → ArrivingPacket → ℕ → Cause
 cause h a packets =
     by_room h.params.limit_bytes a (NoRoomInBytes a.queued a.size h.params.limit_bytes) (NoRoomInPackets packets)
     (if h.active then early_cause h.elements h.params h.control (offered a) h.accu else Inactive)
 
 -- the accumulated probability after an arrival: 0 after a tail drop, unchanged while the controller is inactive
-unfoldable pub accu_left : Held → ArrivingPacket → ℕ
+unfoldable pub accu_left : ControllerState → ArrivingPacket → ℕ
 accu_left h a = by_room h.params.limit_bytes a 0 0 (if h.active then accu_after h.elements h.params h.control (offered a) h.accu else h.accu)
 
 -- the bytes in the queue after the verdict
@@ -100,22 +100,22 @@ bytes_with verdict queued size = if is_queued verdict then queued + size else qu
 
 -- true if the controller is activated: it is inactive, and three times the bytes in the queue after the verdict reach
 -- the limit
-abbrev pub wakes : Bool → ℕ → ℕ → Bool
-wakes active limit bytes = not active && nat_le limit (3 * bytes)
+abbrev pub activates : Bool → ℕ → ℕ → Bool
+activates active limit bytes = not active && nat_le limit (3 * bytes)
 
-abbrev pub turns_on : Held → ℕ → Bool
-turns_on h bytes = wakes h.active h.params.limit_bytes bytes
+abbrev pub turns_on : ControllerState → ℕ → Bool
+turns_on h bytes = activates h.active h.params.limit_bytes bytes
 
 -- the state after activation, which is a reset
-abbrev pub woken : Held → ℕ → Held
+abbrev pub woken : ControllerState → ℕ → ControllerState
 woken h bytes = if turns_on h bytes then record (anew h) { active = true } else h
 
 -- the state after the verdict
-abbrev pub judged : Held → ArrivingPacket → ℕ → Held
+abbrev pub judged : ControllerState → ArrivingPacket → ℕ → ControllerState
 judged h a moment = record h { moment = now_at h moment; accu = accu_left h a }
 
 -- the state after an arrival
-abbrev pub arrived : Held → ArrivingPacket → ℕ → Held
+abbrev pub arrived : ControllerState → ArrivingPacket → ℕ → ControllerState
 arrived h a moment = woken (judged h a moment) (bytes_with (verdict h a) a.queued a.size)
 
 -- ---- Departures
@@ -137,7 +137,7 @@ abbrev pub wait_of : ℕ → ℕ → ℕ → ℕ
 wait_of left since now = if left == 0 then 0 else min (2 ^ 40) (now - since)
 
 -- the state after the departure of a packet of `size` bytes that arrived at `since` and leaves `left` bytes
-abbrev pub departed : Held → ℕ → ℕ → ℕ → ℕ → Held
+abbrev pub departed : ControllerState → ℕ → ℕ → ℕ → ℕ → ControllerState
 departed h size left since moment = record h {
   moment = now_at h moment;
   rate = if measures h.active h.elements.delay then after_departure h.params.dq_threshold h.rate (departure size left (now_at h moment))
@@ -146,7 +146,7 @@ departed h size left since moment = record h {
 }
 
 -- a state whose threshold above 65536 bytes is replaced by 65536, for unchecked numbers
-abbrev pub capped : Held → Held
+abbrev pub capped : ControllerState → ControllerState
 capped h = record h { params = record h.params { dq_threshold = min h.params.dq_threshold 65536 } }
 
 -- ---- Departures with the smallest changes
@@ -156,7 +156,7 @@ abbrev pub count_below : ℕ → ℕ → Option Begun → Option ℕ
 count_below threshold size None = None
 count_below threshold size (Some cycle) = if nat_lt (cycle.count + size) threshold then Some (cycle.count + size) else None
 
-unfoldable pub count_kept_open : Held → ℕ → Option ℕ
+unfoldable pub count_kept_open : ControllerState → ℕ → Option ℕ
 count_kept_open h size =
     if measures h.active h.elements.delay then count_below (min h.params.dq_threshold 65536) size h.rate.begun else None
 
@@ -164,20 +164,20 @@ count_kept_open h size =
 abbrev pub counting : ℕ → Begun → Begun
 counting count cycle = record cycle { count = count }
 
-abbrev pub with_count : Held → ℕ → ℕ → Held
+abbrev pub with_count : ControllerState → ℕ → ℕ → ControllerState
 with_count h count moment = record h {
   moment = now_at h moment;
   rate = record h.rate { begun = option_map (counting count) h.rate.begun };
 }
 
 -- true if a departure meets no open cycle and opens none
-unfoldable pub is_unmeasured : Held → ℕ → Bool
+unfoldable pub is_unmeasured : ControllerState → ℕ → Bool
 is_unmeasured h left =
     measures h.active h.elements.delay && is_none h.rate.begun && nat_lt left (min h.params.dq_threshold 65536)
 
 -- the state after a departure that found no packet
-abbrev pub passed : Held → ℕ → Held
-passed h moment = record h { moment = now_at h moment }
+abbrev pub advanced : ControllerState → ℕ → ControllerState
+advanced h moment = record h { moment = now_at h moment }
 
 -- ---- Updates
 
@@ -185,14 +185,14 @@ passed h moment = record h { moment = now_at h moment }
 abbrev pub due_of : RawParams → Parts → ℕ
 due_of params control = control.last + params.t_update
 
-abbrev pub due : Held → ℕ
+abbrev pub due : ControllerState → ℕ
 due h = due_of h.params h.control
 
 -- true if an update is too soon: the effective moment, `before` until now, is before the due moment
 abbrev pub is_before_due : ℕ → ℕ → ℕ → Bool
 is_before_due before due moment = nat_lt (max before moment) due
 
-abbrev pub is_too_soon : Held → ℕ → Bool
+abbrev pub is_too_soon : ControllerState → ℕ → Bool
 is_too_soon h moment = is_before_due h.moment (due h) moment
 
 -- the queueing delay: from the departure rate, or the time that the last departed packet spent in the queue
@@ -201,11 +201,11 @@ delay_by Rate waited estimate = estimate
 delay_by Stamp waited estimate = waited
 
 -- the queueing delay of `queued` bytes
-abbrev pub delay_in : Held → ℕ → ℕ
+abbrev pub delay_in : ControllerState → ℕ → ℕ
 delay_in h queued = delay_by h.elements.delay h.waited (delay_of queued h.rate.average h.params.dq_threshold)
 
 -- the delay that an update returns: 0 while the controller is inactive
-abbrev pub delay_answered : Held → ℕ → ℕ
+abbrev pub delay_answered : ControllerState → ℕ → ℕ
 delay_answered h queued = if h.active then delay_in h queued else 0
 
 -- the state of the control law after an update with this delay at this moment
@@ -218,12 +218,12 @@ control_updated elements params before delay now = record {
 }
 
 -- the state of the control law after an update; for an inactive controller only the moment changes
-abbrev pub control_after : Held → ℕ → ℕ → Parts
+abbrev pub control_after : ControllerState → ℕ → ℕ → Parts
 control_after h queued now =
     if h.active then control_updated h.elements h.params h.control (delay_in h queued) now else record h.control { last = now }
 
 -- true if an update with `queued` bytes in the queue is calm
-abbrev pub is_calm : Held → ℕ → Bool
+abbrev pub is_calm : ControllerState → ℕ → Bool
 is_calm h queued =
     ends_calm h.params (next h.elements h.params h.control.prob (delay_in h queued) h.control.old_delay) (delay_in h queued)
     h.control.old_delay
@@ -234,7 +234,7 @@ stays_active One calm = true
 stays_active Two calm = not calm
 
 -- the state after an update
-abbrev pub updated : Held → ℕ → ℕ → Held
+abbrev pub updated : ControllerState → ℕ → ℕ → ControllerState
 updated h queued moment = record h {
   moment = now_at h moment;
   active = h.active && stays_active h.profile (is_calm h queued);

@@ -1,7 +1,7 @@
 //! The controller and its calls, for numbers in their ranges.
 ghost use Rattle.std.specs.Prelude.{◌≡◌, ◌+◌, ◌^◌, ◌≤◌, ◌↔◌, List, [], ◌∷◌, ◌++◌, true, false, None, Some, IsOk, IfOk, IfErr};
-ghost use Rattle.pie_aqm.specs.{Arrive, Change, Depart, Pass, Restart, Update, IsSound, Represents, RepresentsCall, first_unsound, arrived, cause, changed};
-ghost use Rattle.pie_aqm.specs.{delay_answered, delay_in, departed, due, is_too_soon, opened, passed, reset, updated, verdict};
+ghost use Rattle.pie_aqm.specs.{Arrive, Change, Depart, Advance, Restart, Update, IsSound, Represents, RepresentsCall, first_unsound, arrived, cause, changed};
+ghost use Rattle.pie_aqm.specs.{delay_answered, delay_in, departed, due, is_too_soon, opened, advanced, reset, updated, verdict};
 ghost use Rattle.pie_event.specs.Cause.{verdict_of};
 ghost use Rattle.pie_event.specs.Verdict.{is_queued};
 
@@ -19,9 +19,9 @@ pub struct Controller {
 }
 
 impl Model for Controller {
-    ghost use Rattle.pie_aqm.specs.Held.{Held, IsSound};
+    ghost use Rattle.pie_aqm.specs.ControllerState.{ControllerState, IsSound};
 
-    ghost Value = { Held };
+    ghost Value = { ControllerState };
 
     ghost view = { λ c. c.raw };
 
@@ -116,11 +116,11 @@ impl Controller {
     /// Adds a departure that found no packet. Only its moment counts.
     #[inline(always)]
     #[tactic(auto, using(crate::proofs::Laws::represents_with))]
-    pub fn pass(&mut self, moment: Nanos)
-        ensures after { self.new ≡ passed self.old moment }
-        ensures represents { RepresentsCall self.old (Pass moment) self.new }
+    pub fn advance_to(&mut self, moment: Nanos)
+        ensures after { self.new ≡ advanced self.old moment }
+        ensures represents { RepresentsCall self.old (Advance moment) self.new }
     {
-        self.raw.pass(moment.units());
+        self.raw.advance_to(moment.units());
     }
 
     /// Makes an update, with `queued` bytes in the queue, and returns its delay (RFC 8033, sections 4.2, 4.4 and 5.5).

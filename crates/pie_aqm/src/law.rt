@@ -3,7 +3,7 @@ ghost use Rattle.std.specs.Prelude.{◌≡◌, ◌≤◌, ◌<◌, ◌^◌, ◌+
 ghost use Rattle.pie_aqm.specs.{RawParams, Elements, Profile, ControllerEvent, Opened, Call, IsTaken, after_call, event_of_call, IsSound, Represents, held_of};
 ghost use Rattle.pie_aqm.specs.{opened};
 ghost use Rattle.pie_params.specs.Range.{first_bad};
-ghost use Rattle.pie_aqm.specs.Held.{Held};
+ghost use Rattle.pie_aqm.specs.ControllerState.{ControllerState};
 
 /// States that a controller's state is sound at its opening and after each call whose moment and parameters are in
 /// their ranges: each number is in its range, no moment is later than the effective one, and in profile one the
@@ -13,7 +13,7 @@ ghost use Rattle.pie_aqm.specs.Held.{Held};
 pub fn calls_keep_it_sound()
     ensures opens { (profile : Profile) (elements : Elements) (params : RawParams) (moment : ℕ) → first_bad params ≡ None → moment < 2 ^ 60
         → IsSound (opened profile elements params moment) }
-    ensures calls { (held : Held) → IsSound held → (call : Call) → IsTaken call → IsSound (after_call held call) }
+    ensures calls { (held : ControllerState) → IsSound held → (call : Call) → IsTaken call → IsSound (after_call held call) }
 {}
 
 /// States that calls extend the represented history: if a state represents events e1 to en, the state after a call
@@ -25,7 +25,7 @@ pub fn calls_keep_it_sound()
 pub fn calls_look_back()
     ensures opens { (profile : Profile) (elements : Elements) (params : RawParams) (moment : ℕ)
         → Represents (record { profile = profile; elements = elements; params = params; moment = moment }) [] (opened profile elements params moment) }
-    ensures calls { (opened : Opened) (events : List ControllerEvent) (held : Held) → Represents opened events held → held.params.dq_threshold ≤ 65536
+    ensures calls { (opened : Opened) (events : List ControllerEvent) (held : ControllerState) → Represents opened events held → held.params.dq_threshold ≤ 65536
         → (call : Call) → Represents opened (events ++ event_of_call held call ∷ []) (after_call held call) }
-    ensures look_back { (opened : Opened) (events : List ControllerEvent) (held : Held) → Represents opened events held → held ≡ held_of opened events }
+    ensures look_back { (opened : Opened) (events : List ControllerEvent) (held : ControllerState) → Represents opened events held → held ≡ held_of opened events }
 {}

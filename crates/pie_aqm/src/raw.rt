@@ -1,12 +1,12 @@
 //! The controller's rules over plain numbers.
 ghost use Rattle.std.specs.Prelude.{◌≡◌, ◌+◌, ◌^◌, ◌<◌, ◌≤◌, ℕ, IfSome, max, min, true, false};
-ghost use Rattle.pie_event.specs.Cause.{verdict_of};
+ghost use Rattle.pie_event.specs.Cause.{verdict_named, verdict_of};
 ghost use Rattle.pie_aqm.specs.{IsSound, accu_left, anew, arrived, capped, cause, changed, count_kept_open, delay_answered, delay_in, departed, due};
-ghost use Rattle.pie_aqm.specs.{is_too_soon, is_unmeasured, measures, opened, opens_active, passed, reset, updated, verdict, wait_of, with_count};
-ghost use Rattle.pie_event.specs.CauseName.{name_of, place_of_cause};
+ghost use Rattle.pie_aqm.specs.{is_too_soon, is_unmeasured, measures, opened, opens_active, advanced, reset, updated, verdict, wait_of, with_count};
+ghost use Rattle.pie_event.specs.CauseName.{name_of};
 ghost use Rattle.pie_event.specs.Verdict.{is_queued};
 
-use crate::verdict::{verdict_of, wakes};
+use crate::verdict::activates;
 use crate::{ArrivingPacket, Cause, CauseName, Profile, Verdict};
 use pie_control::{MAX_DELAY, RawControl};
 use pie_early::decide;
@@ -67,13 +67,12 @@ impl RawController {
     }
 
     /// Decides on an arriving packet, as [`Controller::arrive`](crate::Controller::arrive) does, and also returns the
-    /// position of the cause in the order of the decision: that of the name of its [`cause`](crate::Controller::cause).
+    /// name of its [`cause`](crate::Controller::cause).
     #[inline(always)]
-    pub fn arrive_with_place(&mut self, arrival: ArrivingPacket, moment: u64) -> (Verdict, usize)
+    pub fn arrive_with_name(&mut self, arrival: ArrivingPacket, moment: u64) -> (Verdict, CauseName)
         requires { arrival.queued ≤ 2 ^ 30 }
         ensures verdict { result.0 ≡ verdict self.old arrival }
-        ensures place { (packets : ℕ) → result.1 ≡ place_of_cause (name_of (cause self.old arrival packets)) }
-        ensures within { result.1 < 15 }
+        ensures name { (packets : ℕ) → result.1 ≡ name_of (cause self.old arrival packets) }
         ensures fits { is_queued result.0 ≡ true → (arrival.is_full ≡ false) × (arrival.queued + arrival.size ≤ self.old.params.limit_bytes) }
         ensures after { self.new ≡ arrived self.old arrival moment }
     {
@@ -134,7 +133,7 @@ impl RawController {
             ecn,
             word,
         };
-        self.arrive_with_place(arrival, moment).0
+        self.arrive_with_name(arrival, moment).0
     }
 
     /// Decides on an arriving packet with `elements`, which are the controller's own.
@@ -144,51 +143,46 @@ impl RawController {
         elements: Elements,
         arrival: ArrivingPacket,
         moment: u64,
-    ) -> (Verdict, usize)
+    ) -> (Verdict, CauseName)
         requires queued { arrival.queued ≤ 2 ^ 30 }
         requires own { elements ≡ self.old.elements }
         ensures verdict { result.0 ≡ verdict self.old arrival }
-        ensures place { (packets : ℕ) → result.1 ≡ place_of_cause (name_of (cause self.old arrival packets)) }
-        ensures within { result.1 < 15 }
+        ensures name { (packets : ℕ) → result.1 ≡ name_of (cause self.old arrival packets) }
         ensures fits { is_queued result.0 ≡ true → (arrival.is_full ≡ false) × (arrival.queued + arrival.size ≤ self.old.params.limit_bytes) }
         ensures after { self.new ≡ arrived self.old arrival moment }
     {
-        let (verdict, accu, place) = self.judge(elements, arrival);
+        let (name, accu) = self.judge(elements, arrival);
+        let verdict = name.verdict();
         self.accu = accu;
-        self.pass(moment);
-        if wakes(self.active, self.params.limit_bytes, verdict, arrival) {
+        self.advance_to(moment);
+        if activates(self.active, self.params.limit_bytes, verdict, arrival) {
             self.start_anew();
             self.active = true;
         }
-        (verdict, place)
+        (verdict, name)
     }
 
-    /// Returns the verdict on an arriving packet, the accumulated probability after it, and the position of the cause.
-    /// Tail drop by bytes is tested first, then tail drop by packets, then early drop if the controller is active (RFC
-    /// 8033, sections 4.1, 5.1, 5.4 and Appendix A).
+    /// Returns the name of the cause that decides on an arriving packet, and the accumulated probability after it. Tail
+    /// drop by bytes is tested first, then tail drop by packets, then early drop if the controller is active (RFC 8033,
+    /// sections 4.1, 5.1, 5.4 and Appendix A).
     #[inline(always)]
     #[tactic(auto, unfolding(crate::specs::Steps::cause, crate::specs::Steps::verdict, crate::specs::Steps::accu_left))]
-    fn judge(&self, elements: Elements, arrival: ArrivingPacket) -> (Verdict, u64, usize)
+    fn judge(&self, elements: Elements, arrival: ArrivingPacket) -> (CauseName, u64)
         requires queued { arrival.queued ≤ 2 ^ 30 }
         requires own { elements ≡ self.now.elements }
-        ensures verdict { result.0 ≡ verdict self.now arrival }
+        ensures name { (packets : ℕ) → result.0 ≡ name_of (cause self.now arrival packets) }
+        ensures verdict { verdict_named result.0 ≡ verdict self.now arrival }
         ensures accu { result.1 ≡ accu_left self.now arrival }
-        ensures place { (packets : ℕ) → result.2 ≡ place_of_cause (name_of (cause self.now arrival packets)) }
-        ensures within { result.2 < 15 }
-        ensures fits { is_queued result.0 ≡ true → (arrival.is_full ≡ false) × (arrival.queued + arrival.size ≤ self.now.params.limit_bytes) }
+        ensures fits { is_queued (verdict_named result.0) ≡ true → (arrival.is_full ≡ false) × (arrival.queued + arrival.size ≤ self.now.params.limit_bytes) }
     {
         if self.params.limit_bytes < arrival.queued + u64::from(arrival.size) {
-            return (Verdict::DroppedBytes, 0, CauseName::NoRoomInBytes.place());
+            return (CauseName::NoRoomInBytes, 0);
         }
         if arrival.is_full {
-            return (
-                Verdict::DroppedPackets,
-                0,
-                CauseName::NoRoomInPackets.place(),
-            );
+            return (CauseName::NoRoomInPackets, 0);
         }
         if !self.active {
-            return (Verdict::Enqueued, self.accu, CauseName::Inactive.place());
+            return (CauseName::Inactive, self.accu);
         }
         let decision = decide(
             &self.params,
@@ -197,7 +191,7 @@ impl RawController {
             arrival.offered(),
             self.accu,
         );
-        (verdict_of(decision.choice), decision.accu, decision.place)
+        (decision.name, decision.accu)
     }
 
     /// Returns the cause that would decide on an arriving packet, as [`Controller::cause`](crate::Controller::cause)
@@ -245,7 +239,7 @@ impl RawController {
 
     /// Moves the effective moment to `moment` if that is later.
     #[inline(always)]
-    pub fn pass(&mut self, moment: u64)
+    pub fn advance_to(&mut self, moment: u64)
         ensures { self.new ≡ record self.old { moment = max self.old.moment moment } }
     {
         self.moment = self.moment.max(moment);
@@ -257,7 +251,7 @@ impl RawController {
     pub fn depart(&mut self, size: u32, left: u64, since: u64, moment: u64)
         ensures { self.new ≡ record (departed (capped self.old) size left since moment) { params = self.old.params } }
     {
-        self.pass(moment);
+        self.advance_to(moment);
         if self.active {
             match self.elements.delay {
                 Delay::Rate => {
@@ -293,7 +287,7 @@ impl RawController {
     pub fn is_unmeasured(&self, left: u64) -> bool
         ensures value { result ≡ is_unmeasured self.now left }
         ensures alone { (size since moment : ℕ) → result ≡ true
-            → departed (capped self.now) size left since moment ≡ passed (capped self.now) moment }
+            → departed (capped self.now) size left since moment ≡ advanced (capped self.now) moment }
     {
         self.measures() && self.rate.begun.is_none() && left < self.threshold()
     }
@@ -323,7 +317,7 @@ impl RawController {
         ensures delay { result ≡ delay_answered self.old queued }
         ensures after { self.new ≡ updated self.old queued moment }
     {
-        self.pass(moment);
+        self.advance_to(moment);
         if !self.active {
             self.control.idle(self.moment);
             return 0;
@@ -344,7 +338,7 @@ impl RawController {
     pub fn reset(&mut self, moment: u64)
         ensures { self.new ≡ reset self.old moment }
     {
-        self.pass(moment);
+        self.advance_to(moment);
         self.start_anew();
     }
 
@@ -353,7 +347,7 @@ impl RawController {
     pub fn set_params(&mut self, params: RawParams, moment: u64)
         ensures { self.new ≡ changed self.old params moment }
     {
-        self.pass(moment);
+        self.advance_to(moment);
         self.params = params;
         self.rate = RawRate::cleared();
     }

@@ -2,7 +2,7 @@
 pub use Rattle.pie_aqm.specs.Places.{Place, after}
 pub use Rattle.pie_audit.specs.{All, Answer, Appends, AreLegal, AuditorView, Audits, AuditsFrom, Begins, BeginsAt, BeginsAtCore, BeginsBy, BegunBy}
 pub use Rattle.pie_audit.specs.{CanBeMade, Clean, Command, CoreSnapshot, CoreView, Differs, Err, Event, EventFits, FaultedBy, FindsAfter, FindsBy}
-pub use Rattle.pie_audit.specs.{Follows, FollowsFrom, Going, HasField, IfErr, IfOk, IfSome, Invalid, IsAccepted, IsExcerptText, IsFirstWrong, IsFound}
+pub use Rattle.pie_audit.specs.{Replays, ReplaysFrom, Going, HasField, IfErr, IfOk, IfSome, Invalid, IsAccepted, IsExcerptText, IsFirstWrong, IsFound}
 pub use Rattle.pie_audit.specs.{IsHistoryText, IsLegal, IsLegalAt, IsSetterAfter, IsWrite, IsWrong, Line, LinePlace, LinesAt, LinesRead, LinesView}
 pub use Rattle.pie_audit.specs.{NoDeviceFailedBy, None, Note, Ok, OnOk, Opening, Option, ParamsFit, Preamble, ProcessedBy, RemainingLines, Represents}
 pub use Rattle.pie_audit.specs.{RepresentsAfter, Result, Resumes, Row, Setter, Some, TakesRow, TextProcessedBy, Three, TraceFault, Valid, VisitedFrom}
@@ -19,7 +19,7 @@ pub use Rattle.pie_event.specs.{Setter.setter_from, declared.command.Command.The
 pub use Rattle.pie_event.specs.{declared.opening.Limits.Limits, declared.refusal.Refusal.Refusal, declared.registers.Registers.Registers}
 pub use Rattle.pie_excerpt.specs.{Preamble.HasPreamble, Written.begun_at, Written.resume_of_excerpt, Written.resume_with}
 pub use Rattle.pie_queue.specs.declared.packet.Waiting.{Waiting}
-pub use Rattle.pie_record.specs.{Fault.closed, HistoryLines.Gives, HistoryLines.is_event, ReadBack.TextsAreReadBack, Text.Took}
+pub use Rattle.pie_record.specs.{Fault.after_flush, HistoryLines.Gives, HistoryLines.is_event, ReadBack.TextsAreReadBack, Text.Took}
 pub use Rattle.pie_record.specs.declared.clock.Clock.{Clock}
 pub use Rattle.std.proofs.{KnownBytes.Appends-nil, lemmas.Bool.and_parts, lemmas.Bool.Decides.nat_tests, lemmas.List.Folds.find-append}
 pub use Rattle.std.proofs.{lemmas.List.Sums.sum_by-append, lemmas.List.Sums.sum_by_push, lemmas.Option.IfSome_then}

@@ -1,8 +1,8 @@
 -- The kinds of lines that callers distinguish.
 use Rattle.pie_audit.specs.Names.{Arrive, Bool, Command, Line, Valid, false, true}
-use Rattle.pie_audit.specs.declared.follower.LineKind.{LineKind}
+use Rattle.pie_audit.specs.declared.replay.LineKind.{LineKind}
 use Rattle.pie_event.specs.declared.command.Command.TheVariants.{Depart}
-use Rattle.pie_audit.specs.declared.follower.LineKind.TheVariants as kind
+use Rattle.pie_audit.specs.declared.replay.LineKind.TheVariants as kind
 
 abbrev pub is_arrival : Command → Bool
 is_arrival (Arrive moment packet word) = true

@@ -6,7 +6,7 @@ pub mod Text
 pub mod Legal
 pub mod Setters
 pub mod Start
-pub mod Follower
+pub mod Replay
 pub mod Kinds
 pub mod Preambles
-unfoldable pub use Rattle.pie_audit.specs.{Names.*, Origin.*, Finding.*, Auditor.*, Text.*, Legal.*, Setters.*, Start.*, Follower.*, Kinds.*, Preambles.*}
+unfoldable pub use Rattle.pie_audit.specs.{Names.*, Origin.*, Finding.*, Auditor.*, Text.*, Legal.*, Setters.*, Start.*, Replay.*, Kinds.*, Preambles.*}

@@ -13,20 +13,20 @@
 #![tactic(auto)]
 
 pub mod auditor;
-pub mod follower;
 pub mod law;
+pub mod opened_text;
 pub mod processor;
-pub mod text;
-pub mod text_begun;
+pub mod replay;
+pub mod text_audit;
 pub mod visitor;
 
 pub use auditor::{Auditor, Finding};
-pub use follower::{Follower, LineKind, kind_of};
 pub use law::{
     clean_excerpts_are_legal, clean_is_legal, events_are_lines, findings_look_back,
     recorded_calls_are_clean, written_excerpts_are_read,
 };
+pub use opened_text::{OpenedText, begin};
 pub use processor::{TextProcessor, preambles_determine, process_text};
-pub use text::{audit, write_finding};
-pub use text_begun::{TextBegun, begin};
+pub use replay::{LineKind, Replay, kind_of};
+pub use text_audit::{audit, write_finding};
 pub use visitor::{Auditing, LineVisitor, visit_lines};

@@ -26,13 +26,13 @@ module _ (core : CoreView) where
   queued-next command b = grind (arith, nat_tests, length-append, length-drop)
 
   waits-next : (command : Command) → IsBalanced (snapshot_of core)
-      → (core_after core command).stats.waited ≤ (core_after core command).stats.left * (core_after core command).held.moment
+      → (core_after core command).stats.waited ≤ (core_after core command).stats.left * (core_after core command).controller.moment
   waits-next command b =
       let e = b.waits in
-      let now : ℕ = Steps.now_at core.held (caller_moment command) in
-      let more : core.stats.left * core.held.moment ≤ core.stats.left * now = grind (arith, nat_tests) in
+      let now : ℕ = Steps.now_at core.controller (caller_moment command) in
+      let more : core.stats.left * core.controller.moment ≤ core.stats.left * now = grind (arith, nat_tests) in
       let one : (core.stats.left + 1) * now ≡ core.stats.left * now + now = omega arith in
-      let moment : (core_after core command).held.moment ≡ now = grind (arith, nat_tests) in
+      let moment : (core_after core command).controller.moment ≡ now = grind (arith, nat_tests) in
       let age : age_of_oldest now core.waiting ≤ now = grind (arith, nat_tests) in
       rw moment (grind (arith, nat_tests, e, more, one, age))
 
@@ -59,10 +59,10 @@ balanced_first opening = grind (arith, nat_tests)
 -- a resumed core from which no announced packet or byte is missing has a balanced snapshot, if the announced numbers are balanced
 pub balanced_ended : (core : CoreView) (packets bytes : ℕ) → length core.waiting ≤ packets → bytes_of core.waiting ≤ bytes
     → end_refusal (record { core = core; packets = packets; bytes = bytes }) ≡ None
-    → are_balanced (record { count = core.count; controller = core.held; packets = packets; bytes = bytes; stats = core.stats }) ≡ true
+    → are_balanced (record { count = core.count; controller = core.controller; packets = packets; bytes = bytes; stats = core.stats }) ≡ true
     → IsBalanced (snapshot_of core)
 balanced_ended core packets bytes few small ended balanced =
     let many : length core.waiting ≡ packets = grind (arith, nat_tests, few, ended) in
     let whole : bytes_of core.waiting ≡ bytes = grind (arith, nat_tests, few, small, ended) in
-    subst IsBalanced (λ i. record { count = core.count; controller = core.held; packets = sym many i; bytes = sym whole i; stats = core.stats })
-    (balanced_of (record { count = core.count; controller = core.held; packets = packets; bytes = bytes; stats = core.stats }) balanced)
+    subst IsBalanced (λ i. record { count = core.count; controller = core.controller; packets = sym many i; bytes = sym whole i; stats = core.stats })
+    (balanced_of (record { count = core.count; controller = core.controller; packets = packets; bytes = bytes; stats = core.stats }) balanced)

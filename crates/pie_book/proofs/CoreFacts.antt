@@ -7,7 +7,7 @@ use Rattle.std.proofs.lemmas.Bool.Decides.{nat_tests}
 use Rattle.std.proofs.lemmas.List.{map-append, drop-append-le, append_assoc}
 use Rattle.std.proofs.lemmas.List.Elements.{All-cons, All-head, All-nil, All-push, All-tail, All-pop}
 use Rattle.std.proofs.lemmas.List.Sums.{sum_by_push}
-use Rattle.pie_book.specs.{Packet, Waiting, One, Held, Command, Arrive, Depart, Answer, Event, Opening, arrival_of, cause_after, CoreView}
+use Rattle.pie_book.specs.{Packet, Waiting, One, ControllerState, Command, Arrive, Depart, Answer, Event, Opening, arrival_of, cause_after, CoreView}
 use Rattle.pie_book.specs.{Represents, counted, refusal_of, registers_of, with_queue, IsLegal, IsLegalAt, answer_by, decision, refusal_by_rule}
 use Rattle.pie_book.specs.{delay_after, delay_answered, held_after, admitted, bytes_after, departed_count, effective_moment, waiting_after}
 use Rattle.pie_book.specs.{registers_after, event_of, opened_of, controller_events, age_of_oldest, largest_delay, largest_queue, stats_after, waited, answer_in}
@@ -125,7 +125,7 @@ departs-some : (opening : Opening) (history : List Event) (command : Command)
 departs-some opening history command some = grind (arith, nat_tests, some)
 
 -- each command has an answer that it can have
-pub answer_fits : (h : Held) (waiting : List Waiting) (packets : ℕ) (command : Command) → fits command (answer_by h waiting packets command) ≡ true
+pub answer_fits : (h : ControllerState) (waiting : List Waiting) (packets : ℕ) (command : Command) → fits command (answer_by h waiting packets command) ≡ true
 answer_fits h waiting packets command = grind (arith, nat_tests)
 
 -- a fact about each place of a history, at the place between these events
@@ -178,14 +178,14 @@ unfolding held_after Controller.held_of
 one_is_active_after opening history one = one_is_active (opened_of opening) (controller_events opening history) one
 
 module _ (opening : Opening) (core : CoreView) (history : List Event) (shows : Represents opening core history) where
-  pub held-is : core.held ≡ held_after opening history
+  pub held-is : core.controller ≡ held_after opening history
   unfolding held_after
-  held-is = held_is (opened_of opening) (controller_events opening history) core.held shows.controller
+  held-is = held_is (opened_of opening) (controller_events opening history) core.controller shows.controller
 
-  pub delay_is : Steps.delay_in core.held (bytes_of core.waiting) ≡ delay_after opening history
+  pub delay_is : Steps.delay_in core.controller (bytes_of core.waiting) ≡ delay_after opening history
   delay_is = λ i. Steps.delay_in (held-is i) (bytes_of (shows.waiting i))
 
-  answered-is : Steps.delay_answered core.held (bytes_of core.waiting) ≡ delay_answered opening history
+  answered-is : Steps.delay_answered core.controller (bytes_of core.waiting) ≡ delay_answered opening history
   answered-is = λ i. Steps.delay_answered (held-is i) (bytes_of (shows.waiting i))
 
   pub registers_is : registers_of core ≡ registers_after opening history
@@ -200,7 +200,7 @@ module _ (opening : Opening) (core : CoreView) (history : List Event) (shows : R
   next_decided command = λ i. answer_by (held-is i) (shows.waiting i) (shows.packets i) command
 
   pub cause_is : (moment : ℕ) (packet : Packet) (word : ℕ)
-      → Some (cause core.held (arrival_of core.waiting core.packets packet word) (length core.waiting))
+      → Some (cause core.controller (arrival_of core.waiting core.packets packet word) (length core.waiting))
       ≡ cause_after opening history (Arrive moment packet word)
   cause_is moment packet word = grind (arith, nat_tests, held-is)
 
@@ -239,11 +239,11 @@ first_shown opening core is = subst (λ (c : CoreView). Represents opening c [])
 controller_event-command : (core : CoreView) (now : ℕ) (command : Command)
     → controller_event (deed command (answer_in core command)) (arriving_size command) (oldest_since core.waiting) (bytes_of core.waiting)
     (bytes_of (waiting_next core.waiting now (deed command (answer_in core command)))) (caller_moment command)
-    ≡ event_of_call core.held (call_in core command)
+    ≡ event_of_call core.controller (call_in core command)
 controller_event-command core now command = grind (arith, nat_tests, sum_by_push)
 
 -- the effective moment after a call
-moment-next : (core : CoreView) (command : Command) → (after_call core.held (call_in core command)).moment ≡ now_at core.held (caller_moment command)
+moment-next : (core : CoreView) (command : Command) → (after_call core.controller (call_in core command)).moment ≡ now_at core.controller (caller_moment command)
 moment-next core command = grind (arith, nat_tests)
 
 controller_events-push : (opening : Opening) (history : List Event) (event : Event)
@@ -252,13 +252,13 @@ unfolding controller_events
 controller_events-push opening history event = simp (places-push, map-append)
 
 module _ (opening : Opening) (core : CoreView) (history : List Event) (shows : Represents opening core history) where
-  pub next-shows : (caller : ℕ) (command : Command) → HasThreshold core.held (call_in core command) → refusal_of core command ≡ None
+  pub next-shows : (caller : ℕ) (command : Command) → HasThreshold core.controller (call_in core command) → refusal_of core command ≡ None
       → Represents opening (core_after core command) (history ++ event_of caller command (answer_in core command) ∷ [])
   next-shows caller command small free =
       let event : Event = event_of caller command (answer_in core command) in
       let all : List Event = history ++ event ∷ [] in
       let d : Deed = deed command (answer_in core command) in
-      let now : ℕ = now_at core.held (caller_moment command) in
+      let now : ℕ = now_at core.controller (caller_moment command) in
       let moment : now ≡ effective_moment opening (history ++ event ∷ []) =
       ap (λ (m : ℕ). max m (caller_moment command)) shows.moment ∙ sym (effective_moment-push opening history event) in
       let waiting : waiting_next core.waiting now d ≡ waiting_after opening (history ++ event ∷ []) =
@@ -268,7 +268,7 @@ module _ (opening : Opening) (core : CoreView) (history : List Event) (shows : R
       (bytes_of (waiting_next core.waiting now d)) (caller_moment command) ≡ controller_event_at opening (place_of history event) =
       λ i. controller_event d (arriving_size command) (oldest_since (shows.waiting i)) (bytes_of (shows.waiting i)) (bytes_of (waiting i))
       (caller_moment command) in
-      let counts : with_queue (counted core.stats d (Steps.delay_answered core.held (bytes_of core.waiting)) (age_of_oldest now core.waiting))
+      let counts : with_queue (counted core.stats d (Steps.delay_answered core.controller (bytes_of core.waiting)) (age_of_oldest now core.waiting))
       (bytes_of (waiting_next core.waiting now d))
       ≡ with_queue (counted (stats_after opening history) d (delay_answered opening history)
       (age_of_oldest (effective_moment opening (history ++ event ∷ [])) (waiting_after opening history))) (bytes_after opening (history ++ event ∷ [])) =
@@ -285,27 +285,27 @@ module _ (opening : Opening) (core : CoreView) (history : List Event) (shows : R
         moment = moment-next core command ∙ moment;
         waiting = waiting;
         controller = rw (controller_events-push opening history event, ← controller_is, controller_event-command core now command)
-            (Represents_call (opened_of opening) (controller_events opening history) core.held shows.controller (call_in core command) small);
+            (Represents_call (opened_of opening) (controller_events opening history) core.controller shows.controller (call_in core command) small);
         stats = counts ∙ sym (stats_after-push opening history event);
       }
 
 -- ---- Parameters stay in their ranges
 
-pub good-next : (core : CoreView) (command : Command) → first_bad core.held.params ≡ None → CommandFits command
-    → first_bad (after_call core.held (call_in core command)).params ≡ None
+pub good-next : (core : CoreView) (command : Command) → first_bad core.controller.params ≡ None → CommandFits command
+    → first_bad (after_call core.controller (call_in core command)).params ≡ None
 good-next core (Arrive moment packet word) good fit =
-    let kept : (after_call core.held (call_in core (Arrive moment packet word))).params ≡ core.held.params = grind (arith, nat_tests) in rw kept good
+    let kept : (after_call core.controller (call_in core (Arrive moment packet word))).params ≡ core.controller.params = grind (arith, nat_tests) in rw kept good
 good-next core (Depart moment) good fit =
-    let kept : (after_call core.held (call_in core (Depart moment))).params ≡ core.held.params = grind (arith, nat_tests) in rw kept good
+    let kept : (after_call core.controller (call_in core (Depart moment))).params ≡ core.controller.params = grind (arith, nat_tests) in rw kept good
 good-next core (SetParams moment params) good fit = fit.1.in_range
 good-next core _ good fit = good
 
 -- a core that represents a history represents it with a command that it accepts
 pub next_shown : (opening : Opening) (core : CoreView) (history : List Event) → Represents opening core history → (caller : ℕ) (command : Command)
-    → first_bad core.held.params ≡ None → refusal_of core command ≡ None
+    → first_bad core.controller.params ≡ None → refusal_of core command ≡ None
     → Represents opening (core_after core command) (history ++ event_of caller command (answer_in core command) ∷ [])
 next_shown opening core history shows caller command good free =
-    next-shows opening core history shows caller command (threshold_held core.held (call_in core command) good) free
+    next-shows opening core history shows caller command (threshold_held core.controller (call_in core command) good) free
 
 -- a legal event after a history is the next event of a core that represents the history
 pub next-legal : (opening : Opening) (core : CoreView) (history : List Event) (event : Event) → Represents opening core history
@@ -314,7 +314,7 @@ next-legal opening core history event shows here = grind (arith, nat_tests, refu
 
 -- the core then represents the history with the event
 pub next-core : (opening : Opening) (core : CoreView) (history : List Event) (event : Event) → Represents opening core history
-    → first_bad core.held.params ≡ None → IsNext core event → Represents opening (core_after core event.command) (history ++ event ∷ [])
+    → first_bad core.controller.params ≡ None → IsNext core event → Represents opening (core_after core event.command) (history ++ event ∷ [])
 next-core opening core history event shows good next =
     let same : event_of event.caller event.command (answer_in core event.command) ≡ event =
     ap (λ (answer : Answer). event_of event.caller event.command answer) (sym next.answered) in
@@ -327,7 +327,7 @@ next-core opening core history event shows good next =
 pub record IsRun (P : List Event → CoreView → Type 0) (opening : Opening) (history : List Event) : Type 0 where
   pub core : CoreView
   pub shows : Represents opening core history
-  pub good : first_bad core.held.params ≡ None
+  pub good : first_bad core.controller.params ≡ None
   pub holds : P history core
 
 -- P is kept by each accepted command
@@ -364,18 +364,18 @@ calls-push : (opening : Opening) (history : List Event) (event : Event)
 unfolding calls_of
 calls-push opening history event = simp (places-push, map-append)
 
-after-push : (h : Held) (calls : List Call) (call : Call) → after_calls h (calls ++ call ∷ []) ≡ after_call (after_calls h calls) call
+after-push : (h : ControllerState) (calls : List Call) (call : Call) → after_calls h (calls ++ call ∷ []) ≡ after_call (after_calls h calls) call
 unfolding after_calls
 after-push h [] call = refl
 after-push h (first ∷ calls) call = after-push (after_call h first) calls call
 
-none-called : (opening : Opening) → (first_core opening).held ≡ held_after_calls opening []
+none-called : (opening : Opening) → (first_core opening).controller ≡ held_after_calls opening []
 unfolding calls_of places after_calls
 none-called opening = refl
 
 -- a core whose controller has the state after the calls of the history
 abbrev HoldsCalls : Opening → List Event → CoreView → Type 0
-HoldsCalls opening history core = core.held ≡ held_after_calls opening history
+HoldsCalls opening history core = core.controller ≡ held_after_calls opening history
 
 call-next : (opening : Opening) → Stays (HoldsCalls opening) opening
 call-next opening core history event shows holds fit free = grind (arith, nat_tests, calls-push, after-push)
@@ -386,13 +386,13 @@ pub run_beside : (opening : Opening) (history : List Event) (command : Command) 
     → answer_by (held_after_calls opening history) (waiting_after opening history) opening.limits.packets command ≡ decision opening history command
 run_beside opening history command good legal fit free =
     let run = run_of (HoldsCalls opening) opening (call-next opening) history (none-called opening) good legal fit in
-    ap (λ (h : Held). answer_by h (waiting_after opening history) opening.limits.packets command)
+    ap (λ (h : ControllerState). answer_by h (waiting_after opening history) opening.limits.packets command)
     (sym run.holds ∙ held-is opening run.core history run.shows)
 
 -- ---- Events that follow from a core are legal after each history that the core represents
 
 module _ (opening : Opening) where
-  pub follows_legal : (core : CoreView) (history rest : List Event) → Represents opening core history → first_bad core.held.params ≡ None
+  pub follows_legal : (core : CoreView) (history rest : List Event) → Represents opening core history → first_bad core.controller.params ≡ None
       → All (λ event. CommandFits event.command) rest → Follows core rest ↔ IsLegal opening (history ++ rest)
   unfolding Follows
   follows_legal core history [] shows good fit = (λ follows. rw (append-nil history) shows.legal, λ legal. tt)
@@ -409,7 +409,7 @@ module _ (opening : Opening) where
       )
 
   -- the core after events that follow from it represents the history with them
-  pub follows_shown : (core : CoreView) (history events : List Event) → Represents opening core history → first_bad core.held.params ≡ None
+  pub follows_shown : (core : CoreView) (history events : List Event) → Represents opening core history → first_bad core.controller.params ≡ None
       → All (λ event. CommandFits event.command) events → Follows core events → Represents opening (core_along core events) (history ++ events)
   unfolding Follows core_along
   follows_shown core history [] shows good fit follows = subst (λ (h : List Event). Represents opening core h) (sym (append-nil history)) shows

@@ -15,7 +15,7 @@ use Rattle.pie_event.specs.declared.resume_refusal.EndRefusal.TheVariants as end
 use Rattle.pie_book.specs.declared.snapshot.CoreSnapshot.{CoreSnapshot}
 use Rattle.pie_event.specs.declared.refusal.Refusal.TheVariants.{Moment, Size, TooSoon, Exhausted, HistoryFull}
 use Rattle.pie_aqm.proofs.Examples.{small, worked as worked_calls}
-use Rattle.pie_book.specs.Run.{Step, asked, folded, start, without_folds, answers, answers_from, before_full, progress_after, event_of}
+use Rattle.pie_book.specs.Run.{Step, applied, folded, start, without_folds, answers, answers_from, before_full, progress_after, event_of}
 use Rattle.pie_book.specs.{Packet, Command, Arrive, Depart, Update, Reset, SetParams, Answer, Enqueued, Marked, DroppedEarly, DroppedBytes}
 use Rattle.pie_book.specs.{Empty, Left, Updated, Done, Event, Mode, Bounded, Rolling, One, Opening, RawParams, Stats, caller_moment}
 use Rattle.pie_book.specs.{registers_after, largest_queue, largest_delay, stats_after, waited, held_after, effective_moment, admitted, departed_count}
@@ -26,7 +26,7 @@ use Rattle.pie_book.specs.{IsNotContinued, Profile, Two, Elements}
 use Rattle.pie_params.specs.declared.elements.Delay.{Delay}
 use Rattle.pie_params.specs.declared.elements.Delay.TheVariants.{Rate, Stamp}
 use Rattle.pie_book.specs.declared.book.ContinueRefusal.TheVariants as continue
-use Rattle.pie_book.specs.{recorded_event_in, has_room, most_kept, apply_in, cause_in, core_along, no_stats, step_in, are_balanced, Held}
+use Rattle.pie_book.specs.{recorded_event_in, has_room, most_kept, apply_in, cause_in, core_along, no_stats, step_in, are_balanced, ControllerState}
 use Rattle.pie_params.specs.declared.elements.Picking.TheVariants.{Random}
 use Rattle.pie_aqm.specs.Steps.{cause}
 use Rattle.pie_event.specs.declared.cause.Cause.TheVariants as causes
@@ -83,7 +83,7 @@ commands = map (λ tag. Arrive 0 (packet tag 1024) 0) (1 ∷ 2 ∷ 3 ∷ 4 ∷ [
 
 -- the history of the first n of them
 abbrev history : ℕ → List Event
-history n = (progress_after opening start (map (asked 1) (take n commands))).history
+history n = (progress_after opening start (map (applied 1) (take n commands))).history
 
 -- the core after these commands
 abbrev steps : CoreView → List Command → CoreView
@@ -98,7 +98,7 @@ abbrev stats_in : Stats → List ℕ
 stats_in s = s.arrivals ∷ s.enqueued ∷ s.marked ∷ s.early ∷ s.over_bytes ∷ s.over_packets ∷ s.left ∷ s.left_bytes ∷ s.empty ∷ s.updates ∷ s.resets
     ∷ s.changes ∷ s.largest_queue ∷ s.largest_delay ∷ s.waited ∷ []
 
-answered : answers opening (map (asked 1) commands) ≡ map Ok (Enqueued ∷ Enqueued ∷ Enqueued ∷ Enqueued ∷ Left (packet 1 1024) ∷ Left (packet 2 1024)
+answered : answers opening (map (applied 1) commands) ≡ map Ok (Enqueued ∷ Enqueued ∷ Enqueued ∷ Enqueued ∷ Left (packet 1 1024) ∷ Left (packet 2 1024)
     ∷ Updated 2000000 830077294 0 ∷ Updated 2000000 53955024169 0 ∷ Updated 2000000 903954174169 0
     ∷ Marked ∷ DroppedEarly ∷ Enqueued ∷ Done ∷ Done ∷ [])
 unfolding worked
@@ -114,7 +114,7 @@ held = (refl, refl)
 
 -- a core, and a controller with a queue, reach the same state
 by_steps : let core : CoreView = steps (first_core opening) commands in
-    (core.held ≡ held_after opening (history 14)) × (core.waiting ≡ waiting_after opening (history 14))
+    (core.controller ≡ held_after opening (history 14)) × (core.waiting ≡ waiting_after opening (history 14))
     × (core.stats ≡ stats_after opening (history 14)) × (held_after_calls opening (history 14) ≡ held_after opening (history 14))
 unfolding worked
 by_steps = (refl, refl, refl, refl)
@@ -189,7 +189,7 @@ unfolding worked
 agreeing = (refl, refl)
 
 -- each register that a statistic or an element bounds
-holding : let h : Held = numbers.controller in
+holding : let h : ControllerState = numbers.controller in
     (map (λ held. are_balanced (record numbers { controller = held })) (record h { waited = 1 }
     ∷ record h { control = record h.control { old_delay = 2000000 } } ∷ record h { control = record h.control { old_delay = 2000001 } }
     ∷ record h { elements = record usual { delay = Stamp }; waited = 1002000 } ∷ record h { elements = record usual { delay = Stamp }; waited = 1002001 }
@@ -274,9 +274,9 @@ queues = (refl, refl, refl, refl)
 -- ---- Runs of steps, and events that are not legal, which only laws mention
 
 abbrev arrives : ℕ → Step
-arrives tag = asked 1 (Arrive tag (packet tag 100) 0)
+arrives tag = applied 1 (Arrive tag (packet tag 100) 0)
 
-unfolded : without_folds (arrives 1 ∷ folded 1 ∷ asked 1 (Depart 2) ∷ folded 0 ∷ [])
+unfolded : without_folds (arrives 1 ∷ folded 1 ∷ applied 1 (Depart 2) ∷ folded 0 ∷ [])
     ≡ record { caller = 1; command = Arrive 1 (packet 1 100) 0 } ∷ record { caller = 1; command = Depart 2 } ∷ []
 unfolding without_folds
 unfolded = refl

@@ -1,6 +1,6 @@
 pub mod CoreFacts
 pub mod BookFacts
-pub mod CarriedFacts
+pub mod ConsistencyFacts
 pub mod BalanceFacts
 pub mod RunFacts
 pub mod RangeFacts

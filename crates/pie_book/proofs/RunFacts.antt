@@ -1,7 +1,7 @@
 -- Folds change no answer: up to the first `HistoryFull`, the answers of a run are those of the rules, with any folds.
 use Rattle.std.proofs.Common.{◌≡◌, ◌≤◌, ◌+◌, ◌==◌, ℕ, List, [], ◌∷◌, ◌++◌, Bool, true, false, cond, take, refl, sym, ap, ◌∙◌, arith, min, Option}
 use Rattle.std.proofs.Common.{Some, None, Result, Ok, Err, one-add, not, take-take}
-use Rattle.pie_book.specs.Run.{Step, asked, folded, Progress, CallerCommand, event_of, refused_or, recorded, held_after_fold, answers_from, answers}
+use Rattle.pie_book.specs.Run.{Step, applied, folded, Progress, CallerCommand, event_of, refused_or, recorded, held_after_fold, answers_from, answers}
 use Rattle.pie_book.specs.Run.{without_folds, is_full, before_full, AreSameUntilFull}
 use Rattle.pie_event.specs.declared.refusal.Refusal.TheVariants.{HistoryFull}
 use Rattle.pie_book.specs.Types.{Command, Answer, Event, Mode, Rolling, Opening, Refusal}
@@ -38,30 +38,30 @@ module _ (opening : Opening) (R : List Given → List Given → Type 0) (none : 
     (filled : (held : ℕ) (some other : List Given) → is_refused_full opening.choices.mode (held == opening.limits.tail) ≡ true
     → R (Err HistoryFull ∷ some) other) where
   -- one command, and the steps after it
-  one-asked : (history : List Event) (held caller : ℕ) (command : Command) (steps : List Step)
+  one-applied : (history : List Event) (held caller : ℕ) (command : Command) (steps : List Step)
       → ((history : List Event) (held : ℕ) → R (answers_from opening (at history held) steps) (all_ruled opening history (without_folds steps)))
       → (why : Option Refusal) (full : Bool) (answer : Answer) → is_refused_full opening.choices.mode (held == opening.limits.tail) ≡ full
       → R (refused_or (or_full why full) answer ∷ answers_from opening
       (recorded opening (at history held) caller command (refused_or (or_full why full) answer)) steps)
       (refused_or why answer ∷ all_ruled opening (extended history caller command (refused_or why answer)) (without_folds steps))
-  one-asked history held caller command steps later (Some why) full answer is = same (Err why) _ _ (later history held)
-  one-asked history held caller command steps later None true answer is = filled held _ _ is
-  one-asked history held caller command steps later None false answer is = same (Ok answer) _ _ (later _ _)
+  one-applied history held caller command steps later (Some why) full answer is = same (Err why) _ _ (later history held)
+  one-applied history held caller command steps later None true answer is = filled held _ _ is
+  one-applied history held caller command steps later None false answer is = same (Ok answer) _ _ (later _ _)
 
-  all-asked : (history : List Event) (held : ℕ) (steps : List Step)
+  all-applied : (history : List Event) (held : ℕ) (steps : List Step)
       → R (answers_from opening (at history held) steps) (all_ruled opening history (without_folds steps))
   unfolding all_ruled answers_from without_folds
-  all-asked history held [] = none
-  all-asked history held (folded n ∷ steps) = all-asked history (held_after_fold held n) steps
-  all-asked history held (asked caller command ∷ steps) =
-      one-asked history held caller command steps (λ history held. all-asked history held steps) (refusal_by_rule opening history command)
+  all-applied history held [] = none
+  all-applied history held (folded n ∷ steps) = all-applied history (held_after_fold held n) steps
+  all-applied history held (applied caller command ∷ steps) =
+      one-applied history held caller command steps (λ history held. all-applied history held steps) (refusal_by_rule opening history command)
       (is_refused_full opening.choices.mode (held == opening.limits.tail)) (decision opening history command) refl
 
 -- a rolling book answers as the rules do, because its tail refuses nothing
 rolling-ruled : (opening : Opening) (steps : List Step) → opening.choices.mode ≡ Rolling
     → answers_from opening (at [] 0) steps ≡ all_ruled opening [] (without_folds steps)
 rolling-ruled opening steps is =
-    all-asked opening (λ some other. some ≡ other) refl (λ first some other e. ap (◌∷◌ first) e)
+    all-applied opening (λ some other. some ≡ other) refl (λ first some other e. ap (◌∷◌ first) e)
     (λ held some other full. let none = rolls opening.choices.mode (held == opening.limits.tail) is in cc) [] 0 steps
   where
     rolls : (mode : Mode) (full : Bool) → mode ≡ Rolling → is_refused_full mode full ≡ false
@@ -73,7 +73,7 @@ SameUntilFull some other = take (before_full some) some ≡ take (before_full so
 
 until_full-ruled : (opening : Opening) (steps : List Step)
     → SameUntilFull (answers_from opening (at [] 0) steps) (all_ruled opening [] (without_folds steps))
-until_full-ruled opening steps = all-asked opening SameUntilFull refl same-cons (λ held some other full. refl) [] 0 steps
+until_full-ruled opening steps = all-applied opening SameUntilFull refl same-cons (λ held some other full. refl) [] 0 steps
   where
     same-cons : (first : Given) (some other : List Given) → SameUntilFull some other → SameUntilFull (first ∷ some) (first ∷ other)
     same-cons first some other same = by (is_full first)

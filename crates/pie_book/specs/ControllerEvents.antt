@@ -3,7 +3,7 @@
 -- definitions look back over this list.
 use Rattle.std.specs.Prelude.{ℕ, List, [], ◌∷◌, map}
 use Rattle.pie_event.specs.declared.verdict.Verdict.TheVariants as verdict
-use Rattle.pie_aqm.specs.Events.{ControllerEvent, Opened, Arrived, Departed, Passed, Updated, Reset, Changed}
+use Rattle.pie_aqm.specs.Events.{ControllerEvent, Opened, Arrived, Departed, Advanced, Updated, Reset, Changed}
 use Rattle.pie_book.specs.Types.{Place, places, up_to, Waiting, Command, Arrive, Event, Opening, Deed, deed_of, caller_moment, queued, marked}
 use Rattle.pie_book.specs.Types.{dropped_early, dropped_bytes, dropped_packets, departed, found_none, updated, was_reset, set, nothing}
 use Rattle.pie_book.specs.History.{bytes_after, waiting_after}
@@ -33,11 +33,11 @@ controller_event dropped_early size since before after moment = Arrived verdict.
 controller_event dropped_bytes size since before after moment = Arrived verdict.DroppedBytes size before after moment
 controller_event dropped_packets size since before after moment = Arrived verdict.DroppedPackets size before after moment
 controller_event (departed packet) size since before after moment = Departed packet.size after since moment
-controller_event found_none size since before after moment = Passed moment
+controller_event found_none size since before after moment = Advanced moment
 controller_event updated size since before after moment = Updated before moment
 controller_event was_reset size since before after moment = Reset moment
 controller_event (set params) size since before after moment = Changed params moment
-controller_event nothing size since before after moment = Passed moment
+controller_event nothing size since before after moment = Advanced moment
 
 abbrev pub controller_event_at : Opening → Place Event → ControllerEvent
 controller_event_at opening place =

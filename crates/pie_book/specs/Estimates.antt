@@ -1,13 +1,13 @@
 -- The state of the controller after a history: the look-back over all its events (RFC 8033, sections 4.1, 4.2, 4.4 and
 -- 5.1 to 5.5).
 use Rattle.std.specs.Prelude.{ℕ, Bool, List}
-use Rattle.pie_book.specs.Types.{RawParams, Held, Event, Opening, Parts}
+use Rattle.pie_book.specs.Types.{RawParams, ControllerState, Event, Opening, Parts}
 use Rattle.pie_aqm.specs.History.{held_of}
 use Rattle.pie_aqm.specs.Steps as Steps
 use Rattle.pie_book.specs.History.{bytes_after}
 use Rattle.pie_book.specs.ControllerEvents.{opened_of, controller_events}
 
-unfoldable pub held_after : Opening → List Event → Held
+unfoldable pub held_after : Opening → List Event → ControllerState
 held_after opening history = held_of (opened_of opening) (controller_events opening history)
 
 -- the parameters in force

@@ -19,7 +19,7 @@ pub use Rattle.pie_event.specs.declared.refusal.Refusal.{Refusal}
 pub use Rattle.pie_event.specs.declared.stats.Stats.{Stats}
 pub use Rattle.pie_event.specs.declared.registers.Registers.{Registers}
 pub use Rattle.pie_aqm.specs.declared.verdict.ArrivingPacket.{ArrivingPacket}
-pub use Rattle.pie_aqm.specs.Held.{Held}
+pub use Rattle.pie_aqm.specs.ControllerState.{ControllerState}
 pub use Rattle.pie_queue.specs.Queue.{IsSize, bytes_of}
 pub use Rattle.pie_params.specs.Range.{first_bad}
 pub use Rattle.pie_params.specs.Elements.{usual}

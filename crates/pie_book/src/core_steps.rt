@@ -2,11 +2,11 @@
 //! event.
 ghost use Rattle.std.specs.Prelude.{◌≡◌, ◌<◌, ◌++◌, ◌∷◌, [], List, None, Some, IfOk, IfErr, OnErr, OnOk, ◌==◌, ◌≤◌, ◌^◌, ◌+◌, length, true, false};
 ghost use Rattle.pie_book.specs.{Event, Opening, decision, refusal_by_rule, event_of, refused_or, Arrive, Depart, Update, Reset, SetParams};
-ghost use Rattle.pie_book.specs.{caller_moment, arrival_deed, IsSize, bytes_of, HasThreshold, Represents, closed, refusal_of, after_command, answer_in};
+ghost use Rattle.pie_book.specs.{caller_moment, arrival_deed, IsSize, bytes_of, HasThreshold, Represents, queue_recorded, refusal_of, after_command, answer_in};
 ghost use Rattle.pie_book.specs.{call_in, arrival_of, departure_call, waiting_next, answer_of, step_in, core_after, IsNext};
 ghost use Rattle.pie_event.specs.Verdict.{is_queued};
 
-use crate::deciding_core::{Core, RawCore};
+use crate::core_state::{Core, RawCore};
 use crate::recorded::{Recorded, RecordedEvent};
 use crate::{Answer, Command, Refusal};
 use pie_aqm::{ArrivingPacket, Verdict};
@@ -66,7 +66,7 @@ impl Core {
             → Represents opening self.new (history ++ event_of caller command result.answer ∷ []) }
     {
         let recorded = self.raw.decide(caller, moment, command);
-        self.raw.close();
+        self.raw.record_queue();
         recorded
     }
 }
@@ -111,7 +111,7 @@ impl RawCore {
         requires moment { moment ≡ caller_moment command }
         ensures event { result ≡ event_of caller command (answer_in self.old command) }
         ensures after { self.new ≡ after_command self.old command }
-        ensures threshold { HasThreshold self.old.held (call_in self.old command) }
+        ensures threshold { HasThreshold self.old.controller (call_in self.old command) }
     {
         match command {
             Command::Arrive { packet, word, .. } => self.arrive(caller, moment, packet, word),
@@ -124,10 +124,10 @@ impl RawCore {
 
     /// Includes the bytes in the queue after an event in the largest queue.
     #[inline(always)]
-    fn close(&mut self)
-        ensures { self.new ≡ closed self.old }
+    fn record_queue(&mut self)
+        ensures { self.new ≡ queue_recorded self.old }
     {
-        self.tally.queue_is(self.queue.bytes());
+        self.tally.queue_size(self.queue.bytes());
     }
 
     /// Decides on an arriving packet, and queues it if its verdict is to queue or mark it.
@@ -202,11 +202,11 @@ impl RawCore {
         requires room { self.old.count < self.old.events }
         ensures event { result ≡ event_of caller (Depart moment) (answer_in self.old (Depart moment)) }
         ensures after { self.new ≡ after_command self.old (Depart moment) }
-        ensures threshold { HasThreshold self.old.held (departure_call self.old.waiting moment) }
+        ensures threshold { HasThreshold self.old.controller (departure_call self.old.waiting moment) }
     {
         let Some(oldest) = self.queue.take() else {
-            self.controller.pass(moment);
-            self.tally.found_none();
+            self.controller.advance_to(moment);
+            self.tally.departed_empty();
             return Recorded::of(RecordedEvent::DepartedEmpty {
                 caller,
                 moment: moment.units(),
@@ -251,8 +251,8 @@ impl RawCore {
         ensures after { self.new ≡ after_command self.old (Reset moment) }
     {
         self.controller.reset(moment);
-        self.tally.was_reset();
-        Recorded::of(RecordedEvent::WasReset {
+        self.tally.reset_done();
+        Recorded::of(RecordedEvent::ResetDone {
             caller,
             moment: moment.units(),
         })
@@ -266,7 +266,7 @@ impl RawCore {
     {
         self.controller.set_params(params, moment);
         self.tally.changed();
-        Recorded::of(RecordedEvent::WasSet {
+        Recorded::of(RecordedEvent::Changed {
             caller,
             moment: moment.units(),
             params,

@@ -59,10 +59,10 @@ pub fn steps_look_back()
         → (held : ℕ) (command : Command)
         → apply_in opening core held command ≡ outcome opening (record { history = history; held = held }) command }
     ensures after { (opening : Opening) (core : CoreView) (history : List Event) → Represents opening core history
-        → (caller : ℕ) (command : Command) → first_bad core.held.params ≡ None → refusal_of core command ≡ None
+        → (caller : ℕ) (command : Command) → first_bad core.controller.params ≡ None → refusal_of core command ≡ None
         → Represents opening (core_after core command) (history ++ event_of caller command (answer_in core command) ∷ []) }
     ensures along { (opening : Opening) (core : CoreView) (history : List Event) (events : List Event) → Represents opening core history
-        → first_bad core.held.params ≡ None → All (λ event. CommandFits event.command) events → Follows core events
+        → first_bad core.controller.params ≡ None → All (λ event. CommandFits event.command) events → Follows core events
         → Represents opening (core_along core events) (history ++ events) }
 {}
 
@@ -105,16 +105,16 @@ pub fn all_numbers_are_held()
 #[tactic(auto, using(crate::proofs::CoreFacts::next_decided))]
 pub fn parts_decide_as_a_core()
     ensures opens { (opening : Opening) → Represents opening (first_core opening) [] }
-    ensures opened { (opening : Opening) → (first_core opening).held ≡ opened_by opening }
+    ensures opened { (opening : Opening) → (first_core opening).controller ≡ opened_by opening }
     ensures decides { (opening : Opening) (core : CoreView) (history : List Event) → Represents opening core history
-        → (command : Command) → answer_by core.held core.waiting core.packets command ≡ decision opening history command }
+        → (command : Command) → answer_by core.controller core.waiting core.packets command ≡ decision opening history command }
     ensures represents { (opening : Opening) (core : CoreView) (history : List Event) → Represents opening core history
-        → (caller : ℕ) (command : Command) → first_bad core.held.params ≡ None → refusal_of core command ≡ None
-        → Represents opening (core_after core command) (history ++ event_of caller command (answer_by core.held core.waiting core.packets command) ∷ []) }
+        → (caller : ℕ) (command : Command) → first_bad core.controller.params ≡ None → refusal_of core command ≡ None
+        → Represents opening (core_after core command) (history ++ event_of caller command (answer_by core.controller core.waiting core.packets command) ∷ []) }
     ensures holds { (core : CoreView) (command : Command)
-        → (core_after core command).held ≡ after_call core.held (call_of core.waiting core.packets command) }
-    ensures too_soon { (core : CoreView) (moment : ℕ) → is_too_soon core.held.moment (due_of core.held.params core.held.control) (Update moment)
-        ≡ nat_lt (now_at core.held moment) (due core.held) }
+        → (core_after core command).controller ≡ after_call core.controller (call_of core.waiting core.packets command) }
+    ensures too_soon { (core : CoreView) (moment : ℕ) → is_too_soon core.controller.moment (due_of core.controller.params core.controller.control) (Update moment)
+        ≡ nat_lt (now_at core.controller moment) (due core.controller) }
 {}
 
 /// States that a controller with a queue decides as a core does over a whole run (this project's own). If it was opened

@@ -25,8 +25,8 @@
 pub mod book;
 mod book_events;
 mod book_folds;
+mod core_state;
 mod core_steps;
-mod deciding_core;
 pub mod excerpt;
 pub mod law;
 mod recorded;
@@ -34,7 +34,7 @@ pub mod snapshot;
 mod tally;
 
 pub use book::{Book, ContinueRefusal};
-pub use deciding_core::Core;
+pub use core_state::Core;
 pub use excerpt::Excerpt;
 pub use law::{
     all_numbers_are_held, folds_change_no_answer, parts_decide_as_a_core,

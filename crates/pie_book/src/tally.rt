@@ -8,7 +8,7 @@ use pie_aqm::Verdict;
 use pie_queue::Packet;
 use std::marker::Model;
 
-/// The number of events, and the statistics. Only `queue_is` sets the largest queue, because it depends on the packets
+/// The number of events, and the statistics. Only `queue_size` sets the largest queue, because it depends on the packets
 /// that wait after each event.
 #[derive(Drop)]
 pub(crate) struct Tally {
@@ -94,7 +94,7 @@ impl Tally {
 
     /// Counts a departure that found no packet.
     #[tactic(auto, using(std::proofs::lemmas::Bool::Decides::nat_tests), unfolding(crate::specs::Statistics::are_reached))]
-    pub(crate) fn found_none(&mut self)
+    pub(crate) fn departed_empty(&mut self)
         requires { self.old.count < 2 ^ 47 }
         ensures { self.new ≡ record { count = self.old.count + 1; stats = counted self.old.stats found_none 0 0 } }
     {
@@ -115,7 +115,7 @@ impl Tally {
 
     /// Counts a reset.
     #[tactic(auto, using(std::proofs::lemmas::Bool::Decides::nat_tests), unfolding(crate::specs::Statistics::are_reached))]
-    pub(crate) fn was_reset(&mut self)
+    pub(crate) fn reset_done(&mut self)
         requires { self.old.count < 2 ^ 47 }
         ensures { self.new ≡ record { count = self.old.count + 1; stats = counted self.old.stats was_reset 0 0 } }
     {
@@ -135,7 +135,7 @@ impl Tally {
 
     /// Includes `bytes`, the bytes in the queue after the last event, in the largest queue.
     #[tactic(auto, using(std::proofs::lemmas::Bool::Decides::nat_tests), unfolding(crate::specs::Statistics::are_reached))]
-    pub(crate) fn queue_is(&mut self, bytes: u64)
+    pub(crate) fn queue_size(&mut self, bytes: u64)
         ensures { self.new ≡ record { count = self.old.count; stats = with_queue self.old.stats bytes } }
     {
         self.stats.largest_queue = self.stats.largest_queue.max(bytes);

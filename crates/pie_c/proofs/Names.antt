@@ -1,7 +1,7 @@
 -- Names from lower crates that the files of this folder use, in one place.
 pub use Rattle.pie_c.specs.Names.{Opening}
 pub use Rattle.pie_c.specs.{last_moment, profile_number, profile_of, opening_in, opening_of, is_bad_size, verdict_number, PieOpening, RawParams}
-pub use Rattle.pie_c.specs.{Depart, Held, IsSound, arrived, capped, departed, opened, updated, arrival_of, departure_refusal, if_taken}
+pub use Rattle.pie_c.specs.{Depart, ControllerState, IsSound, arrived, capped, departed, opened, updated, arrival_of, departure_refusal, if_taken}
 pub use Rattle.pie_c.specs.{unless_refused, waited_refusal, held_by_opening, takes_stamps, with_arrival, with_departure, with_rate, with_registers}
 pub use Rattle.pie_c.specs.{PieState, Event, first_bad, default_profile, Ecn}
 unfoldable pub use Rattle.pie_c.specs.{choices_of, elements_of, opening_refusal, are_in_range, cause, verdict, arrival_refusal, moment_refusal}
@@ -10,11 +10,12 @@ pub use Rattle.std.proofs.Common.{Bool, List, None, Some, [], ap, arith, false, 
 pub use Rattle.std.proofs.Common.{true, ℕ, ◌++◌, ◌<◌, ◌==◌, ◌^◌, ◌∙◌, ◌∷◌, ◌≡◌, ◌≤◌}
 pub use Rattle.std.proofs.lemmas.Bool.{eqb-true}
 pub use Rattle.std.proofs.lemmas.Bool.Decides.{nat_tests}
-pub use Rattle.pie_aqm.specs.Steps.{passed, with_count}
+pub use Rattle.pie_aqm.specs.Steps.{advanced, with_count}
 unfoldable pub use Rattle.pie_aqm.specs.Steps.{accu_left, count_kept_open, is_unmeasured}
 pub use Rattle.pie_aqm.specs.declared.verdict.ArrivingPacket.{ArrivingPacket}
 unfoldable pub use Rattle.pie_book.specs.History.{waiting_after}
-pub use Rattle.pie_event.specs.CauseName.{name_of, place_of_cause}
+pub use Rattle.pie_event.specs.CauseName.{name_of}
+pub use Rattle.pie_event.specs.declared.cause_name.CauseName.{CauseName}
 pub use Rattle.pie_event.specs.declared.profile.Profile.TheVariants.{One}
 pub use Rattle.pie_event.specs.declared.verdict.Verdict.{Verdict}
 pub use Rattle.pie_params.specs.Elements.{usual}

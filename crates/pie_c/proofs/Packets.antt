@@ -1,14 +1,14 @@
 -- The state after a call for a packet is the controller's state, if it was sound.
 use Rattle.std.specs.Prelude.{IsTrue, None}
-use Rattle.pie_c.specs.{Arrive, Call, Change, IsTaken, Pass, Restart, after_call, event_of_call, ControllerEvent, Opened, Represents, Arrives, Departs, Leaves}
-use Rattle.pie_c.specs.{Makes, Passes, Steps, params_refusal, KeepsSound, LooksBack}
+use Rattle.pie_c.specs.{Arrive, Call, Change, IsTaken, Advance, Restart, after_call, event_of_call, ControllerEvent, Opened, Represents, Arrives, Departs, Leaves}
+use Rattle.pie_c.specs.{Makes, Advances, Steps, params_refusal, KeepsSound, LooksBack}
 use Rattle.pie_c.proofs.Names.{reset_refusal, ◌≡◌, ℕ, ◌≤◌, ◌<◌, ◌^◌, ◌==◌, if◌then◌else◌, nat_lt, Bool, true, false, List, [], ◌∷◌, Some, ◌++◌}
-use Rattle.pie_c.proofs.Names.{arith, refl, ◌∙◌, eqb-true, nat_tests, ArrivingPacket, Verdict, Depart, RawParams, first_bad, Held, accu_left}
-use Rattle.pie_c.proofs.Names.{arrived, capped, count_kept_open, departed, is_unmeasured, cause, opened, passed, verdict, with_count, name_of}
-use Rattle.pie_c.proofs.Names.{place_of_cause, RawParams, PieState, is_bad_size, departure_refusal, waited_refusal, moment_refusal, if_taken}
+use Rattle.pie_c.proofs.Names.{arith, refl, ◌∙◌, eqb-true, nat_tests, ArrivingPacket, Verdict, Depart, RawParams, first_bad, ControllerState, accu_left}
+use Rattle.pie_c.proofs.Names.{arrived, capped, count_kept_open, departed, is_unmeasured, cause, opened, advanced, verdict, with_count, name_of}
+use Rattle.pie_c.proofs.Names.{CauseName, RawParams, PieState, is_bad_size, departure_refusal, waited_refusal, moment_refusal, if_taken}
 use Rattle.pie_c.proofs.Names.{packet_refusal, unless_refused, PieOpening, Opening, opening_of, opening_refusal, held_by_opening}
 use Rattle.pie_c.proofs.Names.{elements_of, last_moment, held_in, is_sound, state_of, takes_stamps, are_in_range, with_arrival, with_departure}
-use Rattle.pie_c.proofs.Names.{with_rate, with_registers}
+use Rattle.pie_c.proofs.Names.{with_rate, with_registers, ap}
 use Rattle.std.proofs.Common.{max, Ok}
 use Rattle.pie_params.specs.Range.{is_dq_threshold}
 use Rattle.pie_aqm.specs.Steps.{changed, reset}
@@ -123,64 +123,64 @@ departs_by_rate keeps looks s t size left moment is = record {
 }
 
 -- a departure that leaves the open cycle open is accepted, and changes only the count and the moment
-pub counted-taken : (s : PieState) (h : Held) (size left moment count : ℕ) → h ≡ held_in s → count_kept_open h size ≡ Some count
+pub counted-taken : (s : PieState) (h : ControllerState) (size left moment count : ℕ) → h ≡ held_in s → count_kept_open h size ≡ Some count
     → moment ≤ last_moment → left ≤ 2 ^ 30 → 0 < size → departure_refusal s size left moment ≡ 0
 unfolding held_in count_kept_open elements_of packet_refusal
 counted-taken s h size left moment count is kept m few some = grind (arith, nat_tests)
 
-pub counted-state : (s : PieState) (h : Held) (size left moment count : ℕ) → h ≡ held_in s → count_kept_open h size ≡ Some count
+pub counted-state : (s : PieState) (h : ControllerState) (size left moment count : ℕ) → h ≡ held_in s → count_kept_open h size ≡ Some count
     → departed (capped h) size left 0 moment ≡ with_count (capped h) count moment
     → record s { moment = max s.moment moment; cycle_count = count } ≡ with_rate s (departed (capped (held_in s)) size left 0 moment)
 unfolding held_in count_kept_open elements_of
 counted-state s h size left moment count is kept alone = grind (arith, nat_tests)
 
 -- a departure that meets no open cycle and opens none is accepted, and changes only the moment
-pub unmeasured-taken : (s : PieState) (h : Held) (size left moment : ℕ) → h ≡ held_in s → is_unmeasured h left ≡ true → moment ≤ last_moment
+pub unmeasured-taken : (s : PieState) (h : ControllerState) (size left moment : ℕ) → h ≡ held_in s → is_unmeasured h left ≡ true → moment ≤ last_moment
     → is_bad_size size ≡ false → departure_refusal s size left moment ≡ 0
 unfolding held_in is_unmeasured elements_of packet_refusal
 unmeasured-taken s h size left moment is none m good = grind (arith, nat_tests)
 
-pub unmeasured-state : (s : PieState) (h : Held) (size left moment : ℕ) → h ≡ held_in s → is_unmeasured h left ≡ true
-    → departed (capped h) size left 0 moment ≡ passed (capped h) moment
+pub unmeasured-state : (s : PieState) (h : ControllerState) (size left moment : ℕ) → h ≡ held_in s → is_unmeasured h left ≡ true
+    → departed (capped h) size left 0 moment ≡ advanced (capped h) moment
     → record s { moment = max s.moment moment; measuring = 0; cycle_start = 0; cycle_count = 0 }
     ≡ with_rate s (departed (capped (held_in s)) size left 0 moment)
 unfolding held_in is_unmeasured elements_of
 unmeasured-state s h size left moment is none alone = grind (arith, nat_tests)
 
 pub passes : KeepsSound → LooksBack → (s t : PieState) (moment : ℕ)
-    → t ≡ if_taken (moment_refusal moment) s (record s { moment = max s.moment moment }) → Passes s moment t
+    → t ≡ if_taken (moment_refusal moment) s (record s { moment = max s.moment moment }) → Advances s moment t
 unfolding moment_refusal held_in state_of
 passes keeps looks s t moment is = record {
   fields = is;
   held = λ sound. let back = state-held s sound in
-      makes keeps looks s t (Pass moment) (moment_refusal moment) sound (grind (arith, nat_tests)) (given_calls moment _);
+      makes keeps looks s t (Advance moment) (moment_refusal moment) sound (grind (arith, nat_tests)) (given_calls moment _);
 }
 
 -- an arrival at a state that already has its moment
 abbrev pub at_later : PieState → ℕ → PieState
 at_later s moment = record s { moment = max s.moment moment }
 
-pub kept-later : (s t : PieState) (a b : ArrivingPacket) (moment : ℕ) (h g : Held) → t ≡ at_later s moment → h ≡ held_in t → g ≡ arrived h a t.moment → a ≡ b
+pub kept-later : (s t : PieState) (a b : ArrivingPacket) (moment : ℕ) (h g : ControllerState) → t ≡ at_later s moment → h ≡ held_in t → g ≡ arrived h a t.moment → a ≡ b
     → with_arrival t g ≡ with_arrival s (arrived (held_in s) b moment)
 unfolding held_in accu_left verdict
 kept-later s t a b moment h g at held after same = grind (arith, nat_tests)
 
-pub moment-later : (t : PieState) (a : ArrivingPacket) (h g : Held) → h ≡ held_in t → g ≡ arrived h a t.moment → g.moment ≡ t.moment
+pub moment-later : (t : PieState) (a : ArrivingPacket) (h g : ControllerState) → h ≡ held_in t → g ≡ arrived h a t.moment → g.moment ≡ t.moment
 unfolding held_in
 moment-later t a h g held after = grind (arith, nat_tests)
 
-pub verdict-later : (s t : PieState) (a b : ArrivingPacket) (moment : ℕ) (h : Held) (v : Verdict) → t ≡ at_later s moment → h ≡ held_in t → v ≡ verdict h a
+pub verdict-later : (s t : PieState) (a b : ArrivingPacket) (moment : ℕ) (h : ControllerState) (v : Verdict) → t ≡ at_later s moment → h ≡ held_in t → v ≡ verdict h a
     → a ≡ b
     → v ≡ verdict (held_in s) b
 unfolding held_in verdict
 verdict-later s t a b moment h v at held is same = rw (is, held, same, at) refl
 
--- the position of its cause, which does not depend on the moment
-pub place-later : (s t : PieState) (a b : ArrivingPacket) (moment packets : ℕ) (h : Held) (place : ℕ) → t ≡ at_later s moment → h ≡ held_in t
-    → ((n : ℕ) → place ≡ place_of_cause (name_of (cause h a n))) → a ≡ b
-    → place ≡ place_of_cause (name_of (cause (held_in s) b packets))
+-- the name of its cause, which does not depend on the moment
+pub name-later : (s t : PieState) (a b : ArrivingPacket) (moment packets : ℕ) (h : ControllerState) (name : CauseName) → t ≡ at_later s moment → h ≡ held_in t
+    → ((n : ℕ) → name ≡ name_of (cause h a n)) → a ≡ b
+    → Some name ≡ Some (name_of (cause (held_in s) b packets))
 unfolding held_in cause
-place-later s t a b moment packets h place at held is same = is packets ∙ rw (held, same, at) refl
+name-later s t a b moment packets h name at held is same = ap Some (is packets ∙ rw (held, same, at) refl)
 
 -- ---- The state after the other calls
 
@@ -207,7 +207,7 @@ changes keeps looks s t params moment free is = let taken = change-taken s param
     makes keeps looks s t (Change params moment) (params_refusal s params moment) taken.0 (grind (arith, nat_tests))
     (λ _. (taken.2, params-from params taken.1))
 
-pub opened-state : (s : PieState) (o : PieOpening) (it : Opening) (raw : RawParams) (h : Held) → opening_of o ≡ Ok it → raw ≡ it.params
+pub opened-state : (s : PieState) (o : PieOpening) (it : Opening) (raw : RawParams) (h : ControllerState) → opening_of o ≡ Ok it → raw ≡ it.params
     → h ≡ opened it.choices.profile it.choices.elements raw it.moment
     → with_registers (record s { params = o.params; profile = o.profile; choices = o.choices }) h ≡ state_of (held_by_opening o)
 unfolding opening_refusal state_of

@@ -1,12 +1,12 @@
 -- A state contains a controller's state, and is sound if that is.
 use Rattle.pie_c.specs.{Begun, count_of, flag, flag_of, start_of}
 use Rattle.pie_c.proofs.Names.{RawParams, ◌≡◌, ◌<◌, ◌^◌, ◌≤◌, ◌==◌, if◌then◌else◌, ℕ, suc, Bool, true, None, arith, refl, ap, nat_tests}
-use Rattle.pie_c.proofs.Names.{first_bad, One, Held, IsSound, PieState, are_in_range, held_in, is_activity_sound, is_rate_sound}
+use Rattle.pie_c.proofs.Names.{first_bad, One, ControllerState, IsSound, PieState, are_in_range, held_in, is_activity_sound, is_rate_sound}
 use Rattle.pie_c.proofs.Names.{is_sound, profile_number, profile_of, Stamp, state_of, choices_of, elements_of, usual}
 use Rattle.std.proofs.Common.{Option, is_none, zero}
 use Rattle.pie_event.specs.declared.profile.Profile.{Profile}
 use Rattle.pie_params.specs.declared.elements.Elements.{Elements}
-use Rattle.pie_aqm.specs.Held.{IsWithin}
+use Rattle.pie_aqm.specs.ControllerState.{IsWithin}
 
 -- ---- The optional elements of flags
 
@@ -31,7 +31,7 @@ nearly_usual (suc (suc n)) h = absurd (omega (arith, h))
 
 -- ---- The controller's state of the state of a controller is the same
 
-pub held-state : (h : Held) → held_in (state_of h) ≡ h
+pub held-state : (h : ControllerState) → held_in (state_of h) ≡ h
 unfolding held_in state_of
 held-state h = let back = elements-back h.elements in grind (arith, nat_tests)
 
@@ -84,7 +84,7 @@ activity-to : (profile : Profile) (active : Bool) (s : PieState) → s.profile �
 unfolding is_activity_sound
 activity-to profile active s p a always = grind (arith, nat_tests)
 
-pub state-sound : (h : Held) → IsSound h → is_sound (state_of h) ≡ true
+pub state-sound : (h : ControllerState) → IsSound h → is_sound (state_of h) ≡ true
 unfolding state_of is_sound
 state-sound h sound =
     let params : are_in_range h.params ≡ true = params-to h.params sound.params in
@@ -103,7 +103,7 @@ state-held s sound =
     let back = choices-back s.choices (fits s sound).2 in
     grind (arith, nat_tests)
 
-pub kept_updated : (s : PieState) (h : Held) → is_sound s ≡ true
+pub kept_updated : (s : PieState) (h : ControllerState) → is_sound s ≡ true
     → h ≡ record (held_in s) { moment = h.moment; active = h.active; control = h.control }
     → record s {
       moment = h.moment;

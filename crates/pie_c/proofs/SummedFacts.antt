@@ -1,23 +1,23 @@
 -- Facts about the events that the summing calls add to an interval's sums.
 use Rattle.std.specs.Prelude.{Option}
-use Rattle.pie_c.specs.{Cause, answer_of, Clock, Explained, LivePeriod, Conditions, Holds, IsSet, HasConditions, clock_of, meter_input_of, updated_by, Adds, ExplainsCall}
+use Rattle.pie_c.specs.{Cause, answer_of, Clock, Explained, LiveInterval, Conditions, Holds, IsSet, HasConditions, clock_of, meter_input_of, updated_by, Adds, ExplainsCall}
 use Rattle.pie_c.specs.{conditions_of, cause_after, held_after, wait_of, deed_of, Setter, explanation, moment_of, with_after}
 use Rattle.pie_c.proofs.Names.{◌≡◌, ◌≤◌, min, ◌==◌, arith, ℕ, Bool, true, false, nat_le, List, [], ◌∷◌, ◌++◌, refl, sym, ap, subst, nat_tests}
 use Rattle.pie_c.proofs.Names.{Event, Verdict, verdict_number, PieState, arrival_refusal, if_taken, moment_refusal, unless_refused, update_refusal}
-use Rattle.pie_c.proofs.Names.{held_in, with_departure, Held, waiting_after, Opening}
+use Rattle.pie_c.proofs.Names.{held_in, with_departure, ControllerState, waiting_after, Opening}
 use Rattle.pie_summary.specs.declared.meter_input.MeterInput.{MeterInput}
 use Rattle.pie_summary.specs.Sums.{answer_place, size_by, size_in}
 use Rattle.std.specs.Bool.{Decides}
 use Rattle.pie_book.specs.Registers.{registers_after}
 
 -- a departure does not change its conditions
-pub unmoved : (before after : PieState) (refusal : ℕ) (held : Held) → after ≡ if_taken refusal before (with_departure before held)
+pub unmoved : (before after : PieState) (refusal : ℕ) (held : ControllerState) → after ≡ if_taken refusal before (with_departure before held)
     → conditions_of (after.active == 1) after.params.target after.last after ≡ conditions_of (before.active == 1) before.params.target before.last after
 unmoved before after refusal held is = grind (arith, nat_tests)
 
 -- a call adds its event as `Adds` states, if its flag is true exactly without a refusal, and the event is recorded as
 -- `noted` if the fields for its kind are
-pub adds_call : (refusal : ℕ) (before after : LivePeriod) (s t : PieState) (made : Event) (decided : Option Cause) (wait : ℕ) (taken : Bool)
+pub adds_call : (refusal : ℕ) (before after : LiveInterval) (s t : PieState) (made : Event) (decided : Option Cause) (wait : ℕ) (taken : Bool)
     (met : Conditions) (noted : MeterInput) → IsSet before after → (taken ≡ false → after ≡ before)
     → ((all : List Explained) (one : Explained) → taken ≡ true → noted ≡ meter_input_of one → one.explanation.clock ≡ clock_of before
     → Holds before all → Holds after (all ++ one ∷ []))
@@ -81,12 +81,12 @@ explained opening history made before after number set_by day held left moment =
   clock = refl;
   meets = λ i. record {
     moment = sym moment i;
-    was = ap (λ (h : Held). h.active) (sym held) i;
-    is = ap (λ (h : Held). h.active) (sym left) i;
-    held = ap (λ (h : Held). h.params.target) (sym held) i;
-    last = ap (λ (h : Held). h.control.last) (sym held) i;
-    prob = ap (λ (h : Held). h.control.prob) (sym left) i;
-    burst = ap (λ (h : Held). h.control.burst) (sym left) i;
-    target = ap (λ (h : Held). h.params.target) (sym left) i;
+    was_active = ap (λ (h : ControllerState). h.active) (sym held) i;
+    is_active = ap (λ (h : ControllerState). h.active) (sym left) i;
+    old_target = ap (λ (h : ControllerState). h.params.target) (sym held) i;
+    last_update = ap (λ (h : ControllerState). h.control.last) (sym held) i;
+    prob = ap (λ (h : ControllerState). h.control.prob) (sym left) i;
+    burst = ap (λ (h : ControllerState). h.control.burst) (sym left) i;
+    target = ap (λ (h : ControllerState). h.params.target) (sym left) i;
   };
 }

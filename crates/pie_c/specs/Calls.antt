@@ -1,6 +1,6 @@
 -- Refusals and return values of the calls. The state after a call is the controller's state after its step.
 use Rattle.std.specs.Prelude.{ℕ, ◌≡◌, ◌≤◌, ◌^◌, ◌==◌, ◌&&◌, true, max, nat_lt, not, List, [], ◌∷◌, ◌++◌, if◌then◌else◌}
-use Rattle.pie_c.specs.Names.{Arrive, Call, Depart, IsTaken, Pass, after_call, event_of_call, ControllerEvent, Opened, Held, IsSound, Represents, arrived}
+use Rattle.pie_c.specs.Names.{Arrive, Call, Depart, IsTaken, Advance, after_call, event_of_call, ControllerEvent, Opened, ControllerState, IsSound, Represents, arrived}
 use Rattle.pie_c.specs.Names.{capped, delay_answered, departed, due, is_too_soon, updated, verdict, RawParams, ecn_at, is_bad_size, verdict_number}
 use Rattle.pie_c.specs.Names.{PieState, PieUpdated, last_moment, are_in_range}
 use Rattle.pie_aqm.specs.declared.verdict.ArrivingPacket.{ArrivingPacket}
@@ -10,11 +10,11 @@ use Rattle.pie_c.specs.State.{held_in, is_sound, state_of, takes_stamps, with_ar
 
 -- a sound state stays sound
 abbrev pub KeepsSound : Type 0
-KeepsSound = (held : Held) → IsSound held → (call : Call) → IsTaken call → IsSound (after_call held call)
+KeepsSound = (held : ControllerState) → IsSound held → (call : Call) → IsTaken call → IsSound (after_call held call)
 
 -- the state represents the call
 abbrev pub LooksBack : Type 0
-LooksBack = (opened : Opened) (events : List ControllerEvent) (held : Held) → Represents opened events held → held.params.dq_threshold ≤ 65536
+LooksBack = (opened : Opened) (events : List ControllerEvent) (held : ControllerState) → Represents opened events held → held.params.dq_threshold ≤ 65536
     → (call : Call) → Represents opened (events ++ event_of_call held call ∷ []) (after_call held call)
 
 -- ---- Return value and state of a call
@@ -99,8 +99,8 @@ unfoldable pub moment_refusal : ℕ → ℕ
 moment_refusal moment = if nat_lt last_moment moment then 101 else 0
 
 -- the state after such a departure: only the moment counts
-abbrev pub Passes : PieState → ℕ → PieState → Type 0
-Passes before moment after = Steps before (Pass moment) (moment_refusal moment) (record before { moment = max before.moment moment }) after
+abbrev pub Advances : PieState → ℕ → PieState → Type 0
+Advances before moment after = Steps before (Advance moment) (moment_refusal moment) (record before { moment = max before.moment moment }) after
 
 -- the code of the refusal of a state; 0 if it is sound
 abbrev pub state_refusal : PieState → ℕ
@@ -120,7 +120,7 @@ update_refusal state queued moment =
     else 0
 
 -- the result of an update with this code and this delay, from the state after it
-abbrev pub updated_with : ℕ → ℕ → Held → PieUpdated
+abbrev pub updated_with : ℕ → ℕ → ControllerState → PieUpdated
 updated_with code delay held = record {
   code = code;
   due = due held;

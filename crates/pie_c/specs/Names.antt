@@ -13,9 +13,9 @@ pub use Rattle.pie_abi.specs.declared.event.PieEvent.{PieEvent}
 pub use Rattle.pie_abi.specs.declared.opening.PieOpening.{PieOpening}
 pub use Rattle.pie_params.specs.declared.raw.RawParams.{RawParams}
 pub use Rattle.pie_abi.specs.declared.stats.PieStats.{PieStats}
-pub use Rattle.pie_aqm.specs.Calls.{Arrive, Call, Change, Depart, IsTaken, Pass, Restart, after_call, event_of_call}
+pub use Rattle.pie_aqm.specs.Calls.{Arrive, Call, Change, Depart, IsTaken, Advance, Restart, after_call, event_of_call}
 pub use Rattle.pie_aqm.specs.Events.{ControllerEvent, Opened}
-pub use Rattle.pie_aqm.specs.Held.{Held, IsSound}
+pub use Rattle.pie_aqm.specs.ControllerState.{ControllerState, IsSound}
 unfoldable pub use Rattle.pie_aqm.specs.History.{Represents}
 pub use Rattle.pie_aqm.specs.Steps.{arrived, capped, delay_answered, departed, due, is_too_soon, opened, updated}
 unfoldable pub use Rattle.pie_aqm.specs.Steps.{cause, verdict}
@@ -49,6 +49,6 @@ unfoldable pub use Rattle.pie_record.specs.Text.{rows_text}
 pub use Rattle.pie_record.specs.Write.{event_row, written_rows}
 unfoldable pub use Rattle.pie_record.specs.Write.{opening_row}
 pub use Rattle.pie_record.specs.declared.clock.Clock.{Clock}
-pub use Rattle.pie_summary.specs.LivePeriod.{Holds, IsSet, HasConditions, clock_of, form_in, length_of, meter_input_of}
-pub use Rattle.pie_summary.specs.declared.live_period.LivePeriod.{LivePeriod}
+pub use Rattle.pie_summary.specs.LiveInterval.{Holds, IsSet, HasConditions, clock_of, form_in, length_of, meter_input_of}
+pub use Rattle.pie_summary.specs.declared.live_interval.LiveInterval.{LiveInterval}
 pub use Rattle.pie_summary.specs.declared.meter_input.Conditions.{Conditions}

@@ -1,6 +1,6 @@
 -- The controller of a state, the soundness of states, and the state of an opening.
 use Rattle.std.specs.Prelude.{ℕ, ◌^◌, ◌%◌, Bool, not, ◌&&◌, ◌==◌, nat_lt, nat_le, Option, Some, None, if◌then◌else◌}
-use Rattle.pie_c.specs.Names.{Begun, Held, choices_of, elements_of, last_moment, profile_number, profile_of, are_in_range}
+use Rattle.pie_c.specs.Names.{Begun, ControllerState, choices_of, elements_of, last_moment, profile_number, profile_of, are_in_range}
 use Rattle.pie_c.specs.Names.{PieState, profile_for, Opened, opened, PieOpening}
 use Rattle.pie_rate.specs.declared.raw.RawCycle.{RawCycle}
 use Rattle.pie_aqm.specs.declared.raw.RawController.{RawController}
@@ -40,11 +40,11 @@ controller_in s = record {
   accu = s.accu;
 }
 
-unfoldable pub held_in : PieState → Held
+unfoldable pub held_in : PieState → ControllerState
 held_in s = controller_in s
 
 -- the state that contains a controller's state
-unfoldable pub state_of : Held → PieState
+unfoldable pub state_of : ControllerState → PieState
 state_of h = record {
   params = h.params;
   moment = h.moment;
@@ -64,7 +64,7 @@ state_of h = record {
 }
 
 -- the state with this moment and this estimate of the departure rate; every other field is unchanged
-abbrev pub with_rate : PieState → Held → PieState
+abbrev pub with_rate : PieState → ControllerState → PieState
 with_rate s h = record s {
   moment = h.moment;
   average = h.rate.average;
@@ -78,12 +78,12 @@ with_rate s h = record s {
 abbrev pub takes_stamps : PieState → Bool
 takes_stamps s = s.choices % 2 == 1
 
-abbrev pub with_departure : PieState → Held → PieState
+abbrev pub with_departure : PieState → ControllerState → PieState
 with_departure s h = if takes_stamps s then record s { moment = h.moment; waited = h.waited } else with_rate s h
 
 -- the state with all numbers of the rules and the activity, that is, all but the parameters, the profile and the
 -- choices
-abbrev pub with_registers : PieState → Held → PieState
+abbrev pub with_registers : PieState → ControllerState → PieState
 with_registers s h = record (with_rate s h) {
   prob = h.control.prob;
   old_delay = h.control.old_delay;
@@ -96,7 +96,7 @@ with_registers s h = record (with_rate s h) {
 
 -- the state after an arrival: all numbers if it activated the controller, otherwise the moment and the accumulated
 -- probability
-abbrev pub with_arrival : PieState → Held → PieState
+abbrev pub with_arrival : PieState → ControllerState → PieState
 with_arrival s h =
     if h.active && not (s.active == 1) then with_registers s h else record s { moment = h.moment; accu = h.accu }
 
@@ -136,7 +136,7 @@ default_opening rate = record {
 }
 
 -- the state and the opening of a controller with this opening
-abbrev pub held_by_opening : PieOpening → Held
+abbrev pub held_by_opening : PieOpening → ControllerState
 held_by_opening o = opened (profile_of o.profile) (elements_of o.choices) o.params o.moment
 
 abbrev pub opened_by : PieOpening → Opened

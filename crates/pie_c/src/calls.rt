@@ -1,13 +1,13 @@
 //! Calls on a state. Calls for a packet accept any state, sound or not, because their rules are total. The other calls
 //! refuse an unsound state. Each call refuses arguments out of range, executes the step of the controller, and writes
 //! the changed numbers back.
-ghost use Rattle.std.specs.Prelude.{◌≡◌, ◌<◌, ◌+◌, ◌-◌, ◌^◌, ◌≤◌, ℕ, if◌then◌else◌, min, true};
+ghost use Rattle.std.specs.Prelude.{◌≡◌, ◌<◌, ◌+◌, ◌-◌, ◌^◌, ◌≤◌, ℕ, if◌then◌else◌, min, true, Some};
 ghost use Rattle.pie_c.specs.{Change, Depart, Restart, arrived, capped, cause, departed, verdict, elements_of, held_in, is_sound};
-ghost use Rattle.pie_c.specs.{takes_stamps, with_departure, with_rate, KeepsSound, LooksBack, Arrives, Departs, Makes, Passes, Steps, Takes};
+ghost use Rattle.pie_c.specs.{takes_stamps, with_departure, with_rate, KeepsSound, LooksBack, Arrives, Departs, Makes, Advances, Steps, Takes};
 ghost use Rattle.pie_c.specs.{arrival_of, arrival_refusal, departure_refusal, moment_refusal, params_refusal, reset_refusal, state_refusal};
 ghost use Rattle.pie_c.specs.{update_refusal, updated_by, waited_refusal};
 ghost use Rattle.pie_aqm.specs.Calls.{Update};
-ghost use Rattle.pie_event.specs.CauseName.{name_of, place_of_cause};
+ghost use Rattle.pie_event.specs.CauseName.{name_of};
 
 use crate::checked::{is_sound, raw, raw_with, takes_stamps, usual_but_delay};
 use crate::state::{PieState, PieUpdated};
@@ -18,7 +18,7 @@ use pie_abi::code::{
 };
 use pie_abi::packet::{ecn, is_bad_size};
 use pie_abi::params::are_in_range;
-use pie_aqm::{ArrivingPacket, calls_keep_it_sound, calls_look_back};
+use pie_aqm::{ArrivingPacket, CauseName, calls_keep_it_sound, calls_look_back};
 use pie_fixed::MAX_NANOS;
 use pie_params::{Elements, RawParams};
 
@@ -65,7 +65,7 @@ pub extern "C" fn pie_arrive(
     }
 }
 
-/// Decides on an arriving packet and also returns the position of the cause. It is inlined: if the caller has tested
+/// Decides on an arriving packet and also returns the name of the cause, unless the call is refused. It is inlined: if the caller has tested
 /// that the controller is active and the ring has room, the code for activation and for a full ring is removed. The
 /// moment is written first, so that it occupies no processor register from then on.
 #[inline(always)]
@@ -79,23 +79,23 @@ pub(crate) fn arrive(
     bits: u32,
     word: u64,
     moment: u64,
-) -> (u32, usize)
+) -> (u32, Option<CauseName>)
     requires { elements ≡ elements_of state.old.choices }
     ensures arrives { Arrives state.old (arrival_of queued size room bits word) (arrival_refusal queued size bits moment) moment result.0 state.new }
-    ensures place { result.0 ≤ 4 → (packets : ℕ)
-        → result.1 ≡ place_of_cause (name_of (cause (held_in state.old) (arrival_of queued size room bits word) packets)) }
+    ensures name { result.0 ≤ 4 → (packets : ℕ)
+        → result.1 ≡ Some (name_of (cause (held_in state.old) (arrival_of queued size room bits word) packets)) }
 {
     if moment > MAX_NANOS {
-        return (BAD_MOMENT, 0);
+        return (BAD_MOMENT, None);
     }
     if is_bad_size(size) {
-        return (BAD_SIZE, 0);
+        return (BAD_SIZE, None);
     }
     let Some(ecn) = ecn(bits) else {
-        return (BAD_ECN, 0);
+        return (BAD_ECN, None);
     };
     if queued > MAX_QUEUED {
-        return (BAD_QUEUE, 0);
+        return (BAD_QUEUE, None);
     }
     let arrival = ArrivingPacket {
         queued,
@@ -106,10 +106,10 @@ pub(crate) fn arrive(
     };
     state.reach(moment);
     let mut held = raw_with(state, elements);
-    let (verdict, place) = held.arrive_with_place(arrival, state.moment);
+    let (verdict, name) = held.arrive_with_name(arrival, state.moment);
     state.keep_arrived(&held);
     laws();
-    (of_verdict(verdict), place)
+    (of_verdict(verdict), Some(name))
 }
 
 /// Decides on an arriving packet in a function that is not inlined, so that the processor registers for activation cost
@@ -272,7 +272,7 @@ fn depart_stamped(state: &mut PieState, size: u32, left: u64, arrived: u64, mome
 #[unsafe(no_mangle)]
 pub extern "C" fn pie_empty(state: &mut PieState, moment: u64) -> u32
     ensures answer { result ≡ moment_refusal moment }
-    ensures steps { Passes state.old moment state.new }
+    ensures steps { Advances state.old moment state.new }
 {
     if moment > MAX_NANOS {
         return BAD_MOMENT;

@@ -1,13 +1,13 @@
 //! The intervals of a running summary: their opening, the wall-clock time, and their records.
 ghost use Rattle.std.specs.Prelude.{◌≡◌, ◌==◌, [], List, if◌then◌else◌};
-ghost use Rattle.pie_c.specs.{moment_refusal, after_writing, count_written, every_refusal, Explained, LivePeriod, Holds, form_in, length_of};
-ghost use Rattle.pie_summary.specs.Period.{at_last};
+ghost use Rattle.pie_c.specs.{moment_refusal, after_writing, count_written, every_refusal, Explained, LiveInterval, Holds, form_in, length_of};
+ghost use Rattle.pie_summary.specs.Interval.{at_last};
 ghost use Rattle.pie_summary.specs.Summary.{header, summary_text_of};
 
 use pie_abi::code::{BAD_MOMENT, DONE};
 use pie_abi::write_text;
 use pie_fixed::MAX_NANOS;
-use pie_summary::LivePeriod;
+use pie_summary::LiveInterval;
 use pie_text::LongRow;
 
 /// Refused: a length of intervals out of its range.
@@ -16,7 +16,7 @@ pub const BAD_EVERY: u32 = 128;
 /// Opens `period` for intervals of `every` nanoseconds, 1 to 2^60 - 1. If `wall` is not 0, their records end with the
 /// wall-clock time.
 #[unsafe(no_mangle)]
-pub extern "C" fn pie_open_period(period: &mut LivePeriod, every: u64, wall: u32) -> u32
+pub extern "C" fn pie_open_period(period: &mut LiveInterval, every: u64, wall: u32) -> u32
     ensures code { result ≡ every_refusal every }
     ensures refused { (every_refusal every ≡ 0 → ⊥) → period.new ≡ period.old }
     ensures every { every_refusal every ≡ 0 → period.new.every ≡ every }
@@ -27,7 +27,7 @@ pub extern "C" fn pie_open_period(period: &mut LivePeriod, every: u64, wall: u32
     if every == 0 || every > MAX_NANOS {
         return BAD_EVERY;
     }
-    *period = LivePeriod::open(every, wall != 0);
+    *period = LiveInterval::open(every, wall != 0);
     DONE
 }
 
@@ -35,7 +35,7 @@ pub extern "C" fn pie_open_period(period: &mut LivePeriod, every: u64, wall: u32
 /// clock.
 #[unsafe(no_mangle)]
 #[tactic(auto, unfolding(crate::specs::Calls::moment_refusal))]
-pub extern "C" fn pie_period_clock(period: &mut LivePeriod, moment: u64, unix: u64) -> u32
+pub extern "C" fn pie_period_clock(period: &mut LiveInterval, moment: u64, unix: u64) -> u32
     ensures code { result ≡ moment_refusal moment }
     ensures clock { period.new ≡ (if moment_refusal moment == 0
         then record period.old { told = 1; clock_moment = moment; clock_unix = unix } else period.old) }
@@ -53,7 +53,7 @@ pub extern "C" fn pie_period_clock(period: &mut LivePeriod, moment: u64, unix: u
 /// Writes the record of the current interval, as `pie explain --every --csv` writes it, with `--wall` if `period` was
 /// opened so. Before the first event there is no record: returns 0, and `out` is unchanged.
 #[unsafe(no_mangle)]
-pub extern "C" fn pie_write_period(period: &LivePeriod, out: &mut [u8]) -> usize
+pub extern "C" fn pie_write_period(period: &LiveInterval, out: &mut [u8]) -> usize
     ensures count { (all : List Explained) → Holds period.now all
         → result ≡ count_written (at_last (length_of period.now) (summary_text_of (form_in period.now)) all) out.old }
     ensures bytes { (all : List Explained) → Holds period.now all
@@ -66,7 +66,7 @@ pub extern "C" fn pie_write_period(period: &LivePeriod, out: &mut [u8]) -> usize
 
 /// Writes the header row of the records.
 #[unsafe(no_mangle)]
-pub extern "C" fn pie_write_period_header(period: &LivePeriod, out: &mut [u8]) -> usize
+pub extern "C" fn pie_write_period_header(period: &LiveInterval, out: &mut [u8]) -> usize
     ensures count { result ≡ count_written (header (form_in period.now)) out.old }
     ensures bytes { out.new ≡ after_writing (header (form_in period.now)) out.old }
 {

@@ -54,8 +54,8 @@ pub last-counted : (many number : ℕ) (known : Option (List ℕ)) (end : End) (
     → IfSome known (λ text. LastEither (records_of text) (Ok number)) → EndsBy end_of_cut (CutsEither (last_of number many)) known end before now
     → EndsBy end_of_cut (CutsLast many) known end before now
 last-counted many number known end before now counts (inl unable) = inl unable
-last-counted many number known end before now counts (inr (given, is, cuts)) =
-    inr (given, is, IfSome_then known (if-all known _ _ _ counts cuts cuts) (λ text both. (Ok number, both.0, both.1)))
+last-counted many number known end before now counts (inr (outcome, is, cuts)) =
+    inr (outcome, is, IfSome_then known (if-all known _ _ _ counts cuts cuts) (λ text both. (Ok number, both.0, both.1)))
 
 -- ---- a storm of the requested plan
 

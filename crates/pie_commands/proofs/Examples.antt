@@ -1,6 +1,6 @@
 -- Worked examples: the subcommand of a command line, the values of its options, the choice of events, and an audit of files.
 use Rattle.pie_commands.proofs.Names.{◌≡◌, [], ◌∷◌, None, Some, codes, refl, true, Text, clap_on_literals, Asks, file_in, files_in, is_joined}
-use Rattle.pie_commands.proofs.Names.{number_or, options_in, output_in, List, Selection, choice_of, Part, Last, Every, Once, around, between}
+use Rattle.pie_commands.proofs.Names.{number_or, options_in, output_in, List, Selection, selection_of, Part, Last, Every, Once, around, between}
 use Rattle.pie_commands.proofs.Names.{cut_request_of, Ok, Err, false, Joined, is_broken, lines_of}
 use Rattle.pie_explain.specs.declared.choice.EventChoice.{EventChoice}
 use Rattle.pie_explain.specs.declared.choice.EventChoice.TheVariants.{Number, Lost, All}
@@ -64,19 +64,19 @@ storm name = (refl, refl)
 abbrev at_all_moments : EventChoice → Selection
 at_all_moments which = record { which = which; from = None; to = None }
 
-chosen : (name : Text) → let chooses = λ (words : List Text). choice_of (options_in (name ∷ codes "explain" ∷ words)) in
+chosen : (name : Text) → let chooses = λ (words : List Text). selection_of (options_in (name ∷ codes "explain" ∷ words)) in
     (chooses (codes "--csv" ∷ codes "--event" ∷ codes "10" ∷ []) ≡ Some (at_all_moments (Number 10)))
     × (chooses (codes "--all" ∷ codes "--from" ∷ codes "1.5ms" ∷ codes "--to=2s" ∷ [])
     ≡ Some (record { which = All; from = Some (Moment 1_500_000); to = Some (Moment 2_000_000_000) }))
     × (chooses (codes "--wall" ∷ codes "--summary" ∷ []) ≡ Some (at_all_moments All))
     × (chooses (codes "--all" ∷ codes "--from" ∷ codes "soon" ∷ []) ≡ None)
     × (chooses (codes "--tag=7" ∷ codes "--all" ∷ []) ≡ None)
-unfolding clap_on_literals choice_of digit_count number_after is_word time_scale
+unfolding clap_on_literals selection_of digit_count number_after is_word time_scale
 chosen name = (refl, refl, refl, refl, refl)
 
-from_day-chosen : (name : Text) → choice_of (options_in (name ∷ codes "explain" ∷ codes "--lost" ∷ codes "--wall"
+from_day-chosen : (name : Text) → selection_of (options_in (name ∷ codes "explain" ∷ codes "--lost" ∷ codes "--wall"
     ∷ codes "--from=2026-11-24T20:00:00Z" ∷ [])) ≡ Some (record { which = Lost; from = Some (Unix 1795550400000000000); to = None })
-unfolding clap_on_literals choice_of digit_count number_after utc_in utc_with unix_of seconds_part date_part has_marks nanos_in day_number
+unfolding clap_on_literals selection_of digit_count number_after utc_in utc_with unix_of seconds_part date_part has_marks nanos_in day_number
 from_day-chosen name = refl
 
 cut : (name : Text) → let cuts = λ (words : List Text). cut_request_of (options_in (name ∷ codes "cut" ∷ words)) in

@@ -3,6 +3,6 @@ mod EndFacts
 mod Examples
 mod FileAuditFacts
 mod FileFacts
-mod GivenFacts
+mod ValueFacts
 mod SubcommandFacts
 mod WordFacts

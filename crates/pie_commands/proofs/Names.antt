@@ -14,7 +14,7 @@ pub use Rattle.clap.specs.Words.{App, HasMatchesOf, Text, app_of, found_of, kind
 pub use Rattle.clap.specs.Words.{AddsSubcommand, Row, is_simple, new_app, with_rule, with_subcommand}
 pub use Rattle.pie_audit.specs.Text.{FindsEither}
 pub use Rattle.pie_commands.specs.Explanations.{output_kind_of, output_text, units_of, end_of_explain, explain_ends}
-unfoldable pub use Rattle.pie_commands.specs.Explanations.{choice_of}
+unfoldable pub use Rattle.pie_commands.specs.Explanations.{selection_of}
 pub use Rattle.pie_commands.specs.CutEnds.{CutsInto, CutsLast, around, between, cut_ends, end_of_cut, is_named, last_of}
 unfoldable pub use Rattle.pie_commands.specs.CutEnds.{cut_request_of}
 pub use Rattle.pie_commands.specs.Ends.{EndsBy, Migrates, end_of, status_of}

@@ -118,7 +118,7 @@ finds-so app words (Err why) is matched passes = subst (λ (a : App). takes a wo
 pub answers-performed : (words : List Text) (matches : ArgMatches) (subcommand : Subcommand) (rows : List Row) (works : Bool) (input fresh : Option (List ℕ))
     (old new : Held) (end : End) (before now : Option (List ℕ)) → HasMatchesOf pie_app words matches
     → Some (word_of subcommand) ≡ subcommand_name_of matches
-    → Some rows ≡ option_map (λ (given : Text × List Row). given.1) (subcommand_rows_of matches)
+    → Some rows ≡ option_map (λ (found : Text × List Row). found.1) (subcommand_rows_of matches)
     → EndsTo subcommand rows works input fresh old new end before now → Answers words works input fresh old new end before now
 answers-performed words matches subcommand rows works input fresh old new end before now matched name given promise =
     let found : subcommand_in words ≡ Some (word_of subcommand) = sym (name ∙ name-found words matches matched) in

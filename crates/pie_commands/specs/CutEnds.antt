@@ -81,16 +81,16 @@ end_of_cut (Err fault.NoEvents) = Failed
 
 -- a cut into pieces of either kind
 abbrev pub CutsInto : Pieces → List Fields → Result ℕ CutFault → Option (List ℕ) → Option (List ℕ) → Type 0
-CutsInto (Part span) rows given before now = CutsEither span rows given before now
-CutsInto (Every every) rows given before now = HasTextResult every_answer (IsInSegments every) (is_resumed rows) rows given before now
+CutsInto (Part span) rows outcome before now = CutsEither span rows outcome before now
+CutsInto (Every every) rows outcome before now = HasTextResult every_answer (IsInSegments every) (is_resumed rows) rows outcome before now
 
 -- a cut of the last `many` events, after a first pass found the number of the last event or a fault
 abbrev pub CutsUpTo : ℕ → Result ℕ TraceFault → List Fields → Result ℕ CutFault → Option (List ℕ) → Option (List ℕ) → Type 0
-CutsUpTo many (Ok last) rows given before now = CutsEither (last_of last many) rows given before now
-CutsUpTo many (Err why) rows given before now = (given ≡ Err (fault.Trace why)) × (now ≡ before)
+CutsUpTo many (Ok last) rows outcome before now = CutsEither (last_of last many) rows outcome before now
+CutsUpTo many (Err why) rows outcome before now = (outcome ≡ Err (fault.Trace why)) × (now ≡ before)
 
 abbrev pub CutsLast : ℕ → List Fields → Result ℕ CutFault → Option (List ℕ) → Option (List ℕ) → Type 0
-CutsLast many rows given before now = (last : Result ℕ TraceFault) × LastEither rows last × CutsUpTo many last rows given before now
+CutsLast many rows outcome before now = (last : Result ℕ TraceFault) × LastEither rows last × CutsUpTo many last rows outcome before now
 
 -- true if the file has a name, other than `-`, so that it can be read twice
 abbrev pub is_named : Option Text → Bool

@@ -46,7 +46,7 @@ WritesNothing end before now = ((end ≡ CannotStart) ⊎ (end ≡ Failed)) × (
 abbrev pub EndsBy : {A : Type 0} → (A → End) → (List Row → A → Option (List ℕ) → Option (List ℕ) → Type 0) → Option (List ℕ) → End → Option (List ℕ)
     → Option (List ℕ) → Type 0
 EndsBy {A} end_for has_result known end before now = ((end ≡ CannotStart) × (now ≡ before))
-    ⊎ ((given : A) × (end ≡ end_for given) × IfSome known (λ text. has_result (records_of text) given before now))
+    ⊎ ((outcome : A) × (end ≡ end_for outcome) × IfSome known (λ text. has_result (records_of text) outcome before now))
 
 -- ---- `pie run`
 
@@ -89,9 +89,9 @@ EndsAudit known end before now = ((end ≡ CannotStart) × (now ≡ before))
 -- the result of a migration of these records: the number of events if there is no fault, otherwise the first fault.
 -- The records before the fault are written in version two
 abbrev pub Migrates : List Row → Result ℕ TraceFault → Option (List ℕ) → Option (List ℕ) → Type 0
-Migrates rows given before now = IfOk given (λ events. (history_fault (2 ^ 32) rows ≡ None) × (events ≡ history_events (2 ^ 32) rows))
-    × IfErr given (λ why. is_device why ≡ false → history_fault (2 ^ 32) rows ≡ Some why)
-    × (NoDeviceFailed given → Appends before now (migrated_text (2 ^ 32) rows))
+Migrates rows outcome before now = IfOk outcome (λ events. (history_fault (2 ^ 32) rows ≡ None) × (events ≡ history_events (2 ^ 32) rows))
+    × IfErr outcome (λ why. is_device why ≡ false → history_fault (2 ^ 32) rows ≡ Some why)
+    × (NoDeviceFailed outcome → Appends before now (migrated_text (2 ^ 32) rows))
 
 abbrev pub EndsMigrate : Option (List ℕ) → End → Option (List ℕ) → Option (List ℕ) → Type 0
 EndsMigrate = EndsBy end_of Migrates

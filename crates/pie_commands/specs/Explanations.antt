@@ -18,7 +18,7 @@ use Rattle.pie_units.specs.declared.when.When.{When}
 use Rattle.pie_units.specs.declared.when.WhenFault.{WhenFault}
 use Rattle.pie_explain.specs.Output.{as_records, in_words, pages}
 use Rattle.pie_summary.specs.ByFlow.{flows_whole}
-use Rattle.pie_summary.specs.Summary.{alone, summary_of}
+use Rattle.pie_summary.specs.Summary.{without_packets, summary_of}
 use Rattle.pie_commands.specs.declared.explain.OutputKind.{OutputKind}
 use Rattle.pie_commands.specs.declared.explain.OutputKind.TheVariants.{Digest, Flows, Records, Sums, Words}
 use Rattle.pie_explain.specs.declared.fault.ExplainFault.{ExplainFault}
@@ -100,15 +100,15 @@ in_order _ _ = true
 
 -- the selection of these events between these bounds, if the bounds and the length of an interval are valid, the length is above 0, and `allowed` is
 -- true
-abbrev pub choice_at : Option EventChoice → Option (Option When) → Option (Option When) → Option (Option ℕ) → Bool → Option Selection
-choice_at (Some which) (Some from) (Some to) (Some every) allowed =
+abbrev pub selection_at : Option EventChoice → Option (Option When) → Option (Option When) → Option (Option ℕ) → Bool → Option Selection
+selection_at (Some which) (Some from) (Some to) (Some every) allowed =
     if lasts every && (allowed && in_order from to) then Some (record { which = which; from = from; to = to }) else None
-choice_at _ _ _ _ allowed = None
+selection_at _ _ _ _ allowed = None
 
 -- the selection of these options; none if they are not valid together
-unfoldable pub choice_of : List Row → Option Selection
-choice_of options =
-    choice_at (chosen_events options) (result_ok (bound_given (codes "from") options)) (result_ok (bound_given (codes "to") options))
+unfoldable pub selection_of : List Row → Option Selection
+selection_of options =
+    selection_at (chosen_events options) (result_ok (bound_given (codes "from") options)) (result_ok (bound_given (codes "to") options))
     (result_ok (moment_given (codes "every") options)) (is_either (is_digest options) (flows_of options))
 
 -- the form: CSV or words, with wall-clock times or without
@@ -134,7 +134,7 @@ output_kind_of options = output_kind_by (is_summary options) (is_digest options)
 abbrev pub output_text : OutputKind → List Explained → List ℕ
 output_text (Records records) = pages (as_records records.by_wall)
 output_text (Words words) = pages (in_words words.by_wall)
-output_text (Sums sums) = summary_of (alone sums)
+output_text (Sums sums) = summary_of (without_packets sums)
 output_text (Digest summaries) = summary_of summaries
 output_text (Flows by_flow) = flows_whole by_flow
 
@@ -152,8 +152,8 @@ end_of_explain (Err _) = Failed
 -- no event, the end is an error and nothing is written
 abbrev pub explain_ends : Option Selection → (List Explained → List ℕ) → Option (List ℕ) → End → Option (List ℕ) → Option (List ℕ) → Type 0
 explain_ends None text known = WritesNothing
-explain_ends (Some choice) text known = EndsBy end_of_explain (ExplainsEither choice text) known
+explain_ends (Some selection) text known = EndsBy end_of_explain (ExplainsEither selection text) known
 
 -- the end of an explanation with the selection and the kind of output of these options
 abbrev pub EndsExplain : List Row → Option (List ℕ) → End → Option (List ℕ) → Option (List ℕ) → Type 0
-EndsExplain options = explain_ends (choice_of options) (output_text (output_kind_of options))
+EndsExplain options = explain_ends (selection_of options) (output_text (output_kind_of options))

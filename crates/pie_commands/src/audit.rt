@@ -223,14 +223,14 @@ pub(crate) fn audit_files<H: NamedFiles + Clock, R: Read + Drop, W: Write, E: Wr
     ensures { EndsFiles H.works are_joined (R.remaining input) (H.holds rt.now) (map (λ name. name.now) names.now) result (W.contents output.old)
         (W.contents output.new) }
 {
-    let mut given = Some(input);
+    let mut stdin = Some(input);
     let mut end: Option<TextEnd> = None;
     let mut unfound = false;
     let mut broken = false;
     for place in 0..names.len() {
         let name = name_at(names, place);
         let outcome = match audit_named(
-            rt, alloc, is_shown, are_joined, name, &mut given, &mut end, output, errors,
+            rt, alloc, is_shown, are_joined, name, &mut stdin, &mut end, output, errors,
         ) {
             Ok(outcome) => outcome,
             Err(_) => {
@@ -262,9 +262,9 @@ fn audit_any<H: NamedFiles + Screen, R: Read + Drop, W: Write, E: Write>(
     let is_shown = shows_progress(rt, options, false);
     if names.is_empty() {
         // The type equals the type of a file's reader, so an audit is compiled once.
-        let given: Either<R, H::File> = Left(input);
+        let source: Either<R, H::File> = Left(input);
         let task = Task::Audit;
-        return run_task(rt, alloc, task, options, is_shown, given, output, errors);
+        return run_task(rt, alloc, task, options, is_shown, source, output, errors);
     }
     let are_joined = flag(options, "joined");
     audit_files(

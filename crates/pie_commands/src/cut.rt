@@ -106,10 +106,10 @@ fn cut_request_of<E: Write>(options: &ArgMatches<'_>, errors: &mut E) -> Option<
 }
 
 /// Returns the end of a cut with this result. Unless it is `Ok`, writes a line to `errors`.
-pub(crate) fn report_end<E: Write>(errors: &mut E, given: Result<u64, CutFault>) -> End
-    ensures { result ≡ end_of_cut given }
+pub(crate) fn report_end<E: Write>(errors: &mut E, outcome: Result<u64, CutFault>) -> End
+    ensures { result ≡ end_of_cut outcome }
 {
-    match given {
+    match outcome {
         Ok(_) => End::Done,
         Err(CutFault::Trace(why)) => end_with_fault(errors, why),
         Err(CutFault::Differs { event }) => {

@@ -83,10 +83,10 @@ impl End {
 }
 
 /// Returns the end of a run or a migration with this result, and writes the line of a fault to `errors`.
-pub(crate) fn report_end<T: Copy, E: Write>(errors: &mut E, given: Result<T, TraceFault>) -> End
-    ensures { result ≡ end_of given }
+pub(crate) fn report_end<T: Copy, E: Write>(errors: &mut E, outcome: Result<T, TraceFault>) -> End
+    ensures { result ≡ end_of outcome }
 {
-    match given {
+    match outcome {
         Ok(_) => End::Done,
         Err(why) => end_with_fault(errors, why),
     }

@@ -3,14 +3,14 @@ ghost use Rattle.std.specs.Prelude.{◌≡◌, IfSome};
 ghost use Rattle.clap.specs.Words.{found_of, rows_of};
 ghost use Rattle.pie_record.specs.Text.{records_of};
 ghost use Rattle.pie_explain.specs.Either.{ExplainsEither};
-ghost use Rattle.pie_commands.specs.Explanations.{choice_of, chosen_events, every_of, is_summary, output_kind_of, output_text, EndsExplain, end_of_explain};
+ghost use Rattle.pie_commands.specs.Explanations.{selection_of, chosen_events, every_of, is_summary, output_kind_of, output_text, EndsExplain, end_of_explain};
 
 use crate::end::{End, end_failed, end_with_fault, fault};
 use crate::options::{NO_ORDER, bound, flag, in_order, moment, number, parsed};
 use crate::progress::ProgressReader;
 use clap::ArgMatches;
 use pie_explain::{EventChoice, ExplainFault, Form, Records, Selection, Words};
-use pie_summary::{ByFlow, Summary, SumsAlone};
+use pie_summary::{ByFlow, Summaries, SummariesOnly};
 use std::alloc::Global;
 use std::io::{Read, Write};
 use std::time::Clock;
@@ -69,9 +69,9 @@ fn chosen_events(options: &ArgMatches<'_>) -> Option<EventChoice>
 
 /// Returns the selection of these options. If they are not valid together, writes a line to `errors` and returns
 /// `None`.
-#[tactic(auto, unfolding(crate::specs::Explanations::choice_of))]
-fn choice_of<E: Write>(options: &ArgMatches<'_>, errors: &mut E) -> Option<Selection>
-    ensures { result ≡ choice_of (rows_of (found_of options.now)) }
+#[tactic(auto, unfolding(crate::specs::Explanations::selection_of))]
+fn selection_of<E: Write>(options: &ArgMatches<'_>, errors: &mut E) -> Option<Selection>
+    ensures { result ≡ selection_of (rows_of (found_of options.now)) }
 {
     let Some(which) = chosen_events(options) else {
         fault(errors, NO_CHOICE);
@@ -102,9 +102,9 @@ pub(crate) enum OutputKind {
     /// Each event in words.
     Words(Words),
     /// Summaries, of all events or of each interval.
-    Sums(SumsAlone),
+    Sums(SummariesOnly),
     /// Summaries, and between them the words for lost and marked packets.
-    Digest(Summary),
+    Digest(Summaries),
     /// Sums by flow, with rows for a limited number of flows.
     Flows(ByFlow),
 }
@@ -118,12 +118,12 @@ fn output_kind_of(options: &ArgMatches<'_>) -> OutputKind
     let (every, form) = (every_of(options), Form { csv, by_wall });
     match (is_summary(options), packets, flows) {
         (true, _, Some(most)) => OutputKind::Flows(ByFlow { form, every, most }),
-        (true, true, None) => OutputKind::Digest(Summary {
+        (true, true, None) => OutputKind::Digest(Summaries {
             form,
             every,
             packets: true,
         }),
-        (true, false, None) => OutputKind::Sums(SumsAlone { form, every }),
+        (true, false, None) => OutputKind::Sums(SummariesOnly { form, every }),
         (false, _, _) => {
             if csv {
                 OutputKind::Records(Records { by_wall })
@@ -139,26 +139,26 @@ fn explain_with<R: Read + Drop, W: Write>(
     alloc: Global,
     input: R,
     output: &mut W,
-    choice: Selection,
+    selection: Selection,
     kind: OutputKind,
 ) -> Result<u64, ExplainFault>
-    ensures { IfSome (R.remaining input) (λ text. ExplainsEither choice (output_text kind) (records_of text) result (W.contents output.old)
+    ensures { IfSome (R.remaining input) (λ text. ExplainsEither selection (output_text kind) (records_of text) result (W.contents output.old)
         (W.contents output.new)) }
 {
     match kind {
-        OutputKind::Records(each) => pie_explain::explain(alloc, input, output, choice, each),
-        OutputKind::Words(each) => pie_explain::explain(alloc, input, output, choice, each),
-        OutputKind::Sums(sums) => pie_explain::explain(alloc, input, output, choice, sums),
-        OutputKind::Digest(digest) => pie_explain::explain(alloc, input, output, choice, digest),
-        OutputKind::Flows(by_flow) => pie_explain::explain(alloc, input, output, choice, by_flow),
+        OutputKind::Records(each) => pie_explain::explain(alloc, input, output, selection, each),
+        OutputKind::Words(each) => pie_explain::explain(alloc, input, output, selection, each),
+        OutputKind::Sums(sums) => pie_explain::explain(alloc, input, output, selection, sums),
+        OutputKind::Digest(digest) => pie_explain::explain(alloc, input, output, selection, digest),
+        OutputKind::Flows(flows) => pie_explain::explain(alloc, input, output, selection, flows),
     }
 }
 
 /// Returns the end of an explanation with this result. Unless it is `Ok`, writes a line to `errors`.
-fn report_end<E: Write>(errors: &mut E, given: Result<u64, ExplainFault>) -> End
-    ensures { result ≡ end_of_explain given }
+fn report_end<E: Write>(errors: &mut E, outcome: Result<u64, ExplainFault>) -> End
+    ensures { result ≡ end_of_explain outcome }
 {
-    match given {
+    match outcome {
         Ok(_) => End::Done,
         Err(ExplainFault::Trace(why)) => end_with_fault(errors, why),
         Err(ExplainFault::Differs { event }) => {
@@ -185,11 +185,11 @@ pub(crate) fn explain<H: Clock, R: Read + Drop, W: Write, E: Write>(
 ) -> End
     ensures { EndsExplain (rows_of (found_of options.now)) (R.remaining input) result (W.contents output.old) (W.contents output.new) }
 {
-    match choice_of(options, errors) {
-        Some(choice) => {
+    match selection_of(options, errors) {
+        Some(selection) => {
             let watched = ProgressReader::new(input, &mut *errors, rt, is_shown);
-            let given = explain_with(alloc, watched, output, choice, output_kind_of(options));
-            report_end(errors, given)
+            let outcome = explain_with(alloc, watched, output, selection, output_kind_of(options));
+            report_end(errors, outcome)
         }
         None => End::Failed,
     }

@@ -117,8 +117,8 @@ pub(crate) fn reader_of<H: NamedFiles, R: Read + Drop, E: Write>(
 {
     match file {
         Some(name) => {
-            let mut given = Some(input);
-            reader_named(rt, name, &mut given, errors)
+            let mut stdin = Some(input);
+            reader_named(rt, name, &mut stdin, errors)
         }
         None => Some(Left(input)),
     }

@@ -1,18 +1,18 @@
 //! The parser of the command line: its subcommands and their options.
 //!
 //! `options` returns the command `pie_app` of `clap` (specs/Words.antt), or an error if memory is short. `number`,
-//! `flag`, `file` and the other functions of given.rt read the options that `clap` matched. `Subcommand::named`
+//! `flag`, `file` and the other functions of values.rt read the options that `clap` matched. `Subcommand::named`
 //! returns the subcommand of a name.
 
 mod argument;
 mod command_line;
-mod given;
 mod history_pages;
 mod subcommand;
 mod trace_pages;
+mod values;
 
 pub(crate) use command_line::options;
-pub(crate) use given::{
+pub(crate) use subcommand::Subcommand;
+pub(crate) use values::{
     NO_ORDER, bound, file, file_of, flag, in_order, moment, number, number_or, output, parsed, text,
 };
-pub(crate) use subcommand::Subcommand;

@@ -173,7 +173,7 @@ pub(crate) fn params<W: Write, E: Write>(
         Ok(params) => params,
         Err(why) => return end_failed(errors, why),
     };
-    if asked.packets == 0 || u64::from(Limits::MOST_PACKETS) < asked.packets {
+    if asked.packets == 0 || u64::from(Limits::MAX_PACKETS) < asked.packets {
         return end_failed(errors, "--limit must be 1 to 1048576 packets");
     }
     warn(options, &asked, &params.raw(), errors);

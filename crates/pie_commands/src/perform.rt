@@ -15,7 +15,7 @@ use crate::files::{NamedFiles, create_output, finish_output, reader_of};
 use crate::options::{Subcommand, file, flag, output};
 use crate::params::params;
 use crate::progress::{ProgressReader, Screen, shows_progress};
-use crate::storm::make_storm;
+use crate::storm::run_storm;
 use crate::{audit, cut};
 use clap::ArgMatches;
 use pie_trace::{RunEnd, TraceFault, migrate, run_trace};
@@ -48,10 +48,10 @@ fn write_counts<E: Write>(end: &RunEnd, errors: &mut E) -> io::Result<()>
 /// After a run without a fault, writes the numbers of its events and refused records to `errors`, if the options request it. Ignores a failed write.
 fn report_counts<E: Write>(
     options: &ArgMatches<'_>,
-    given: &Result<RunEnd, TraceFault>,
+    outcome: &Result<RunEnd, TraceFault>,
     errors: &mut E,
 ) {
-    if let Ok(end) = given {
+    if let Ok(end) = outcome {
         if flag(options, "count") {
             let _ = write_counts(end, errors);
         }
@@ -76,9 +76,9 @@ pub(crate) fn run_task<H: Clock, R: Read + Drop, W: Write, E: Write>(
     match task {
         Task::Run => {
             let watched = ProgressReader::new(input, &mut *errors, rt, is_shown);
-            let given = run_trace(alloc, watched, output);
-            report_counts(options, &given, errors);
-            report_end(errors, given)
+            let outcome = run_trace(alloc, watched, output);
+            report_counts(options, &outcome, errors);
+            report_end(errors, outcome)
         }
         Task::Audit => {
             let watched = ProgressReader::new(input, &mut *errors, rt, is_shown);
@@ -88,13 +88,13 @@ pub(crate) fn run_task<H: Clock, R: Read + Drop, W: Write, E: Write>(
         Task::Explain => explain(rt, alloc, options, is_shown, input, output, errors),
         Task::Cut(pieces) => {
             let watched = ProgressReader::new(input, &mut *errors, rt, is_shown);
-            let given = cut_out(alloc, watched, output, pieces);
-            cut::report_end(errors, given)
+            let outcome = cut_out(alloc, watched, output, pieces);
+            cut::report_end(errors, outcome)
         }
         Task::Migrate => {
             let watched = ProgressReader::new(input, &mut *errors, rt, is_shown);
-            let given = migrate(alloc, watched, output);
-            report_end(errors, given)
+            let outcome = migrate(alloc, watched, output);
+            report_end(errors, outcome)
         }
     }
 }
@@ -146,7 +146,7 @@ fn perform<H: Threads + Wait + Sync + NamedFiles + Screen, R: Read + Drop, W: Wr
         Subcommand::Migrate => {
             perform_task(rt, alloc, Task::Migrate, options, input, output, errors)
         }
-        Subcommand::Storm => make_storm(rt, alloc, options, output, errors),
+        Subcommand::Storm => run_storm(rt, alloc, options, output, errors),
         Subcommand::Params => params(options, output, errors),
     }
 }
@@ -165,11 +165,11 @@ fn perform_to_file<H: Threads + Wait + Sync + NamedFiles + Screen, R: Read + Dro
         (H.holds rt.old) (H.holds rt.new) (EndsAs subcommand (rows_of (found_of options.now)) H.works (R.remaining input) (H.holds rt.old)) result }
 {
     let is_forced = flag(options, "force");
-    let Some(mut made) = create_output(rt, name, file(options), is_forced, errors) else {
+    let Some(mut fresh) = create_output(rt, name, file(options), is_forced, errors) else {
         return End::OutputNotRenamed;
     };
-    let end = perform(&*rt, alloc, subcommand, options, input, &mut made, errors);
-    let is_there = finish_output(rt, made, name, is_forced, end.is_whole(), errors);
+    let end = perform(&*rt, alloc, subcommand, options, input, &mut fresh, errors);
+    let is_there = finish_output(rt, fresh, name, is_forced, end.is_whole(), errors);
     end.after_output(is_there)
 }
 

@@ -109,7 +109,7 @@ fn chosen_subcommand<'a, 'b>(
 ) -> Option<(Subcommand, &'b ArgMatches<'a>)>
     ensures name { IfSome result (λ asked. Some (word_of asked.0) ≡ subcommand_name_of matches.now) }
     ensures rows { IfSome result (λ asked. Some (rows_of (found_of asked.1.now))
-        ≡ option_map (λ (given : Text × List Row). given.1) (subcommand_rows_of matches.now)) }
+        ≡ option_map (λ (found : Text × List Row). found.1) (subcommand_rows_of matches.now)) }
     ensures none { result ≡ None → (subcommand : Subcommand) → subcommand_name_of matches.now ≡ Some (word_of subcommand) → ⊥ }
 {
     let (name, options) = matches.subcommand()?;

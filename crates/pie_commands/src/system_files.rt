@@ -12,7 +12,7 @@ use std::os::unix::fs::{MetadataExt, OpenOptionsExt, PermissionsExt};
 use std::{fs, io};
 
 /// The number of names that are tried for a file created beside another.
-const MOST_NAMES: u32 = 100;
+const MAX_NAMES: u32 = 100;
 
 /// The output of the program: standard output, a new file beside its final name, or a pipe or a device. With one type for all, the code that writes
 /// is compiled once.
@@ -52,10 +52,10 @@ impl Output {
     }
 
     /// Stores that the reader is gone if a write with this result failed for that reason.
-    fn note(&mut self, given: &io::Result<usize>)
-        ensures { is_closed self.new ≡ has_closed (is_closed self.old) given.now }
+    fn note(&mut self, written: &io::Result<usize>)
+        ensures { is_closed self.new ≡ has_closed (is_closed self.old) written.now }
     {
-        if let Err(why) = given {
+        if let Err(why) = written {
             if matches!(why.kind(), ErrorKind::BrokenPipe) {
                 self.is_closed = true;
             }
@@ -69,9 +69,9 @@ impl Write for Output {
         ensures bytes { WriteAppends None None result bytes.now }
         ensures closed { is_closed self.new ≡ has_closed (is_closed self.old) result }
     {
-        let given = self.to.write(bytes);
-        self.note(&given);
-        given
+        let written = self.to.write(bytes);
+        self.note(&written);
+        written
     }
 
     fn flush(&mut self) -> io::Result<()> {
@@ -116,7 +116,7 @@ fn create(rt: &HostRuntime, name: &str, replaced: Option<&Metadata>) -> io::Resu
 
 /// Creates a file beside `name`, under a name that no file has.
 fn create_beside(rt: &HostRuntime, name: &str, replaced: Option<&Metadata>) -> io::Result<Output> {
-    for count in 1..=MOST_NAMES {
+    for count in 1..=MAX_NAMES {
         let made = name_beside(rt, name, count)?;
         match create(rt, made.as_str(), replaced) {
             Ok(file) => return Ok(Output::new(Right(file), Some(made))),

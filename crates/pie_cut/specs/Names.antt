@@ -1,6 +1,6 @@
 -- Definitions from lower crates that this crate's definitions, code and proofs use.
 pub use Rattle.pie_audit.specs.{Auditor.AuditorView, Auditor.Audits, Auditor.AuditsFrom, Finding.LinePlace, Finding.finding, Finding.finding_from}
-pub use Rattle.pie_audit.specs.{Finding.first_difference, Follower.Follows, Follower.next_number, Setters.setter_in, Start.Start, Start.from_opening}
+pub use Rattle.pie_audit.specs.{Finding.first_difference, Replay.Replays, Replay.next_number, Setters.setter_in, Start.Start, Start.from_opening}
 pub use Rattle.pie_audit.specs.{Start.setter_from_start, Start.start_after, Text.FindsEither, Text.IsFound, Text.whole_finding}
 pub use Rattle.pie_audit.specs.Origin.{Origin, at_core, at_opening, count_after, opening_in}
 pub use Rattle.pie_audit.specs.Preambles.{BeginsAt, BeginsAtCore, BegunBy, PreamblesDetermine, TextProcessedBy, fault_by, remaining_by, whole_lines}

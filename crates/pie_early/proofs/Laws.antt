@@ -2,18 +2,20 @@
 use Rattle.pie_early.proofs.Names.{◌≡◌, ℕ, ◌+◌, ◌*◌, ◌<◌, Bool, true, false, cond, List, [], ◌∷◌, ◌++◌, refl, sym, ap, ◌∙◌, arith, if◌then◌else◌}
 use Rattle.pie_early.proofs.Names.{ne_eqb, Derandomized, Enqueue, EarlyEvent, arrival, accumulated, Represents, ◌≤◌, nat_tests, RawParams, Picking}
 use Rattle.pie_early.proofs.Names.{accumulates, cleared, Parts, Ecn, Choice, always_picked, is_considered, is_picked, picked_choice, accu_at}
-use Rattle.pie_early.proofs.Names.{choice_at, Elements, name_of, place_of_cause, Offered, fate_of, counted}
+use Rattle.pie_early.proofs.Names.{choice_at, choice_of, Elements, Offered, fate_of, counted}
 use Rattle.std.proofs.Common.{zero, suc, ◌-◌, not, length, drop, filter, replicate, add-one, append_assoc, ◌↔◌, ◌&&◌, ◌/◌}
-use Rattle.std.specs.Prelude.{sum_by, IsTrue, nat_le}
+use Rattle.std.specs.Prelude.{sum_by, IsTrue, ◌⊎◌}
 use Rattle.std.specs.List.{after_last, suffix_len}
 use Rattle.std.proofs.lemmas.List.{drop-append-le, drop_all, length_push, reverse-append, replicate_more}
 use Rattle.std.proofs.lemmas.List.Elements.{filter-append}
 use Rattle.std.proofs.lemmas.List.Sums.{sum_by-append, suffix_len-le-length}
 use Rattle.pie_early.specs.Events.{is_clearing, joins, prob_of}
 use Rattle.pie_early.specs.Decision.{is_pick, IsPicked, chosen}
-use Rattle.pie_event.specs.declared.cause.Cause.TheVariants.{PickedBySum, PickedByWord}
+use Rattle.pie_event.specs.Cause.{verdict_of}
+use Rattle.pie_event.specs.CauseName.{name_of}
 use Rattle.pie_event.specs.declared.cause.Fate.{Fate}
-use Rattle.pie_event.specs.declared.verdict.Verdict.TheVariants.{Enqueued}
+use Rattle.pie_event.specs.declared.cause_name.CauseName.{CauseName}
+use Rattle.pie_event.specs.declared.cause_name.CauseName.TheVariants.{NoRoomInBytes, NoRoomInPackets, Inactive}
 use Rattle.pie_early.specs.Cause.{considered_cause, early_cause}
 use Rattle.std.proofs.Math.Nat.{div-le_of_le-mul}
 
@@ -153,31 +155,39 @@ represents_arrival picking params control prob bytes word held events ecn shown 
 pub represents_cleared : (events : List EarlyEvent) (held : ℕ) → held ≡ 0 → Represents (events ++ cleared ∷ []) held
 represents_cleared events held is = is ∙ sym (accumulated-clearing events cleared refl)
 
--- ---- The cause of a considered arrival, and the verdict of a choice that depends on a test
-
-pub chosen-if : (picked : Bool) (choice : Choice) → (if picked then chosen choice else Enqueued) ≡ chosen (if picked then choice else Enqueue)
-chosen-if picked choice = grind (arith, nat_tests)
+-- ---- The name of the cause, and its verdict
 
 module _ (elements : Elements) (params : RawParams) (parts : Parts) (offered : Offered) (accu : ℕ) where
   -- the cause of a considered arrival
-  pub cause-considered : is_considered params parts offered.bytes ≡ true → early_cause elements params parts offered accu
+  pub cause_considered : is_considered params parts offered.bytes ≡ true → early_cause elements params parts offered accu
       ≡ considered_cause elements.picking (counted elements params parts offered) accu (fate_of params parts.prob offered.ecn) offered.word
   unfolding early_cause is_considered
-  cause-considered e = grind (arith, nat_tests)
+  cause_considered e = grind (arith, nat_tests)
 
--- the cause of a picked arrival: the sum, or the word
-pub cause-picked : (picking : Picking) (prob accu : ℕ) (fate : Fate) (word : ℕ) → is_picked picking prob (accu + prob) word ≡ true
-    → considered_cause picking prob accu fate word
-    ≡ (if accumulates picking && nat_le always_picked (accu + prob) then PickedBySum accu prob fate else PickedByWord accu prob word fate)
-unfolding considered_cause is_picked
-cause-picked picking prob accu fate word picked = grind (arith, nat_tests)
+  -- the verdict of the cause is that of the choice
+  pub cause_verdict : verdict_of (early_cause elements params parts offered accu) ≡ chosen (choice_of elements params parts offered accu)
+  unfolding early_cause considered_cause is_considered is_picked
+  cause_verdict = grind (arith, nat_tests)
 
--- the position of a picked arrival's cause, as two numbers
-pub place-picked : (by_sum : Bool) (accu prob word : ℕ) (fate : Fate) (first behind : ℕ) → first ≡ (if by_sum then 8 else 11)
-    → (place_of_cause (name_of (PickedBySum accu prob fate)) ≡ 8 + behind)
-    × (place_of_cause (name_of (PickedByWord accu prob word fate)) ≡ 11 + behind)
-    → first + behind ≡ place_of_cause (name_of (if by_sum then PickedBySum accu prob fate else PickedByWord accu prob word fate))
-place-picked by_sum accu prob word fate first behind is places = grind (arith, nat_tests)
+-- true for the names of the causes that precede early drop
+abbrev precedes : CauseName → Bool
+precedes NoRoomInBytes = true
+precedes NoRoomInPackets = true
+precedes Inactive = true
+precedes _ = false
+
+considered_is_early : (picking : Picking) (prob accu : ℕ) (fate : Fate) (word : ℕ) → precedes (name_of (considered_cause picking prob accu fate word)) ≡ false
+unfolding considered_cause
+considered_is_early picking prob accu fate word = grind (arith, nat_tests)
+
+-- early drop has no such cause
+pub cause_is_early : (elements : Elements) (params : RawParams) (parts : Parts) (offered : Offered) (accu : ℕ) (name : CauseName)
+    → name ≡ name_of (early_cause elements params parts offered accu)
+    → (name ≡ NoRoomInBytes) ⊎ ((name ≡ NoRoomInPackets) ⊎ (name ≡ Inactive)) → ⊥
+unfolding early_cause
+cause_is_early elements params parts offered accu name is which =
+    let early : precedes name ≡ false = ap precedes is ∙ grind (arith, nat_tests, considered_is_early) in
+    grind (arith, nat_tests, early, which)
 
 -- ---- Bounds of a scaled probability
 

@@ -1,12 +1,13 @@
 ghost use Rattle.std.specs.Prelude.{◌≡◌, ℕ, ◌+◌, ◌*◌, ◌<◌, ◌↔◌, List, [], ◌∷◌, ◌++◌, true, replicate, IsTrue};
 ghost use Rattle.pie_fixed.specs.declared.TheConstants.{ALWAYS_PICKED};
 ghost use Rattle.pie_params.specs.declared.elements.Picking.TheVariants.{Derandomized};
-ghost use Rattle.pie_early.specs.Decision.{accu_after, choice_of, counted, is_considered, is_pick, IsPicked};
+ghost use Rattle.pie_early.specs.Decision.{accu_after, choice_of, chosen, counted, is_considered, is_pick, IsPicked};
 ghost use Rattle.pie_early.specs.Events.{EarlyEvent, arrival, cleared, is_clearing};
 ghost use Rattle.pie_early.specs.History.{Represents, accumulated};
 
 use crate::decision::{Offered, decide};
 use pie_control::Control;
+use pie_event::Verdict;
 use pie_fixed::Accu;
 use pie_params::{Elements, Params};
 use std::marker::Model;
@@ -27,6 +28,18 @@ pub enum Choice {
     Mark,
     /// The packet is dropped.
     Drop,
+}
+
+/// Returns the choice with the verdict `verdict`. A tail drop is no choice of early drop.
+#[inline(always)]
+fn choice_by(verdict: Verdict) -> Choice
+    ensures { (choice : Choice) → verdict ≡ chosen choice → result ≡ choice }
+{
+    match verdict {
+        Verdict::Marked => Choice::Mark,
+        Verdict::DroppedEarly => Choice::Drop,
+        _ => Choice::Enqueue,
+    }
 }
 
 /// The accumulated probability, which spaces the picked packets neither too close together nor too far apart (RFC 8033,
@@ -115,7 +128,7 @@ impl Early {
     {
         let decision = decide(&params.raw(), elements, &control.raw(), offered, self.accu);
         self.accu = decision.accu;
-        decision.choice
+        choice_by(decision.name.verdict())
     }
 
     /// Sets the accumulated probability to 0, as a tail drop and a reset do (RFC 8033, section 5.4).

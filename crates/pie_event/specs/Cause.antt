@@ -1,20 +1,24 @@
 -- The verdict on an arrival, from its cause.
+use Rattle.pie_event.specs.CauseName.{name_of}
 use Rattle.pie_event.specs.declared.cause.Cause.{Cause}
-use Rattle.pie_event.specs.declared.cause.Cause.TheVariants.{NoRoomInBytes, NoRoomInPackets, PickedBySum, PickedByWord}
-use Rattle.pie_event.specs.declared.cause.Fate.{Fate}
-use Rattle.pie_event.specs.declared.cause.Fate.TheVariants.{Marked}
+use Rattle.pie_event.specs.declared.cause_name.CauseName.{CauseName}
+use Rattle.pie_event.specs.declared.cause_name.CauseName.TheVariants.{NoRoomInBytes, NoRoomInPackets, PickedBySum, PickedBySumNotCapable}
+use Rattle.pie_event.specs.declared.cause_name.CauseName.TheVariants.{PickedBySumNotBelow, PickedByWord, PickedByWordNotCapable, PickedByWordNotBelow}
 use Rattle.pie_event.specs.declared.verdict.Verdict.{Verdict}
-use Rattle.pie_event.specs.declared.verdict.Verdict.TheVariants as verdict
+use Rattle.pie_event.specs.declared.verdict.Verdict.TheVariants.{Enqueued, Marked, DroppedEarly, DroppedBytes, DroppedPackets}
 
--- the verdict on a picked packet
-abbrev pub verdict_on_picked : Fate → Verdict
-verdict_on_picked (Marked threshold) = verdict.Marked
-verdict_on_picked _ = verdict.DroppedEarly
+-- the verdict of a cause with this name
+abbrev pub verdict_named : CauseName → Verdict
+verdict_named NoRoomInBytes = DroppedBytes
+verdict_named NoRoomInPackets = DroppedPackets
+verdict_named PickedBySum = Marked
+verdict_named PickedByWord = Marked
+verdict_named PickedBySumNotCapable = DroppedEarly
+verdict_named PickedBySumNotBelow = DroppedEarly
+verdict_named PickedByWordNotCapable = DroppedEarly
+verdict_named PickedByWordNotBelow = DroppedEarly
+verdict_named _ = Enqueued
 
 -- the verdict of a cause
 abbrev pub verdict_of : Cause → Verdict
-verdict_of (NoRoomInBytes bytes size limit) = verdict.DroppedBytes
-verdict_of (NoRoomInPackets packets) = verdict.DroppedPackets
-verdict_of (PickedBySum accu prob fate) = verdict_on_picked fate
-verdict_of (PickedByWord accu prob word fate) = verdict_on_picked fate
-verdict_of _ = verdict.Enqueued
+verdict_of cause = verdict_named (name_of cause)

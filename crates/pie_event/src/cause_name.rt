@@ -1,8 +1,9 @@
 //! Names of causes.
 ghost use Rattle.std.specs.Prelude.{◌≡◌, ◌<◌};
+ghost use Rattle.pie_event.specs.Cause.{verdict_named};
 ghost use Rattle.pie_event.specs.CauseName.{name_of, place_of_cause, word_of_cause};
 
-use crate::{Cause, Fate};
+use crate::{Cause, Fate, Verdict};
 
 /// The name of a cause, with the fate of a picked packet: a `Cause` without its numbers, in the order of the decision.
 #[derive(Clone, Copy)]
@@ -64,6 +65,23 @@ impl CauseName {
         }
     }
 
+    /// Returns the verdict on an arrival whose cause has this name.
+    #[inline(always)]
+    pub fn verdict(self) -> Verdict
+        ensures { result ≡ verdict_named self }
+    {
+        match self {
+            CauseName::NoRoomInBytes => Verdict::DroppedBytes,
+            CauseName::NoRoomInPackets => Verdict::DroppedPackets,
+            CauseName::PickedBySum | CauseName::PickedByWord => Verdict::Marked,
+            CauseName::PickedBySumNotCapable
+            | CauseName::PickedBySumNotBelow
+            | CauseName::PickedByWordNotCapable
+            | CauseName::PickedByWordNotBelow => Verdict::DroppedEarly,
+            _ => Verdict::Enqueued,
+        }
+    }
+
     /// Returns the position in the order of the decision, 0 to 14.
     pub fn place(self) -> usize
         ensures place { result ≡ place_of_cause self }
@@ -74,7 +92,8 @@ impl CauseName {
 }
 
 impl Cause {
-    /// Returns the name of the cause.
+    /// Returns the name of the cause. It is inlined: an arrival then never stores the numbers of its cause.
+    #[inline(always)]
     pub fn name(self) -> CauseName
         ensures { result ≡ name_of self }
     {

@@ -22,20 +22,20 @@ pub struct Limits {
 
 impl Limits {
     /// The greatest ring, in packets.
-    pub const MOST_PACKETS: u32 = 1_048_576;
+    pub const MAX_PACKETS: u32 = 1_048_576;
     /// The longest tail, in events.
-    pub const LONGEST_TAIL: u32 = 1_048_576;
+    pub const MAX_TAIL: u32 = 1_048_576;
     /// The greatest number of events: about 55 days of the smallest frames at 10 Gbit/s, each with its
     /// departure.
-    pub const MOST_EVENTS: u64 = 1 << 47;
+    pub const MAX_EVENTS: u64 = 1 << 47;
 
     /// Returns true if each limit is in its range.
     pub fn are_in_range(self) -> bool
         ensures { result ≡ are_in_range self }
     {
-        (1 <= self.packets && self.packets <= Self::MOST_PACKETS)
-            && (1 <= self.tail && self.tail <= Self::LONGEST_TAIL)
-            && (1 <= self.events && self.events <= Self::MOST_EVENTS)
+        (1 <= self.packets && self.packets <= Self::MAX_PACKETS)
+            && (1 <= self.tail && self.tail <= Self::MAX_TAIL)
+            && (1 <= self.events && self.events <= Self::MAX_EVENTS)
     }
 
     /// Returns true if a text of version one or two can open with these limits: at most 65536 packets and at most

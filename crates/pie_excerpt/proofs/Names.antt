@@ -1,5 +1,5 @@
 -- Definitions from lower crates that the files of this folder use.
-pub use Rattle.pie_aqm.specs.Held.{Held}
+pub use Rattle.pie_aqm.specs.ControllerState.{ControllerState}
 pub use Rattle.pie_excerpt.specs.{All, Appends, Err, Ok, Option, Resume, Row, Some, Waiting, WaitingFits, append_known, begun_at, codes, ecn_word}
 pub use Rattle.pie_excerpt.specs.{held_numbers, opened_numbers, resume_refusal, resume_with, setter_field, snapshot_row, text_of, choices_of}
 pub use Rattle.pie_params.specs.declared.{elements.Decay.Decay, elements.Decay.TheVariants.Half, elements.Decay.TheVariants.Zero}

@@ -4,8 +4,8 @@ use Rattle.pie_explain.specs.Names.{ℕ, nat_lt, List, length, Bool, true, false
 use Rattle.pie_explain.specs.Names.{Finding, AuditsFrom, AuditorView, count_after, Explained, Setter, Selection, is_whole, Start, Origin}
 use Rattle.pie_record.specs.Fault.{is_device}
 use Rattle.pie_audit.specs.declared.auditor.Finding.TheVariants.{Clean}
-use Rattle.pie_audit.specs.declared.follower.Follower.{Follower}
-use Rattle.pie_audit.specs.Follower.{Follows}
+use Rattle.pie_audit.specs.declared.replay.Replay.{Replay}
+use Rattle.pie_audit.specs.Replay.{Replays}
 use Rattle.pie_audit.specs.Finding.{finding_from}
 use Rattle.pie_explain.specs.declared.fault.ExplainFault.{ExplainFault}
 use Rattle.pie_explain.specs.declared.fault.ExplainFault.TheVariants.{Trace, Differs, Earlier, NoEvent, NoTag, NoneWithin}
@@ -32,15 +32,15 @@ none_picked whole All before events = Ok 0
 
 -- the result by the number of events before the text, the number of explained events, and the finding of the audit
 abbrev pub answered : Selection → ℕ → ℕ → Finding → Result ℕ ExplainFault
-answered choice before explained (finding.Differs event) = Err (Differs event)
-answered choice before explained (Clean events) = if explained == 0 then none_picked (is_whole choice) choice.which before events else Ok explained
+answered selection before explained (finding.Differs event) = Err (Differs event)
+answered selection before explained (Clean events) = if explained == 0 then none_picked (is_whole selection) selection.which before events else Ok explained
 
 -- the result for these lines after `origin` and the fault after them. `start` gives the number of events before the
 -- text
 abbrev pub answer_since : Selection → Start → Origin → List Line → Option TraceFault → Result ℕ ExplainFault
-answer_since choice start origin lines (Some why) = Err (Trace why)
-answer_since choice start origin lines None =
-    answered choice start.events (length (explanations_since start origin choice lines)) (finding_from origin lines)
+answer_since selection start origin lines (Some why) = Err (Trace why)
+answer_since selection start origin lines None =
+    answered selection start.events (length (explanations_since start origin selection lines)) (finding_from origin lines)
 
 -- the result agrees with the audit of the text: with its fault, or its first difference, or it is clean
 abbrev pub IsAsAudited : Result Finding TraceFault → Result ℕ ExplainFault → Type 0
@@ -53,19 +53,19 @@ IsAsAudited audited other = (events : ℕ) × (audited ≡ Ok (Clean events))
 
 -- the state after these lines: the report received the explanations of the chosen events after `start`, their text
 -- was appended to the output, and they were counted
-pub record Explains (start : Start) (origin : Origin) (choice : Selection) (tale : List Explained → List ℕ) (shows : List Explained → Type 0)
+pub record Explains (start : Start) (origin : Origin) (selection : Selection) (tale : List Explained → List ℕ) (shows : List Explained → Type 0)
     (lines : List Line) (auditor : AuditorView) (set_by : Setter) (explained : ℕ) (before now : Option (List ℕ)) : Type 0 where
-  pub follows : Follows start origin lines auditor set_by
-  pub counted : explained ≡ length (explanations_since start origin choice lines)
+  pub follows : Replays start origin lines auditor set_by
+  pub counted : explained ≡ length (explanations_since start origin selection lines)
   pub few : explained ≤ count_after origin lines
-  pub shown : shows (explanations_since start origin choice lines)
-  pub written : Appends before now (tale (explanations_since start origin choice lines))
+  pub shown : shows (explanations_since start origin selection lines)
+  pub written : Appends before now (tale (explanations_since start origin selection lines))
 
 -- the output: the whole text for the chosen events of the text
 abbrev pub IsExplanationText : Selection → (List Explained → List ℕ) → Start → Origin → List Line → List ℕ → Type 0
-IsExplanationText choice whole start origin lines explanation_texts = explanation_texts ≡ whole (explanations_since start origin choice lines)
+IsExplanationText selection whole start origin lines explanation_texts = explanation_texts ≡ whole (explanations_since start origin selection lines)
 
 -- all lines were read, and the explained events were counted
-abbrev pub HasExplained : Selection → Start → Origin → List Line → Follower → ℕ → Type 0
-HasExplained choice start origin lines follower explained = (start.events ≡ follower.before) × AuditsFrom origin follower.auditor lines
-    × (explained ≡ length (explanations_since start origin choice lines))
+abbrev pub HasExplained : Selection → Start → Origin → List Line → Replay → ℕ → Type 0
+HasExplained selection start origin lines replay explained = (start.events ≡ replay.before) × AuditsFrom origin replay.auditor lines
+    × (explained ≡ length (explanations_since start origin selection lines))

@@ -12,5 +12,5 @@ use Rattle.pie_explain.specs.Answer.{IsExplanationText, answer_since}
 -- set the probability correctly. They are then those of every history that the text continues, restricted to the
 -- events of the text
 abbrev pub ExplainsEither : Selection → (List Explained → List ℕ) → List Row → Result ℕ ExplainFault → Option (List ℕ) → Option (List ℕ) → Type 0
-ExplainsEither choice whole rows result old now =
-    TextProcessedBy (λ why. Err (Trace why)) (answer_since choice) (IsExplanationText choice whole) (is_resumed rows) rows result old now
+ExplainsEither selection whole rows result old now =
+    TextProcessedBy (λ why. Err (Trace why)) (answer_since selection) (IsExplanationText selection whole) (is_resumed rows) rows result old now

@@ -49,7 +49,7 @@ with_after opening history one = record {
 
 -- the effective moment of an event that a core is about to decide
 abbrev pub moment_at : CoreView → Event → ℕ
-moment_at core event = max core.held.moment (caller_moment event.command)
+moment_at core event = max core.controller.moment (caller_moment event.command)
 
 -- the explanation of the event with this number that a core is about to decide, with the core's numbers. `clock` is
 -- the last clock record
@@ -59,7 +59,7 @@ explanation_in core number event set_by clock = record {
   event = event;
   moment = moment_at core event;
   before = registers_of core;
-  delay = delay_in core.held (bytes_of core.waiting);
+  delay = delay_in core.controller (bytes_of core.waiting);
   cause = cause_in core event.command;
   waited = wait_of (deed_of event) (moment_at core event) core.waiting;
   set_by = set_by;
@@ -69,7 +69,7 @@ explanation_in core number event set_by clock = record {
 
 -- an explanation with the numbers of a core that has decided the event
 abbrev pub with_core : CoreView → Explanation → Explained
-with_core core one = record { explanation = one; after = registers_of core; delay = delay_in core.held (bytes_of core.waiting) }
+with_core core one = record { explanation = one; after = registers_of core; delay = delay_in core.controller (bytes_of core.waiting) }
 
 -- ---- the explanation of an event of lines, wherever they begin
 

@@ -12,10 +12,10 @@ explanation_if false found = None
 
 -- the explanation of a line after these lines, if the line is an event with the next number that is chosen
 abbrev pub explanation_of : Origin → Selection → List Line → Setter → Line → Option Explanation
-explanation_of origin choice lines set_by (Valid event) =
-    explanation_if (picks choice (count_after origin lines + 1) (moment_after origin (events_of lines) event) (latest_clock lines) event)
+explanation_of origin selection lines set_by (Valid event) =
+    explanation_if (picks selection (count_after origin lines + 1) (moment_after origin (events_of lines) event) (latest_clock lines) event)
     (explanation_after origin (events_of lines) (count_after origin lines + 1) event set_by (latest_clock lines))
-explanation_of origin choice lines set_by _ = None
+explanation_of origin selection lines set_by _ = None
 
 -- `None` from the first event that differs on
 abbrev pub explanation_unless : Option ℕ → Option Explanation → Option Explanation
@@ -27,14 +27,14 @@ explanation_before_difference origin lines found = explanation_unless (differenc
 
 -- the explanation at a place, if no event up to it, itself included, differs
 abbrev pub explanation_at : Origin → Selection → LinePlace → Option Explained
-explanation_at origin choice place =
+explanation_at origin selection place =
     option_map (ended_after origin (events_of (place.before ++ place.line ∷ [])))
     (explanation_before_difference origin (place.before ++ place.line ∷ [])
-    (explanation_of origin choice place.before (setter_in origin place.before) place.line))
+    (explanation_of origin selection place.before (setter_in origin place.before) place.line))
 
 -- the explanations of the chosen events of these lines, in order
 unfoldable pub explanations : Origin → Selection → List Line → List Explained
-explanations origin choice lines = filter_map (explanation_at origin choice) (line_places lines)
+explanations origin selection lines = filter_map (explanation_at origin selection) (line_places lines)
 
 -- ---- Excerpts: the events after the preamble
 
@@ -44,9 +44,9 @@ with_known_setter start one = record one { explanation = record one.explanation 
 
 -- the explanation at a place, if its event is one of the text
 abbrev pub explanation_since : Start → Origin → Selection → LinePlace → Option Explained
-explanation_since start origin choice place =
-    if nat_lt start.events (number_at origin place) then option_map (with_known_setter start) (explanation_at origin choice place) else None
+explanation_since start origin selection place =
+    if nat_lt start.events (number_at origin place) then option_map (with_known_setter start) (explanation_at origin selection place) else None
 
 -- the explanations of the chosen events of a text, given the lines of its whole history, in order
 unfoldable pub explanations_since : Start → Origin → Selection → List Line → List Explained
-explanations_since start origin choice lines = filter_map (explanation_since start origin choice) (line_places lines)
+explanations_since start origin selection lines = filter_map (explanation_since start origin selection) (line_places lines)

@@ -29,9 +29,9 @@ is_to (Some (Unix last)) moment None = false
 
 -- true if the event with this number and effective moment is selected. `clock` is the last clock record before it
 abbrev pub picks : Selection → ℕ → ℕ → Option Clock → Event → Bool
-picks choice number moment clock event = chooses choice.which number event
-    && (is_from choice.from moment (time_of clock moment) && is_to choice.to moment (time_of clock moment))
+picks selection number moment clock event = chooses selection.which number event
+    && (is_from selection.from moment (time_of clock moment) && is_to selection.to moment (time_of clock moment))
 
 -- the selection has no bound
 abbrev pub is_whole : Selection → Bool
-is_whole choice = not (is_some choice.from || is_some choice.to)
+is_whole selection = not (is_some selection.from || is_some selection.to)

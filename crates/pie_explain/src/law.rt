@@ -11,15 +11,15 @@ ghost use Rattle.pie_audit.specs.Text.{judged};
 /// excerpt sets the probability (`unnamed`). The function does nothing: its contract is the law.
 #[tactic(auto, using(crate::proofs::ExplainFacts::since_opening, crate::proofs::ExplainFacts::rest_reported, crate::proofs::ExplainFacts::as_unknown))]
 pub fn excerpts_are_explained_as_the_whole()
-    ensures whole { (opening : Opening) (choice : Selection) (lines : List Line)
-        → explanations_since from_opening (at_opening opening) choice lines ≡ explanations (at_opening opening) choice lines }
-    ensures rest { (opening : Opening) (choice : Selection) (past : List Event) (lines : List Line)
-        → explanations (at_opening opening) choice (map Valid past ++ lines) ≡ explanations (at_opening opening) choice (map Valid past)
-        ++ explanations_since (record { events = length past; tells = true }) (at_opening opening) choice (map Valid past ++ lines) }
-    ensures unnamed { (opening : Opening) (choice : Selection) (past : List Event) (lines : List Line)
-        → explanations_since (record { events = length past; tells = false }) (at_opening opening) choice (map Valid past ++ lines)
+    ensures whole { (opening : Opening) (selection : Selection) (lines : List Line)
+        → explanations_since from_opening (at_opening opening) selection lines ≡ explanations (at_opening opening) selection lines }
+    ensures rest { (opening : Opening) (selection : Selection) (past : List Event) (lines : List Line)
+        → explanations (at_opening opening) selection (map Valid past ++ lines) ≡ explanations (at_opening opening) selection (map Valid past)
+        ++ explanations_since (record { events = length past; tells = true }) (at_opening opening) selection (map Valid past ++ lines) }
+    ensures unnamed { (opening : Opening) (selection : Selection) (past : List Event) (lines : List Line)
+        → explanations_since (record { events = length past; tells = false }) (at_opening opening) selection (map Valid past ++ lines)
         ≡ map (with_known_setter (record { events = length past; tells = false }))
-        (explanations_since (record { events = length past; tells = true }) (at_opening opening) choice (map Valid past ++ lines)) }
+        (explanations_since (record { events = length past; tells = true }) (at_opening opening) selection (map Valid past ++ lines)) }
 {}
 
 /// The law of results. The result of an explanation agrees with the audit's finding: the fault, the first
@@ -28,6 +28,6 @@ pub fn excerpts_are_explained_as_the_whole()
 /// The function does nothing: its contract is the law.
 #[tactic(auto, using(crate::proofs::ExplainFacts::since_audited))]
 pub fn explaining_is_auditing()
-    ensures { (start : Start) (choice : Selection) (opening : Opening) (lines : List Line) (fault : Option TraceFault)
-        → IsAsAudited (judged opening lines fault) (answer_since choice start (at_opening opening) lines fault) }
+    ensures { (start : Start) (selection : Selection) (opening : Opening) (lines : List Line) (fault : Option TraceFault)
+        → IsAsAudited (judged opening lines fault) (answer_since selection start (at_opening opening) lines fault) }
 {}

@@ -1,6 +1,6 @@
 -- The decrease of the burst allowance from update to update, the distance of updates, and the moments before which they are refused.
 use Rattle.pie_guarantees.proofs.Names.{◌≡◌, ◌≤◌, ◌+◌, ◌*◌, ℕ, List, [], ◌∷◌, ◌++◌, true, false, sym, arith, subst, max, All, append_assoc}
-use Rattle.pie_guarantees.proofs.Names.{deed, is_update, after_call, Held, Waiting, Command, Update, Answer, Event, Opening, call_of, is_too_soon}
+use Rattle.pie_guarantees.proofs.Names.{deed, is_update, after_call, ControllerState, Waiting, Command, Update, Answer, Event, Opening, call_of, is_too_soon}
 use Rattle.pie_guarantees.proofs.Names.{held_after, params_after, parts_after, effective_moment, waiting_after, AllAllow, Allows, IsAllowed}
 use Rattle.pie_guarantees.proofs.Names.{KeepsParams, SetsAllow, nat_tests, burst_left, updates_in, IsLawful, IsEarly, ◌<◌, bytes_of}
 use Rattle.pie_guarantees.proofs.Names.{Some, ◌∙◌, AtEachEvent, deed_of, caller_moment, refusal_with, refusal_by_rule, in-range, length}
@@ -17,7 +17,7 @@ one-more n k = grind arith
 
 module _ (burst least most start last : ℕ) where
   -- after n updates since a moment: the remaining burst allowance, the last update's moment, and the present moment
-  record Holds (n : ℕ) (h : Held) : Type 0 where
+  record Holds (n : ℕ) (h : ControllerState) : Type 0 where
     allows : Allows burst least most h.params
     whole : burst ≤ h.control.burst + n * most
     apart : start + n * least ≤ max (h.control.last + least) start
@@ -25,7 +25,7 @@ module _ (burst least most start last : ℕ) where
     later : start ≤ h.moment
     sound : h.control.last ≤ h.moment
 
-  call-holds : (n : ℕ) (h : Held) (waiting : List Waiting) (packets : ℕ) (command : Command) → Holds n h → SetsAllow burst least most command
+  call-holds : (n : ℕ) (h : ControllerState) (waiting : List Waiting) (packets : ℕ) (command : Command) → Holds n h → SetsAllow burst least most command
       → is_too_soon h.moment (Steps.due h) command ≡ false → Holds (counted_with command n) (after_call h (call_of waiting packets command))
   call-holds n h waiting packets command old set due = grind (arith, nat_tests, one-more)
 
@@ -117,10 +117,10 @@ module _ (opening : Opening) (before : List Event) (between : List Event) (event
 -- ---- histories without a change of parameters
 
 -- the remaining allowance is at most `max_burst`
-abbrev Within : Held → Type 0
+abbrev Within : ControllerState → Type 0
 Within h = h.control.burst ≤ h.params.max_burst
 
-within-next : (h : Held) (waiting : List Waiting) (packets : ℕ) (command : Command) → Within h → KeepsParams command
+within-next : (h : ControllerState) (waiting : List Waiting) (packets : ℕ) (command : Command) → Within h → KeepsParams command
     → Within (after_call h (call_of waiting packets command))
 within-next h waiting packets command old keep = grind (arith, nat_tests)
 
@@ -134,16 +134,16 @@ allowed_where_kept opening before later lawful keep =
 
 -- ---- moments with a whole allowance
 
-pub reset-whole : (h : Held) (waiting : List Waiting) (packets moment : ℕ)
+pub reset-whole : (h : ControllerState) (waiting : List Waiting) (packets moment : ℕ)
     → (after_call h (call_of waiting packets (Reset moment))).control.burst ≡ (after_call h (call_of waiting packets (Reset moment))).params.max_burst
 reset-whole h waiting packets moment = refl
 
-pub wakes-whole : (h : Held) (waiting : List Waiting) (packets : ℕ) (command : Command) → h.active ≡ false
+pub activated-whole : (h : ControllerState) (waiting : List Waiting) (packets : ℕ) (command : Command) → h.active ≡ false
     → (after_call h (call_of waiting packets command)).active ≡ true
     → (after_call h (call_of waiting packets command)).control.burst ≡ (after_call h (call_of waiting packets command)).params.max_burst
-wakes-whole h waiting packets command off on = grind (arith, nat_tests)
+activated-whole h waiting packets command off on = grind (arith, nat_tests)
 
-pub calm-whole : (h : Held) (waiting : List Waiting) (packets : ℕ) (command : Command) (answer : Answer) → is_update (deed command answer) ≡ true
+pub calm-whole : (h : ControllerState) (waiting : List Waiting) (packets : ℕ) (command : Command) (answer : Answer) → is_update (deed command answer) ≡ true
     → h.active ≡ true → 2 * Steps.delay_in h (bytes_of waiting) < h.params.target → 2 * h.control.old_delay < h.params.target
     → (after_call h (call_of waiting packets command)).control.prob ≡ 0
     → (after_call h (call_of waiting packets command)).control.burst ≡ (after_call h (call_of waiting packets command)).params.max_burst
@@ -171,7 +171,7 @@ refused_ahead opening before event later lawful ahead moment due far e =
     omega (arith, now, far, refused_before opening (before ++ event ∷ []) later (rw (← split) at lawful) moment due e)
 
 -- an update leaves its moment as the last one
-last-is : (h : Held) (waiting : List Waiting) (packets : ℕ) (command : Command) (answer : Answer) → is_update (deed command answer) ≡ true
+last-is : (h : ControllerState) (waiting : List Waiting) (packets : ℕ) (command : Command) (answer : Answer) → is_update (deed command answer) ≡ true
     → ((after_call h (call_of waiting packets command)).control.last ≡ (after_call h (call_of waiting packets command)).moment)
     × ((after_call h (call_of waiting packets command)).params ≡ h.params)
 last-is h waiting packets command answer is = (grind (arith, nat_tests), grind (arith, nat_tests))
@@ -189,7 +189,7 @@ refused_after opening before event later lawful is moment within early =
     let step = step_at opening before event later lawful in
     let h = held_after opening before in
     let g = held_after opening (before ++ event ∷ []) in
-    let left = subst (λ (k : Held). (k.control.last ≡ k.moment) × (k.params ≡ h.params)) (sym step.held)
+    let left = subst (λ (k : ControllerState). (k.control.last ≡ k.moment) × (k.params ≡ h.params)) (sym step.held)
     (last-is h (waiting_after opening before) opening.limits.packets event.command event.answer is) in
     let due : g.control.last + g.params.t_update ≡ effective_moment opening (before ++ event ∷ []) + h.params.t_update =
     λ i. (left.0 ∙ step.next_moment) i + (left.1 i).t_update in

@@ -2,7 +2,7 @@
 use Rattle.pie_guarantees.proofs.Names.{◌≡◌, ◌≤◌, ◌+◌, ◌*◌, ◌^◌, ℕ, List, [], ◌∷◌, ◌++◌, map, Bool, refl, sym, ap, ◌∙◌, cond, ◌⊎◌, AtEachEvent}
 use Rattle.pie_guarantees.proofs.Names.{AtEachHistory, BetweenAny, if◌then◌else◌, inl, length, arith, subst, All, Some, Option, sum_by, append-nil}
 use Rattle.pie_guarantees.proofs.Names.{append_assoc, length-map, map-append, filter_map-append, sum_by_push, sum_by-cons, bytes_of, Deed, deed}
-use Rattle.pie_guarantees.proofs.Names.{deed_of, departure, answer_of, after_call, Held, filter_map-push, with_one, Packet, Waiting, Verdict, Command}
+use Rattle.pie_guarantees.proofs.Names.{deed_of, departure, answer_of, after_call, ControllerState, filter_map-push, with_one, Packet, Waiting, Verdict, Command}
 use Rattle.pie_guarantees.proofs.Names.{Arrive, Depart, Answer, Event, Opening, arrival_of, call_of, answer_by, held_after, params_after, bytes_after}
 use Rattle.pie_guarantees.proofs.Names.{effective_moment, waiting_after, count_of, is_dropped_bytes, is_dropped_early, is_dropped_packets, is_marked}
 use Rattle.pie_guarantees.proofs.Names.{is_queued, waiting_next, first_shows, IsLawful, nat_tests, take, take-append_seam}
@@ -35,7 +35,7 @@ ways d = cond (is_queued d) 1 0 + cond (is_marked d) 1 0 + cond (is_dropped_earl
     + cond (is_dropped_packets d) 1 0
 
 -- one command counts once
-once-more : (h : Held) (waiting : List Waiting) (packets : ℕ) (command : Command)
+once-more : (h : ControllerState) (waiting : List Waiting) (packets : ℕ) (command : Command)
     → cond (is_packet_arrival command) 1 0 ≡ ways (deed command (answer_by h waiting packets command))
 unfolding Steps.verdict
 once-more h waiting packets command = grind (arith, nat_tests)
@@ -52,7 +52,7 @@ each_once opening history lawful = throughout Adds opening refl (adds-next openi
 abbrev packets-of : List Waiting → List Packet
 packets-of waiting = map (λ (entry : Waiting). entry.packet) waiting
 
-in-order : (h : Held) (waiting : List Waiting) (packets : ℕ) (command : Command) (now : ℕ) (gone all : List Packet)
+in-order : (h : ControllerState) (waiting : List Waiting) (packets : ℕ) (command : Command) (now : ℕ) (gone all : List Packet)
     → gone ++ packets-of waiting ≡ all
     → with_one gone (departure (deed command (answer_by h waiting packets command)))
     ++ packets-of (waiting_next waiting now (deed command (answer_by h waiting packets command)))
@@ -94,7 +94,7 @@ bytes-queued : (packet : Packet) (waiting : List Waiting) (moment word now : ℕ
     ≡ bytes_of waiting + (if Verdicts.is_queued v then packet.size else 0)
 bytes-queued packet waiting moment word now v = grind (arith, nat_tests, sum_by_push)
 
-bounded : (h : Held) (waiting : List Waiting) (packets : ℕ) (command : Command) (now : ℕ)
+bounded : (h : ControllerState) (waiting : List Waiting) (packets : ℕ) (command : Command) (now : ℕ)
     → Bounded h.params.limit_bytes packets waiting (waiting_next waiting now (deed command (answer_by h waiting packets command)))
     (packet_queued (deed command (answer_by h waiting packets command)))
 unfolding Steps.verdict
@@ -128,7 +128,7 @@ room_for_bytes opening before event later lawful packet is =
     (bounded-at opening before event (step_at opening before event later lawful)).queue packet is
 
 -- the limit in force after a call
-limit-next : (most : ℕ) (h : Held) (waiting : List Waiting) (packets : ℕ) (command : Command) → h.params.limit_bytes ≤ most
+limit-next : (most : ℕ) (h : ControllerState) (waiting : List Waiting) (packets : ℕ) (command : Command) → h.params.limit_bytes ≤ most
     → SetsLimit most command → (after_call h (call_of waiting packets command)).params.limit_bytes ≤ most
 limit-next most h waiting packets command low set = grind (arith, nat_tests)
 
@@ -139,7 +139,7 @@ record Below (most : ℕ) (opening : Opening) (history : List Event) : Type 0 wh
 below-next : (most : ℕ) (opening : Opening) (before : List Event) (event : Event) → IsStep opening before event → SetsLimit most event.command
     → Below most opening before → Below most opening (before ++ event ∷ [])
 below-next most opening before event step set old = record {
-  limit = subst (λ (h : Held). h.params.limit_bytes ≤ most) (sym step.held)
+  limit = subst (λ (h : ControllerState). h.params.limit_bytes ≤ most) (sym step.held)
       (limit-next most (held_after opening before) (waiting_after opening before) opening.limits.packets event.command old.limit set);
   bytes = let or = (bounded-at opening before event step).or in grind arith;
 }
@@ -151,7 +151,7 @@ bytes_below most opening history lawful low set =
     (along (λ before left. Below most opening before) (λ before event. SetsLimit most event.command) opening
     (λ before event left step set old. below-next most opening before event step set old) [] history []
     (rw (append-nil history) lawful) (all_along (λ (event : Event). SetsLimit most event.command) [] history set) (record {
-      limit = subst (λ (g : Held). g.params.limit_bytes ≤ most) (first-held opening) low;
+      limit = subst (λ (g : ControllerState). g.params.limit_bytes ≤ most) (first-held opening) low;
       bytes = rw none-waits (omega arith);
     })).bytes
 

@@ -1,6 +1,6 @@
 -- Properties of a packet that was marked or dropped early.
 use Rattle.pie_guarantees.proofs.Names.{◌≡◌, ◌≤◌, ◌<◌, ◌+◌, ◌*◌, ◌⊎◌, ℕ, List, ◌∷◌, ◌++◌, true, false, refl, sym, ap, ◌∙◌, arith, nat_tests}
-use Rattle.pie_guarantees.proofs.Names.{is_capable, bytes_of, counted, is_considered, is_picked, picked_choice, Held, chosen, offered, verdict}
+use Rattle.pie_guarantees.proofs.Names.{is_capable, bytes_of, counted, is_considered, is_picked, picked_choice, ControllerState, chosen, offered, verdict}
 use Rattle.pie_guarantees.proofs.Names.{answer_of, Packet, Waiting, ArrivingPacket, Arrive, Answer, DroppedEarly, Marked, Command}
 use Rattle.pie_guarantees.proofs.Names.{Event, Opening, arrival_of, answer_by, held_after, waiting_after, IsLawful, IsArrivalOf, is_early, RawParams}
 use Rattle.pie_guarantees.proofs.Names.{AtEachEvent, MarksOnlyCapable, OnlyMarks, SparesCapable, active_after, parts_after, bytes_after, params_after, effective_moment, deed, waiting_next, sum_by_push, Verdict, Empty, []}
@@ -8,35 +8,35 @@ use Rattle.pie_queue.specs.declared.ecn.Ecn.{Ecn}
 use Rattle.pie_guarantees.proofs.LawfulFacts.{IsStep, step_at}
 
 -- the controller's state when a packet was picked
-pub record IsPicked (h : Held) (bytes : ℕ) : Type 0 where
+pub record IsPicked (h : ControllerState) (bytes : ℕ) : Type 0 where
   pub active : h.active ≡ true
   pub no_burst : h.control.burst ≡ 0
   pub long : 2 * h.params.mean_pkt < bytes
   pub high : (h.params.target ≤ 2 * h.control.old_delay) ⊎ (200_000_000_000 ≤ h.control.prob)
 
-picked-facts : (h : Held) (a : ArrivingPacket) → is_early (answer_of (verdict h a)) ≡ true → IsPicked h a.queued
+picked-facts : (h : ControllerState) (a : ArrivingPacket) → is_early (answer_of (verdict h a)) ≡ true → IsPicked h a.queued
 unfolding verdict is_considered
 picked-facts h a e = grind (arith, nat_tests)
 
-pub record IsChosen (h : Held) (a : ArrivingPacket) : Type 0 where
+pub record IsChosen (h : ControllerState) (a : ArrivingPacket) : Type 0 where
   pub picked : IsPicked h a.queued
   pub by_sum : is_picked h.elements.picking (counted h.elements h.params h.control (offered a)) (h.accu
       + counted h.elements h.params h.control (offered a)) a.word ≡ true
   pub verdict : verdict h a ≡ chosen (picked_choice h.params h.control.prob a.ecn)
 
-chosen-of : (h : Held) (a : ArrivingPacket) → is_early (answer_of (verdict h a)) ≡ true → IsChosen h a
+chosen-of : (h : ControllerState) (a : ArrivingPacket) → is_early (answer_of (verdict h a)) ≡ true → IsChosen h a
 unfolding verdict
 chosen-of h a e = record { picked = picked-facts h a e; by_sum = grind (arith, nat_tests); verdict = grind (arith, nat_tests) }
 
 -- the arrival that was marked or dropped early
-pub record IsEarlyArrival (h : Held) (waiting : List Waiting) (packets : ℕ) (command : Command) : Type 0 where
+pub record IsEarlyArrival (h : ControllerState) (waiting : List Waiting) (packets : ℕ) (command : Command) : Type 0 where
   pub moment : ℕ
   pub packet : Packet
   pub word : ℕ
   pub is : command ≡ Arrive moment packet word
   pub chosen : IsChosen h (arrival_of waiting packets packet word)
 
-early-arrival : (h : Held) (waiting : List Waiting) (packets : ℕ) (command : Command) → is_early (answer_by h waiting packets command) ≡ true
+early-arrival : (h : ControllerState) (waiting : List Waiting) (packets : ℕ) (command : Command) → is_early (answer_by h waiting packets command) ≡ true
     → IsEarlyArrival h waiting packets command
 early-arrival h waiting packets (Arrive moment packet word) e =
     record { moment = moment; packet = packet; word = word; is = refl; chosen = chosen-of h (arrival_of waiting packets packet word) e }
@@ -96,7 +96,7 @@ leaves_two opening before event later lawful e =
 finds-none : (v : Verdict) → answer_of v ≡ Empty → ⊥
 finds-none v e = grind (arith, nat_tests)
 
-empty-queue : (h : Held) (waiting : List Waiting) (packets : ℕ) (command : Command) → answer_by h waiting packets command ≡ Empty → waiting ≡ []
+empty-queue : (h : ControllerState) (waiting : List Waiting) (packets : ℕ) (command : Command) → answer_by h waiting packets command ≡ Empty → waiting ≡ []
 empty-queue h waiting packets command e = grind (arith, nat_tests, finds-none)
 
 pub empty_if_none : AtEachEvent (λ opening before event. event.answer ≡ Empty → waiting_after opening before ≡ [])

@@ -1,6 +1,6 @@
 -- In a lawful history, a core represents the events before each place, and each event changes the core as its call does.
 use Rattle.pie_guarantees.proofs.Names.{◌≡◌, ◌≤◌, ◌<◌, ◌+◌, ℕ, List, [], ◌∷◌, ◌++◌, false, sym, subst, ap, ◌∙◌, arith, ⊤, All, None, length, ◌^◌}
-use Rattle.pie_guarantees.proofs.Names.{append-nil, append_assoc, All-head, All-tail, first_bad, deed_of, caller_moment, IsTaken, after_call, Held}
+use Rattle.pie_guarantees.proofs.Names.{append-nil, append_assoc, All-head, All-tail, first_bad, deed_of, caller_moment, IsTaken, after_call, ControllerState}
 use Rattle.pie_guarantees.proofs.Names.{IsSound, places, place_of, Waiting, Command, Event, Opening, call_of, IsLegalAt, has_bad_size, is_too_soon}
 use Rattle.pie_guarantees.proofs.Names.{refusal_by_rule, due_after, held_after, effective_moment, waiting_after, after_command, call_in, waiting_next}
 use Rattle.pie_guarantees.proofs.Names.{at_place, departed-of-legal, held-is, first_shows, first_core, next-core, next-legal, AllAlong, IsLawful}
@@ -8,7 +8,7 @@ use Rattle.pie_guarantees.proofs.Names.{SetsInRange, nat_tests, map, drop, All-n
 use Rattle.pie_guarantees.proofs.Names.{Sound_opened, cond, is_update, sum_by-cons, updates_in, drop-append_seam, take-append_seam, Update, deed}
 use Rattle.pie_guarantees.proofs.Names.{effective_moment-push, waiting_after-push}
 use Rattle.std.proofs.lemmas.List.Elements.{All-drop, All-take}
-use Rattle.pie_book.specs.Core.{CoreView, Represents, closed}
+use Rattle.pie_book.specs.Core.{CoreView, Represents, queue_recorded}
 use Rattle.pie_event.specs.Opening as Opens
 
 -- ---- accepted commands
@@ -29,7 +29,7 @@ is_free opening before command e = grind (arith, nat_tests)
 pub record IsSteadyAt (opening : Opening) (history : List Event) : Type 0 where
   pub core : CoreView
   pub shows : Represents opening core history
-  pub sound : IsSound core.held
+  pub sound : IsSound core.controller
 
 steady-first : (opening : Opening) → Opens.opening_refusal opening.limits opening.moment ≡ None → first_bad opening.params ≡ None → IsSteadyAt opening []
 steady-first opening good params = record {
@@ -50,9 +50,9 @@ steady-next opening before event old here fit =
     let core = old.core in
     let handed = (is_free opening before event.command here.taken).moment in
     record {
-      core = closed (after_command core event.command);
+      core = queue_recorded (after_command core event.command);
       shows = next-core opening core before event old.shows old.sound.params (next-legal opening core before event old.shows here);
-      sound = Sound_call core.held old.sound (call_in core event.command) (call-taken core event.command handed fit);
+      sound = Sound_call core.controller old.sound (call_in core event.command) (call-taken core event.command handed fit);
     }
 
 -- an event of a lawful history: the state after the events before it, and the state after the event
@@ -68,7 +68,7 @@ pub record IsStep (opening : Opening) (before : List Event) (event : Event) : Ty
   pub next_moment : (held_after opening (before ++ event ∷ [])).moment ≡ effective_moment opening (before ++ event ∷ [])
 
 -- a property of the answer to a command, and of the state after it, holds at the step
-pub at-step : (opening : Opening) (before : List Event) (event : Event) → IsStep opening before event → (P : Answer → Held → Type 0)
+pub at-step : (opening : Opening) (before : List Event) (event : Event) → IsStep opening before event → (P : Answer → ControllerState → Type 0)
     → P (answer_by (held_after opening before) (waiting_after opening before) opening.limits.packets event.command)
     (after_call (held_after opening before) (call_of (waiting_after opening before) opening.limits.packets event.command))
     → P event.answer (held_after opening (before ++ event ∷ []))
@@ -80,19 +80,19 @@ unfolding steady-next
 step-of opening before event old here fit =
     let next = steady-next opening before event old here fit in
     let core = old.core in
-    let is : core.held ≡ held_after opening before = held-is opening core before old.shows in
+    let is : core.controller ≡ held_after opening before = held-is opening core before old.shows in
     record {
       here = here;
       free = is_free opening before event.command here.taken;
-      sound = subst (λ (h : Held). IsSound h) is old.sound;
+      sound = subst (λ (h : ControllerState). IsSound h) is old.sound;
       held = sym (held-is opening next.core (before ++ event ∷ []) next.shows)
-          ∙ ap (λ (h : Held). after_call h (call_of core.waiting core.packets event.command)) is
+          ∙ ap (λ (h : ControllerState). after_call h (call_of core.waiting core.packets event.command)) is
           ∙ ap (λ (w : List Waiting). after_call (held_after opening before) (call_of w core.packets event.command)) old.shows.waiting
           ∙ ap (λ (n : ℕ). after_call (held_after opening before) (call_of (waiting_after opening before) n event.command)) old.shows.packets;
       waiting = waiting_after-push opening before event (departed-of-legal opening before old.shows.legal)
           ∙ ap (λ (m : ℕ). waiting_next (waiting_after opening before) m (deed_of event)) (sym (effective_moment-push opening before event));
-      same_moment = sym (ap (λ (h : Held). h.moment) is) ∙ old.shows.moment;
-      next_moment = sym (ap (λ (h : Held). h.moment) (held-is opening next.core (before ++ event ∷ []) next.shows)) ∙ next.shows.moment;
+      same_moment = sym (ap (λ (h : ControllerState). h.moment) is) ∙ old.shows.moment;
+      next_moment = sym (ap (λ (h : ControllerState). h.moment) (held-is opening next.core (before ++ event ∷ []) next.shows)) ∙ next.shows.moment;
     }
 
 -- ---- a whole history
@@ -154,7 +154,7 @@ throughout P opening first stays history lawful =
     (rw (append-nil history) lawful) (all_along (λ event. ⊤) [] history (λ k d within. tt)) first
 
 -- the controller's numbers at the opening
-pub first-held : (opening : Opening) → (first_core opening).held ≡ held_after opening []
+pub first-held : (opening : Opening) → (first_core opening).controller ≡ held_after opening []
 first-held opening = held-is opening (first_core opening) [] (first_shows opening)
 
 -- the updates of events, the first of which is known
@@ -198,8 +198,8 @@ pub sound_at : (opening : Opening) (before later : List Event) → IsLawful open
     → IsSound (held_after opening before) × ((held_after opening before).moment ≡ effective_moment opening before)
 sound_at opening before later lawful =
     let it = steady_at opening before later lawful in
-    let is : it.core.held ≡ held_after opening before = held-is opening it.core before it.shows in
-    (subst (λ (h : Held). IsSound h) is it.sound, sym (ap (λ (h : Held). h.moment) is) ∙ it.shows.moment)
+    let is : it.core.controller ≡ held_after opening before = held-is opening it.core before it.shows in
+    (subst (λ (h : ControllerState). IsSound h) is it.sound, sym (ap (λ (h : ControllerState). h.moment) is) ∙ it.shows.moment)
 
 -- the beginning of a lawful history is lawful
 pub beginning : (opening : Opening) (before later : List Event) → IsLawful opening (before ++ later) → IsLawful opening before

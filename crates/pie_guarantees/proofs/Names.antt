@@ -13,7 +13,7 @@ pub use Rattle.std.specs.Prelude.{Err, Ok, Result, int_div, not, pos, sum_by, â„
 pub use Rattle.pie_aqm.proofs.Sounds.{in-range, threshold-holds, Sound_call, Sound_opened, next-hold}
 pub use Rattle.pie_aqm.proofs.Places.{filter_map-push, place_of, with_one}
 pub use Rattle.pie_aqm.specs.Calls.{IsTaken, after_call}
-pub use Rattle.pie_aqm.specs.Held.{Held, IsSound}
+pub use Rattle.pie_aqm.specs.ControllerState.{ControllerState, IsSound}
 unfoldable pub use Rattle.pie_aqm.specs.History.{held_of}
 pub use Rattle.pie_aqm.specs.Places.{Place, places}
 pub use Rattle.pie_aqm.specs.Steps.{chosen, offered}

@@ -2,7 +2,7 @@
 use Rattle.pie_guarantees.proofs.Names.{◌≡◌, ◌≤◌, ◌<◌, ◌+◌, ◌*◌, ◌-◌, ◌^◌, ◌⊎◌, ℕ, zero, suc, List, [], ◌∷◌, ◌++◌, Bool, true, false, refl}
 use Rattle.pie_guarantees.proofs.Names.{BetweenAny, nat_tests, sym, ap, ◌∙◌, cond, if◌then◌else◌, arith, subst, mul-le, le_of_mul-le-mul_right}
 use Rattle.pie_guarantees.proofs.Names.{pow-suc, usual, default_profile, Elements, bytes_of, decayed, decays, next, raw_step, tuned_step}
-use Rattle.pie_guarantees.proofs.Names.{tuning_divisor, deed, deed_of, is_update, after_call, Held, held_of, Waiting, Command, Answer, Event, Opening}
+use Rattle.pie_guarantees.proofs.Names.{tuning_divisor, deed, deed_of, is_update, after_call, ControllerState, held_of, Waiting, Command, Answer, Event, Opening}
 use Rattle.pie_guarantees.proofs.Names.{call_of, delay_after, held_after, params_after, waiting_after, is_reset, KeepsParams, updates_in, AllAlong}
 use Rattle.pie_guarantees.proofs.Names.{IsActiveUpdate, IsSteady, after_updates, old_delay_after, probability_after, RawParams, AtEachHistory, ◌/◌}
 use Rattle.pie_guarantees.proofs.Names.{length, All, fold, All-head, All-tail, le-div, div-le_of_le-mul, average_of, averaged, IsBetween, min}
@@ -19,7 +19,7 @@ elements-is opening history = refl
 
 -- ---- an update of an active controller
 
-updated-prob : (h : Held) (waiting : List Waiting) (packets : ℕ) (command : Command) (answer : Answer) → is_update (deed command answer) ≡ true
+updated-prob : (h : ControllerState) (waiting : List Waiting) (packets : ℕ) (command : Command) (answer : Answer) → is_update (deed command answer) ≡ true
     → h.active ≡ true
     → (after_call h (call_of waiting packets command)).control.prob
     ≡ next h.elements h.params h.control.prob (Steps.delay_in h (bytes_of waiting)) h.control.old_delay
@@ -34,7 +34,7 @@ prob-next opening before event step active = grind (arith, nat_tests, updated-pr
 -- ---- any other event
 
 -- a command that is no update of an active controller leaves the probability unchanged or resets it
-pub stays-or-zero : (h : Held) (waiting : List Waiting) (packets : ℕ) (command : Command) (answer : Answer)
+pub stays-or-zero : (h : ControllerState) (waiting : List Waiting) (packets : ℕ) (command : Command) (answer : Answer)
     → (is_update (deed command answer) ≡ false) ⊎ (h.active ≡ false)
     → (after_call h (call_of waiting packets command)).control.prob ≤ h.control.prob
 stays-or-zero h waiting packets command answer other = grind (arith, nat_tests)
@@ -42,11 +42,11 @@ stays-or-zero h waiting packets command answer other = grind (arith, nat_tests)
 -- ---- an unchanged delay
 
 -- the controller after an event while the delay is steady: its parameters, and its probability
-record Next (delay : ℕ) (elements : Elements) (h g : Held) (updates : Bool) : Type 0 where
+record Next (delay : ℕ) (elements : Elements) (h g : ControllerState) (updates : Bool) : Type 0 where
   params : g.params ≡ h.params
   prob : g.control.prob ≡ (if updates then next elements h.params h.control.prob delay delay else h.control.prob)
 
-same-next : (delay : ℕ) (h : Held) (waiting : List Waiting) (packets : ℕ) (command : Command) (answer : Answer) → KeepsParams command
+same-next : (delay : ℕ) (h : ControllerState) (waiting : List Waiting) (packets : ℕ) (command : Command) (answer : Answer) → KeepsParams command
     → is_reset (deed command answer) ≡ false → h.active ≡ true
     → (is_update (deed command answer) ≡ true → Steps.delay_in h (bytes_of waiting) ≡ delay)
     → (is_update (deed command answer) ≡ true → h.control.old_delay ≡ delay)
@@ -80,7 +80,7 @@ steadily delay opening before between later lawful steady =
         let moved : Next delay opening.choices.elements h (held_after opening (earlier ++ event ∷ [])) (is_update (deed_of event)) =
         subst (λ (e : Elements). Next delay e h (held_after opening (earlier ++ event ∷ [])) (is_update (deed_of event)))
         (elements-is opening earlier)
-        (subst (λ (g : Held). Next delay h.elements h g (is_update (deed_of event))) (sym step.held)
+        (subst (λ (g : ControllerState). Next delay h.elements h g (is_update (deed_of event))) (sym step.held)
         (same-next delay h (waiting_after opening earlier) opening.limits.packets event.command event.answer here.keeps here.unreset here.active
         here.delay_now here.delay_old)) in
         rw (

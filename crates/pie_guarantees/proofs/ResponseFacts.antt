@@ -2,7 +2,7 @@
 use Rattle.pie_guarantees.proofs.Names.{◌≡◌, ◌≤◌, ◌<◌, ◌+◌, ◌*◌, ◌-◌, ◌/◌, ◌^◌, ℕ, zero, suc, List, [], ◌∷◌, ◌++◌, true, false, refl, sym, ap, ◌∙◌}
 use Rattle.pie_guarantees.proofs.Names.{arith, subst, min, max, nat_tests, clamps, ints, BetweenAny, AllAlong, IsLawful, Elements, RawParams, decayed}
 use Rattle.pie_guarantees.proofs.Names.{decays, next, tuned_step, raw_step, tuning_divisor, next-hold, in-range, deed, is_update, after_call, call_of}
-use Rattle.pie_guarantees.proofs.Names.{Held, Waiting, Command, Update, Answer, Event, Opening, bytes_of, active_after, held_after, params_after}
+use Rattle.pie_guarantees.proofs.Names.{ControllerState, Waiting, Command, Update, Answer, Event, Opening, bytes_of, active_after, held_after, params_after}
 use Rattle.pie_guarantees.proofs.Names.{waiting_after, updates_in, KeepsParams, untuned_fall, Bool, nat_lt, if◌then◌else◌, append_assoc, Empty}
 use Rattle.pie_guarantees.proofs.Names.{after_updates, usual, default_profile, deed_of, is_reset, bytes_after, burst_left, untuned_rise}
 use Rattle.pie_guarantees.proofs.Names.{updates_to_a_tenth, probability_after, is_considered, ◌&&◌}
@@ -120,7 +120,7 @@ bound-falls fall m (suc n) =
 -- ---- the controller's numbers from call to call
 
 -- after n updates without delay
-record Falls (fall n : ℕ) (h : Held) : Type 0 where
+record Falls (fall n : ℕ) (h : ControllerState) : Type 0 where
   prob : h.control.prob ≤ bound fall n
   old : 1 ≤ n → h.active ≡ true → h.control.old_delay ≡ 0
   off : h.active ≡ false → h.control.burst ≡ h.params.max_burst
@@ -128,12 +128,12 @@ record Falls (fall n : ℕ) (h : Held) : Type 0 where
   whole : 2 ≤ n → bound fall n ≡ 0 → h.control.burst ≡ h.params.max_burst
   far : fall ≤ untuned_fall h.params 0
 
-falls-update : (fall n : ℕ) (h : Held) (queued moment : ℕ) → 0 < h.params.target → h.control.prob ≤ 10 ^ 12
+falls-update : (fall n : ℕ) (h : ControllerState) (queued moment : ℕ) → 0 < h.params.target → h.control.prob ≤ 10 ^ 12
     → (h.active ≡ true → Steps.delay_in h queued ≡ 0) → Falls fall n h → Falls fall (suc n) (Steps.updated h queued moment)
 unfolding bound
 falls-update fall n h queued moment some within free old = grind (arith, nat_tests, next-hold, next-under)
 
-falls-next : (fall n : ℕ) (h : Held) (waiting : List Waiting) (packets : ℕ) (command : Command) → 0 < h.params.target → h.control.prob ≤ 10 ^ 12
+falls-next : (fall n : ℕ) (h : ControllerState) (waiting : List Waiting) (packets : ℕ) (command : Command) → 0 < h.params.target → h.control.prob ≤ 10 ^ 12
     → KeepsParams command → (is_update (deed command Empty) ≡ true → h.active ≡ true → Steps.delay_in h (bytes_of waiting) ≡ 0) → Falls fall n h
     → Falls fall (counted_with command n) (after_call h (call_of waiting packets command))
 falls-next fall n h waiting packets (Update moment) some within keeps free old =
@@ -209,13 +209,13 @@ as_slow = (refl, refl, refl, refl)
 -- ---- a lasting delay
 
 -- after n updates of a lasting delay, from this burst allowance
-record Climbs (least burst n : ℕ) (params : RawParams) (h : Held) : Type 0 where
+record Climbs (least burst n : ℕ) (params : RawParams) (h : ControllerState) : Type 0 where
   same : h.params ≡ params
   prob : lows params least n ≤ h.control.prob
   left : h.control.burst ≤ burst - n * params.t_update
   old : 1 ≤ n → least ≤ h.control.old_delay
 
-climbs-update : (least burst n : ℕ) (h : Held) (queued moment : ℕ) → 0 < h.params.target → h.params.target ≤ least → h.active ≡ true
+climbs-update : (least burst n : ℕ) (h : ControllerState) (queued moment : ℕ) → 0 < h.params.target → h.params.target ≤ least → h.active ≡ true
     → least ≤ Steps.delay_in h queued → h.control.old_delay ≤ Steps.delay_in h queued → Climbs least burst n h.params h
     → Climbs least burst (suc n) h.params (Steps.updated h queued moment)
 climbs-update least burst n h queued moment some above on high grown old =
@@ -226,7 +226,7 @@ climbs-update least burst n h queued moment some above on high grown old =
     let was = old.left in
     record { same = refl; prob = grind (arith, nat_tests); left = grind (arith, nat_tests); old = λ n. grind (arith, nat_tests) }
 
-climbs-next : (least burst n : ℕ) (params : RawParams) (h : Held) (waiting : List Waiting) (packets : ℕ) (command : Command) → 0 < h.params.target
+climbs-next : (least burst n : ℕ) (params : RawParams) (h : ControllerState) (waiting : List Waiting) (packets : ℕ) (command : Command) → 0 < h.params.target
     → h.params.target ≤ least → h.active ≡ true → KeepsParams command → is_reset (deed command Empty) ≡ false
     → (is_update (deed command Empty) ≡ true
     → (least ≤ Steps.delay_in h (bytes_of waiting)) × (h.control.old_delay ≤ Steps.delay_in h (bytes_of waiting)))
@@ -294,7 +294,7 @@ unfolding BetweenAny
 burst_used least opening before between later lawful above lasts many =
     let left = (climbs-after least opening before between later lawful above lasts).left in omega (arith, left, many)
 
-considers : (h : Held) (bytes : ℕ) → h.active ≡ true → h.control.burst ≡ 0 → 0 < h.params.target → h.params.target ≤ h.control.old_delay
+considers : (h : ControllerState) (bytes : ℕ) → h.active ≡ true → h.control.burst ≡ 0 → 0 < h.params.target → h.params.target ≤ h.control.old_delay
     → 2 * h.params.mean_pkt < bytes → (h.active && is_considered h.params h.control bytes) ≡ true
 unfolding is_considered
 considers h bytes on none some high long = grind (arith, nat_tests)

@@ -3,7 +3,7 @@
 use Rattle.pie_guarantees.proofs.Names.{◌≡◌, ◌≤◌, ◌<◌, ◌+◌, ◌*◌, ◌^◌, ◌&&◌, ◌||◌, ◌==◌, not, ⊤, ℕ, List, [], ◌∷◌, ◌++◌, Bool, true}
 use Rattle.pie_guarantees.proofs.Names.{refl, sym, ap, ◌∙◌, if◌then◌else◌, AtEachEvent, BetweenAny, Packet, append_assoc, sum_by-cons, mul-le}
 use Rattle.pie_guarantees.proofs.Names.{arith, nat_tests, bytes_of, counted_as, is_considered, div-le_of_le-mul, RawParams}
-use Rattle.pie_guarantees.proofs.Names.{is_picked, deed, answer_of, after_call, Held, Waiting, ArrivingPacket, Command}
+use Rattle.pie_guarantees.proofs.Names.{is_picked, deed, answer_of, after_call, ControllerState, Waiting, ArrivingPacket, Command}
 use Rattle.pie_guarantees.proofs.Names.{Arrive, Answer, Event, Opening, arrival_of, call_of, answer_by, held_after, waiting_after}
 use Rattle.pie_guarantees.proofs.Names.{is_dropped_bytes, is_dropped_packets, is_reset, AllAlong, IsLawful, IsEarly, is_early, held_of}
 use Rattle.pie_params.specs.declared.elements.Picking.TheVariants.{Derandomized}
@@ -18,28 +18,28 @@ use Rattle.pie_guarantees.proofs.ProbabilityFacts.{elements-is}
 -- ---- one command
 
 -- the counted probability of a packet of this size, and the condition for considering a packet
-abbrev q-of : Held → ℕ → ℕ
+abbrev q-of : ControllerState → ℕ → ℕ
 q-of h size = counted_as h.elements.size h.params size h.control.prob
 
-abbrev con-of : Held → ℕ → Bool
+abbrev con-of : ControllerState → ℕ → Bool
 con-of h bytes = h.active && is_considered h.params h.control bytes
 
-abbrev considers : Held → ℕ → Command → Answer → Bool
+abbrev considers : ControllerState → ℕ → Command → Answer → Bool
 considers h bytes command answer = had_room (deed command answer) && con-of h bytes
 
 -- the effect of a command on the accumulated probability: a pick takes 0.85 to 9.5 off it, and any other restart less than 8.5
-record Adds (h g : Held) (considered early anew : Bool) (q : ℕ) : Type 0 where
+record Adds (h g : ControllerState) (considered early anew : Bool) (q : ℕ) : Type 0 where
   at_least : g.accu + (if early then 850_000_000_000 else 0) ≤ h.accu + (if considered then q else 0)
   at_most : h.accu + (if considered then q else 0)
       ≤ g.accu + (if early then 9_500_000_000_000 else 0) + (if anew then 8_500_000_000_000 else 0)
 
-abbrev restarts : Held → Held → ℕ → Command → Answer → Bool
+abbrev restarts : ControllerState → ControllerState → ℕ → Command → Answer → Bool
 restarts h g bytes command answer =
     (is_dropped_bytes (deed command answer) || is_dropped_packets (deed command answer)) || is_reset (deed command answer)
     || (not h.active && g.active) || (considers h bytes command answer && (q-of h (arriving_size command) == 0))
 
 -- the state before the controller is turned on, if it is
-adds-verdict : (h : Held) (a : ArrivingPacket) (moment word : ℕ) (packet : Packet) → h.elements.picking ≡ Derandomized → h.accu < 8_500_000_000_000
+adds-verdict : (h : ControllerState) (a : ArrivingPacket) (moment word : ℕ) (packet : Packet) → h.elements.picking ≡ Derandomized → h.accu < 8_500_000_000_000
     → q-of h a.size ≤ 10 ^ 12
     → Adds h (Steps.judged h a moment) (considers h a.queued (Arrive moment packet word) (answer_of (Steps.verdict h a)))
     (is_early (answer_of (Steps.verdict h a)))
@@ -50,7 +50,7 @@ adds-verdict : (h : Held) (a : ArrivingPacket) (moment word : ℕ) (packet : Pac
 unfolding Steps.verdict Steps.accu_left is_picked
 adds-verdict h a moment word packet spaced small counts = record { at_least = grind (arith, nat_tests); at_most = grind (arith, nat_tests) }
 
-adds : (h : Held) (waiting : List Waiting) (packets : ℕ) (command : Command) → h.elements.picking ≡ Derandomized → h.accu < 8_500_000_000_000
+adds : (h : ControllerState) (waiting : List Waiting) (packets : ℕ) (command : Command) → h.elements.picking ≡ Derandomized → h.accu < 8_500_000_000_000
     → q-of h (arriving_size command) ≤ 10 ^ 12
     → let g = after_call h (call_of waiting packets command) in let answer = answer_by h waiting packets command in
     Adds h g (considers h (bytes_of waiting) command answer) (is_early answer) (restarts h g (bytes_of waiting) command answer)
@@ -64,7 +64,7 @@ adds h waiting packets _ spaced small counts = record { at_least = grind (arith,
 
 -- ---- a pick resets the accumulated probability
 
-left-zero : (h : Held) (waiting : List Waiting) (packets : ℕ) (command : Command) → is_early (answer_by h waiting packets command) ≡ true
+left-zero : (h : ControllerState) (waiting : List Waiting) (packets : ℕ) (command : Command) → is_early (answer_by h waiting packets command) ≡ true
     → (after_call h (call_of waiting packets command)).accu ≡ 0
 unfolding Steps.verdict Steps.accu_left
 left-zero h waiting packets command e = grind (arith, nat_tests)
@@ -73,7 +73,7 @@ pub picks_clear : AtEachEvent (λ opening before event. IsEarly event → Book.a
 unfolding AtEachEvent
 picks_clear opening before event later lawful early =
     let step = step_at opening before event later lawful in
-    ap (λ (g : Held). g.accu) step.held
+    ap (λ (g : ControllerState). g.accu) step.held
     ∙ left-zero (held_after opening before) (waiting_after opening before) opening.limits.packets event.command
     (ap (λ (a : Answer). is_early a) (sym step.here.answered) ∙ early)
 

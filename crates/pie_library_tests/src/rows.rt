@@ -236,9 +236,9 @@ pub(crate) fn runs_end(alloc: Global) -> bool {
 }
 
 /// Returns true if a run of at most this many records meets one more, and writes this text.
-fn is_too_long<R: Read + Drop>(alloc: Global, trace: R, most: u64, wanted: &[u8]) -> bool {
+fn is_too_long<R: Read + Drop>(alloc: Global, trace: R, max_records: u64, wanted: &[u8]) -> bool {
     let mut writer = Compared::with(wanted);
-    let fault = run_trace_within(alloc, trace, &mut writer, most).err();
+    let fault = run_trace_within(alloc, trace, &mut writer, max_records).err();
     fault == Some(TraceFault::TooLong) && writer.is_all()
 }
 

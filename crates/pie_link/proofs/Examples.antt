@@ -50,22 +50,22 @@ callers_of_seats = refl
 -- ---- entries
 
 -- a caller's departure from an empty queue
-abbrev asked : ℕ → Event
-asked caller = record { caller = caller; command = Depart 1; answer = Empty }
+abbrev empty_by : ℕ → Event
+empty_by caller = record { caller = caller; command = Depart 1; answer = Empty }
 
 -- five events of the callers 0 to 2, with two folds between, of one event and of two
 abbrev history : List Entry
-history = Applied (asked 0) ∷ Applied (asked 1) ∷ Folded 2 1 ∷ Applied (asked 2) ∷ Applied (asked 1) ∷ Folded 1 2 ∷ Applied (asked 0) ∷ []
+history = Applied (empty_by 0) ∷ Applied (empty_by 1) ∷ Folded 2 1 ∷ Applied (empty_by 2) ∷ Applied (empty_by 1) ∷ Folded 1 2 ∷ Applied (empty_by 0) ∷ []
 
-events_of_history : events_in history ≡ asked 0 ∷ asked 1 ∷ asked 2 ∷ asked 1 ∷ asked 0 ∷ []
+events_of_history : events_in history ≡ empty_by 0 ∷ empty_by 1 ∷ empty_by 2 ∷ empty_by 1 ∷ empty_by 0 ∷ []
 events_of_history = refl
 
 -- in a bounded link the folds return events 1, 2 and 3, and the log has events 4 and 5
 module _ (opening : Opening) (bounded : opening.choices.mode ≡ Bounded) where
-  tail_of_bounded : tail_in opening history ≡ asked 1 ∷ asked 0 ∷ []
+  tail_of_bounded : tail_in opening history ≡ empty_by 1 ∷ empty_by 0 ∷ []
   tail_of_bounded = rw bounded refl
 
-  handed_by_bounded : folded_events opening history ≡ asked 0 ∷ asked 1 ∷ asked 2 ∷ []
+  handed_by_bounded : folded_events opening history ≡ empty_by 0 ∷ empty_by 1 ∷ empty_by 2 ∷ []
   handed_by_bounded = rw bounded refl
 
 -- a rolling link with room for two: with event 4, event 2 leaves the log without a fold. The second fold returns events
@@ -74,7 +74,7 @@ left_when_two_fit : left_when_rolling 2 0 history ≡ 4
 left_when_two_fit = refl
 
 -- without folds, only events for which there is no room have left the log
-left_without_folds : left_when_rolling 2 0 (Applied (asked 0) ∷ Applied (asked 1) ∷ Applied (asked 2) ∷ []) ≡ 1
+left_without_folds : left_when_rolling 2 0 (Applied (empty_by 0) ∷ Applied (empty_by 1) ∷ Applied (empty_by 2) ∷ []) ≡ 1
 left_without_folds = refl
 
 -- ---- bursts
@@ -101,8 +101,8 @@ packet tag size = record { tag = tag; size = size; ecn = NotEct }
 abbrev replied : Answer → ℕ → Reply
 replied answer number = Ok (record { answer = answer; number = number })
 
-abbrev made : Command → Answer → Entry
-made command answer = Applied (record { caller = 1; command = command; answer = answer })
+abbrev applied : Command → Answer → Entry
+applied command answer = Applied (record { caller = 1; command = command; answer = answer })
 
 -- three packets: the first and the third are too large for the queue, and the second has no bytes
 abbrev three : List Command
@@ -114,7 +114,7 @@ unfolding worked
 replies_to_three = refl
 
 entries_to_three : entries_within None always (opened 8) 1 [] [] three
-    ≡ made (Arrive 1 (packet 7 1500) 0) DroppedBytes ∷ made (Arrive 1 (packet 9 1001) 0) DroppedBytes ∷ []
+    ≡ applied (Arrive 1 (packet 7 1500) 0) DroppedBytes ∷ applied (Arrive 1 (packet 9 1001) 0) DroppedBytes ∷ []
 unfolding worked
 entries_to_three = refl
 
@@ -125,7 +125,7 @@ replies_where_one_fits = refl
 
 -- two packets in the queue
 abbrev two_wait : List Entry
-two_wait = made (Arrive 1 (packet 7 500) 0) Enqueued ∷ made (Arrive 1 (packet 9 64) 0) Enqueued ∷ []
+two_wait = applied (Arrive 1 (packet 7 500) 0) Enqueued ∷ applied (Arrive 1 (packet 9 64) 0) Enqueued ∷ []
 
 -- at most five departures: both packets depart, in order; the third departure finds the queue empty and ends the burst
 replies_to_departures : replies_within None has_left (opened 8) 1 two_wait [] (departures 5 2)

@@ -47,22 +47,10 @@ while_free look_back opening numbers lock history holder owner agreed free =
       (kept.folds, free.2.1),
       (
         history,
-        subst (λ (o : Opening). IsOneHistory o book (callers_of lock.views) history) free.2.2 (record {
-          opened = refl;
-          represents = represents;
-          legal = represents.running.legal;
-          begins = at_all (Follows number_of opening numbers history) (BeginsWith history) (λ p f. f.shown) lock.views follow;
-          calls = at_all (Follows number_of opening numbers history) (HasCallsOf history) (λ p f. f.owned) lock.views follow;
-          ends = represents.tail;
-          tail = represents_list.tail;
-          nothing_lost = represents_list.nothing_lost;
-          queue = represents.running.waiting;
-          registers = look_back book.opening book.running (events_in history) represents.running;
-          stats = represents.running.stats;
-          accepted = represents_list.accepted;
-          in_range = represents_list.in_range;
-          set = represents_list.set;
-        }),
+        rw (← free.2.2) (
+            let begins = at_all (Follows number_of opening numbers history) (BeginsWith history) (λ p f. f.shown) lock.views follow in
+            let calls = at_all (Follows number_of opening numbers history) (HasCallsOf history) (λ p f. f.owned) lock.views follow in
+            let registers = look_back book.opening book.running (events_in history) represents.running in grind arith),
       ),
     )
 

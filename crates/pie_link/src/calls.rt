@@ -42,8 +42,8 @@ impl Link {
         ensures answered { TriesToAnswer self.now caller.old (Arrive moment packet word) result caller.new }
         ensures stays { StaysOne caller.old caller.new }
     {
-        let asked = (self, moment, packet, word);
-        replace_with(&mut caller.pass, asked, turn::try_arrive)
+        let request = (self, moment, packet, word);
+        replace_with(&mut caller.pass, request, turn::try_arrive)
     }
 
     /// Takes the next packet from the queue (see `Command::Depart`). It never blocks.
@@ -79,8 +79,8 @@ impl Link {
         ensures answered { TriesToAnswer self.now caller.old (Update moment) result caller.new }
         ensures stays { StaysOne caller.old caller.new }
     {
-        let asked = (self, &Command::Update { moment });
-        replace_with(&mut caller.pass, asked, turn::try_apply)
+        let request = (self, &Command::Update { moment });
+        replace_with(&mut caller.pass, request, turn::try_apply)
     }
 
     /// Resets the probability, the delays and the rate estimate (see `Command::Reset`). It never blocks.
@@ -98,8 +98,8 @@ impl Link {
         ensures answered { TriesToAnswer self.now caller.old (Reset moment) result caller.new }
         ensures stays { StaysOne caller.old caller.new }
     {
-        let asked = (self, &Command::Reset { moment });
-        replace_with(&mut caller.pass, asked, turn::try_apply)
+        let request = (self, &Command::Reset { moment });
+        replace_with(&mut caller.pass, request, turn::try_apply)
     }
 
     /// Sets the parameters from the next event on (see `Command::SetParams`). It never blocks.
@@ -118,8 +118,8 @@ impl Link {
         ensures answered { TriesToAnswer self.now caller.old (SetParams moment params) result caller.new }
         ensures stays { StaysOne caller.old caller.new }
     {
-        let asked = (self, &Command::SetParams { moment, params });
-        replace_with(&mut caller.pass, asked, turn::try_apply)
+        let request = (self, &Command::SetParams { moment, params });
+        replace_with(&mut caller.pass, request, turn::try_apply)
     }
 
     /// Decides an arrival with the caller's random word `word` (see `Command::Arrive`). If another caller has the book,
@@ -140,8 +140,8 @@ impl Link {
         ensures answered { Answers self.now caller.old (Arrive moment packet word) result caller.new }
         ensures stays { StaysOne caller.old caller.new }
     {
-        let asked = (self, rt, moment, packet, word);
-        replace_with(&mut caller.pass, asked, turn::wait_and_arrive)
+        let request = (self, rt, moment, packet, word);
+        replace_with(&mut caller.pass, request, turn::wait_and_arrive)
     }
 
     /// Takes the next packet from the queue (see `Command::Depart`). If another caller has the book, the call waits.
@@ -177,8 +177,8 @@ impl Link {
         ensures answered { Answers self.now caller.old (Update moment) result caller.new }
         ensures stays { StaysOne caller.old caller.new }
     {
-        let asked = (self, rt, &Command::Update { moment });
-        replace_with(&mut caller.pass, asked, turn::wait_and_apply)
+        let request = (self, rt, &Command::Update { moment });
+        replace_with(&mut caller.pass, request, turn::wait_and_apply)
     }
 
     /// Resets the probability, the delays and the rate estimate (see `Command::Reset`). If another caller has the book,
@@ -197,8 +197,8 @@ impl Link {
         ensures answered { Answers self.now caller.old (Reset moment) result caller.new }
         ensures stays { StaysOne caller.old caller.new }
     {
-        let asked = (self, rt, &Command::Reset { moment });
-        replace_with(&mut caller.pass, asked, turn::wait_and_apply)
+        let request = (self, rt, &Command::Reset { moment });
+        replace_with(&mut caller.pass, request, turn::wait_and_apply)
     }
 
     /// Sets the parameters from the next event on (see `Command::SetParams`). If another caller has the book, the call
@@ -218,8 +218,8 @@ impl Link {
         ensures answered { Answers self.now caller.old (SetParams moment params) result caller.new }
         ensures stays { StaysOne caller.old caller.new }
     {
-        let asked = (self, rt, &Command::SetParams { moment, params });
-        replace_with(&mut caller.pass, asked, turn::wait_and_apply)
+        let request = (self, rt, &Command::SetParams { moment, params });
+        replace_with(&mut caller.pass, request, turn::wait_and_apply)
     }
 
     /// Folds the oldest `n` events of the event log and returns them, oldest first. The log then has room for `n` more
@@ -287,13 +287,13 @@ impl Link {
         ensures capacity { vec_capacity events.new ≡ vec_capacity events.old }
         ensures stays { StaysOne caller.old caller.new }
     {
-        let mine = replace(events, Vec::new(self.alloc));
-        let (mine, result) = replace_with(
+        let buffer = replace(events, Vec::new(self.alloc));
+        let (buffer, result) = replace_with(
             &mut caller.pass,
-            (self, most, mine),
+            (self, most, buffer),
             turn::try_fold_into,
         );
-        *events = mine;
+        *events = buffer;
         result
     }
 
@@ -359,9 +359,9 @@ impl Link {
         ensures filled { FillsExcerpt self.now caller.old result excerpt.old excerpt.new caller.new }
         ensures stays { StaysOne caller.old caller.new }
     {
-        let asked = (self, rt, excerpt.take(self.alloc));
-        let (mine, result) = replace_with(&mut caller.pass, asked, turn::wait_and_fill);
-        *excerpt = mine;
+        let request = (self, rt, excerpt.take(self.alloc));
+        let (filled, result) = replace_with(&mut caller.pass, request, turn::wait_and_fill);
+        *excerpt = filled;
         result
     }
 
@@ -380,9 +380,9 @@ impl Link {
         ensures filled { TriesToFillExcerpt self.now caller.old result excerpt.old excerpt.new caller.new }
         ensures stays { StaysOne caller.old caller.new }
     {
-        let asked = (self, excerpt.take(self.alloc));
-        let (mine, result) = replace_with(&mut caller.pass, asked, turn::try_fill);
-        *excerpt = mine;
+        let request = (self, excerpt.take(self.alloc));
+        let (filled, result) = replace_with(&mut caller.pass, request, turn::try_fill);
+        *excerpt = filled;
         result
     }
 }

@@ -115,15 +115,15 @@ impl Link {
         requires room { 1 ≤ book.opening.limits.tail }
         requires accepted { opening_refusal book.opening.limits book.opening.moment ≡ None }
         requires in_range { first_bad book.opening.params ≡ None }
-        ensures origin { IfSome result (λ made. made.0.origin ≡ Some book.opening) }
-        ensures numbers { IfSome result (λ made. made.0.numbers ≡ callers) }
-        ensures pass { IfSome result (λ made. made.1 ≡ first_pass made.0 callers) }
+        ensures origin { IfSome result (λ opened. opened.0.origin ≡ Some book.opening) }
+        ensures numbers { IfSome result (λ opened. opened.0.numbers ≡ callers) }
+        ensures pass { IfSome result (λ opened. opened.1 ≡ first_pass opened.0 callers) }
     {
         let Ok(book) = Box::new(alloc, book) else {
             return None;
         };
         match RuledLock::new(alloc, KeptBook::new(book), callers) {
-            Ok(made) => Some(made),
+            Ok(opened) => Some(opened),
             Err(_) => None,
         }
     }

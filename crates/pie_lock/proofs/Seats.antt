@@ -1,23 +1,20 @@
 -- Entries under the numbers of a range, and the seats against one history: if numbers are split, if the history grows,
 -- and if two passes become one.
 use Rattle.pie_lock.proofs.Names.{◌≡◌, ℕ, ◌≤◌, false, List, [], ◌∷◌, ◌++◌, length, refl, subst, arith, append-nil, nat_tests, append_cancel_left}
-use Rattle.pie_lock.proofs.Names.{All-cons, All-drop, All-head, All-nil, All-tail, All-take, filter-append, All, is_within, own, Extends, ◌≢◌, zero}
+use Rattle.pie_lock.proofs.Names.{All-drop, All-head, All-nil, All-tail, All-take, filter-append, All, is_within, own, Extends, ◌≢◌, zero}
 use Rattle.pie_lock.proofs.Names.{suc, ◌<◌, ◌⊎◌, Bool, true, cond, Option, get_or, min, max, set, ap, sym, ◌∙◌, inl, inr, ⊎_elim, append_assoc}
 use Rattle.pie_lock.proofs.Names.{All-append, at_set, set_else, Agreed, EachPass, Follows, IsNumberAt, IsNumberOf, IsSeated, AreAdjacent, HasAll}
 use Rattle.pie_lock.proofs.Names.{longer, made_one, with_front, with_numbers, Place, Holds, HasTwo, Spent, Waits, PassKnowledge}
 use Rattle.std.proofs.Math.Seq.{take-append_seam, drop-append_seam}
 use Rattle.std.proofs.Math.Dec.{ltb}
 use lib.ListN.{get_elem?}
-use mathlib.Core.Option.{some, some-injective}
+use mathlib.Core.Option.{some}
 
 -- of two prefixes of one list the shorter is a prefix of the longer, and its rest begins with the part between
 pub between : {A : Type 0} (xs r ys s : List A) → xs ++ r ≡ ys ++ s → length xs ≤ length ys → (m : List A) × (xs ++ m ≡ ys) × (r ≡ m ++ s)
 between [] r ys s e le = (ys, refl, e)
 between (x ∷ xs) r [] s e le = absurd (omega arith)
-between (x ∷ xs) r (y ∷ ys) s e le =
-    let heads : x ≡ y = cc (e) in
-    let t = between xs r ys s (cc (e)) (omega arith) in
-    (t.0, cc (heads, t.1), t.2)
+between (x ∷ xs) r (y ∷ ys) s e le = grind (arith, nat_tests, between xs r ys s (cc (e)) (omega arith))
 
 pub all_parts : {A : Type 0} (P : A → Type 0) (xs ys : List A) → All P (xs ++ ys) → All P xs × All P ys
 all_parts P xs ys all = (
@@ -42,16 +39,11 @@ module _ {E : Type 0} (number : E → ℕ) (first limit : ℕ) where
 
   none_own : (entries : List E) → mine entries ≡ [] → NoneOwn entries
   none_own [] none = All-nil (λ e. is_within first limit (number e) ≡ false)
-  none_own (e ∷ rest) none =
-      All-cons (λ x. is_within first limit (number x) ≡ false) e rest (grind (arith, nat_tests)) (none_own rest (grind (arith, nat_tests)))
+  none_own (e ∷ rest) none = grind (arith, nat_tests, none_own rest (grind (arith, nat_tests)))
 
   -- a history continues a front if it begins with it and no further entry has one of its numbers
   pub goes_on : (front rest history : List E) → front ++ rest ≡ history → NoneOwn rest → Extends number first limit front history
-  goes_on front rest history is none = (
-    (rest, is),
-    let nothing = own_none rest none in
-        let cut = filter-append (λ e. is_within first limit (number e)) front rest in grind (arith, append-nil),
-  )
+  goes_on front rest history is none = grind (arith, nat_tests, own_none, filter-append, append-nil)
 
   pub gone_on : (front history : List E) → Extends number first limit front history → (rest : List E) × (front ++ rest ≡ history) × NoneOwn rest
   gone_on front history on =
@@ -76,8 +68,7 @@ module _ {A : Type 0} where
 
   -- the other elements are unchanged
   pub set_beside : (l : List A) (i j : ℕ) (a b c : A) → get_elem? l i ≡ some b → get_elem? l j ≡ some c → (b ≡ c → ⊥) → get_elem? (set l i a) j ≡ some c
-  set_beside l i j a b c at there other =
-      set_else l i j a (λ is. other (some-injective b c (sym at ∙ (ap (get_elem? l) (sym is) ∙ there)))) ∙ there
+  set_beside l i j a b c at there other = grind (arith, nat_tests, set_else)
 
   -- an element of a list with one more element is one of the list, or the last one
   at_end : (l : List A) (a b : A) (j : ℕ) → get_elem? (l ++ a ∷ []) j ≡ some b → (get_elem? l j ≡ some b) ⊎ ((j ≡ length l) × (a ≡ b))
@@ -112,14 +103,7 @@ module _ {E O : Type 0} (number : E → ℕ) (origin : O) (numbers : ℕ) where
   -- a pass with the same knowledge of the lock
   follows : (history next : List E) (p q : PassKnowledge E O) → Fits history p → q.numbers ≡ p.numbers → q.origin ≡ p.origin
       → Extends number q.first q.limit q.front next → q.first < q.limit → q.limit ≤ numbers → Fits next q
-  follows history next p q f same from on left low = record {
-    shown = on.0;
-    owned = on.1;
-    nonempty = left;
-    below = low;
-    of_all = same ∙ f.of_all;
-    of_origin = from ∙ f.of_origin;
-  }
+  follows history next p q f same from on left low = grind (arith, nat_tests)
 
   -- a pass with some of the numbers
   pub follows_fewer : (history : List E) (p : PassKnowledge E O) (first limit : ℕ) → Fits history p → p.first ≤ first → limit ≤ p.limit → first < limit
@@ -221,8 +205,7 @@ module _ {E O : Type 0} (number : E → ℕ) (origin : O) (numbers : ℕ) where
       → All (λ e. number e < numbers) next → Agreed number origin numbers next holder owner (set views id w)
   agreed_set next holder owner views id w mine others below = record {
     seated = λ j u e. ⊎_elim
-        (λ t. subst (λ (v : Place E O). IsSeated number origin numbers next holder owner j v) t.1
-        (subst (λ (k : ℕ). IsSeated number origin numbers next holder owner k w) (sym t.0) mine))
+        (λ t. rw (t.0, ← t.1) mine)
         (λ t. others j u t.0 t.1) (at_set views id j w u e);
     entries_below = below;
   }
@@ -233,7 +216,6 @@ module _ {E O : Type 0} (number : E → ℕ) (origin : O) (numbers : ℕ) where
       → Agreed number origin numbers history holder owner (views ++ w ∷ [])
   agreed_longer history holder owner views w agreed new = record {
     seated = λ j u e. ⊎_elim (agreed.seated j u)
-        (λ t. subst (λ (v : Place E O). IsSeated number origin numbers history holder owner j v) t.1
-        (subst (λ (k : ℕ). IsSeated number origin numbers history holder owner k w) (sym t.0) new)) (at_end views w u j e);
+        (λ t. rw (t.0, ← t.1) new) (at_end views w u j e);
     entries_below = agreed.entries_below;
   }

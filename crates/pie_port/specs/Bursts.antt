@@ -9,39 +9,39 @@ use Rattle.pie_port.specs.Events.{refusal_number, answered_event, command_in, ha
 
 -- the call of an event of a burst; any burst may contain updates
 abbrev pub call_of_event : EventCall → PieEvent → EventCall
-call_of_event asked e = if e.kind == 3 then Update else asked
+call_of_event call e = if e.kind == 3 then Update else call
 
 -- the command of an event. For an invalid ECN field it is an arrival of no bytes, which is always refused and changes
 -- nothing
 abbrev pub command_unless : Bool → EventCall → PieEvent → Command
-command_unless true asked e = command.Arrive e.moment (record (packet_in e) { size = 0 }) e.word
-command_unless false asked e = command_in asked e
+command_unless true call e = command.Arrive e.moment (record (packet_in e) { size = 0 }) e.word
+command_unless false call e = command_in call e
 
-abbrev pub asks : EventCall → PieEvent → Command
-asks asked e = command_unless (has_bad_ecn (call_of_event asked e) e) (call_of_event asked e) e
+abbrev pub command_by : EventCall → PieEvent → Command
+command_by call e = command_unless (has_bad_ecn (call_of_event call e) e) (call_of_event call e) e
 
 -- the event after a result, with the caller's number
 abbrev pub replied : EventCall → ℕ → PieEvent → Reply → PieEvent
-replied asked caller e (Ok reply) = under caller (answered_event asked e reply.answer)
-replied asked caller e (Err why) = under caller (numbered_event asked e (refusal_number why))
+replied call caller e (Ok reply) = under caller (answered_event call e reply.answer)
+replied call caller e (Err why) = under caller (numbered_event call e (refusal_number why))
 
 -- the event after a result, unless its ECN field is invalid
 abbrev pub event_answered_unless : Bool → EventCall → ℕ → PieEvent → Reply → PieEvent
-event_answered_unless true asked caller e reply = under caller (numbered_event asked e 111)
-event_answered_unless false asked caller e reply = replied asked caller e reply
+event_answered_unless true call caller e reply = under caller (numbered_event call e 111)
+event_answered_unless false call caller e reply = replied call caller e reply
 
 abbrev pub event_answered : EventCall → ℕ → PieEvent → Reply → PieEvent
-event_answered asked caller e reply = event_answered_unless (has_bad_ecn (call_of_event asked e) e) (call_of_event asked e) caller e reply
+event_answered call caller e reply = event_answered_unless (has_bad_ecn (call_of_event call e) e) (call_of_event call e) caller e reply
 
 -- the events after these results: each has its own, and the events after them are unchanged
 abbrev pub events_answered : EventCall → ℕ → List PieEvent → List Reply → List PieEvent
-events_answered asked caller [] replies = []
-events_answered asked caller (e ∷ es) [] = e ∷ es
-events_answered asked caller (e ∷ es) (reply ∷ replies) = event_answered asked caller e reply ∷ events_answered asked caller es replies
+events_answered call caller [] replies = []
+events_answered call caller (e ∷ es) [] = e ∷ es
+events_answered call caller (e ∷ es) (reply ∷ replies) = event_answered call caller e reply ∷ events_answered call caller es replies
 
 -- `done` of the events, with that caller's number, were decided with these results, and are now `now`
-pub record Took (asked : EventCall) (caller number : ℕ) (events now : List PieEvent) (done : ℕ) (replies : List Reply) : Type 0 where
-  pub events_are : now ≡ events_answered asked caller events replies
+pub record Took (call : EventCall) (caller number : ℕ) (events now : List PieEvent) (done : ℕ) (replies : List Reply) : Type 0 where
+  pub events_are : now ≡ events_answered call caller events replies
   pub counted : done ≡ length replies
   pub same : number ≡ caller
 
@@ -49,12 +49,12 @@ pub record Took (asked : EventCall) (caller number : ℕ) (events now : List Pie
 
 -- the burst was decided: each event after those before it, with no event of another caller between; `count` events were
 -- decided
-pub record IsAnswered (asked : EventCall) (budget : Option ℕ) (continues : Reply → Bool) (before : CallerView) (events : List PieEvent) (count code : ℕ)
+pub record IsAnswered (call : EventCall) (budget : Option ℕ) (continues : Reply → Bool) (before : CallerView) (events : List PieEvent) (count code : ℕ)
     (written : List PieEvent) (after : CallerView) : Type 0 where
   pub replies : List Reply
-  pub answered : AnswersWithin budget continues before.lock before (map (asks asked) events) [] replies after
+  pub answered : AnswersWithin budget continues before.lock before (map (command_by call) events) [] replies after
   pub stays : StaysOne before after
-  pub written_is : written ≡ events_answered asked before.first events replies
+  pub written_is : written ≡ events_answered call before.first events replies
   pub counted : count ≡ length replies
   pub done : code ≡ 0
 
@@ -68,12 +68,12 @@ pub record WasNotTried (before : CallerView) (events : List PieEvent) (count cod
 
 -- the result of a burst at an open port
 abbrev pub IsTriedAll : EventCall → Option ℕ → (Reply → Bool) → CallerView → List PieEvent → ℕ → ℕ → List PieEvent → CallerView → Type 0
-IsTriedAll asked budget continues before events count code written after =
-    IsAnswered asked budget continues before events count code written after ⊎ WasNotTried before events count code written after
+IsTriedAll call budget continues before events count code written after =
+    IsAnswered call budget continues before events count code written after ⊎ WasNotTried before events count code written after
 
 abbrev pub TriesAll : EventCall → Option ℕ → (Reply → Bool) → Option CallerView → List PieEvent → ℕ → ℕ → List PieEvent → Option CallerView → Type 0
-TriesAll asked budget continues port events count code written after =
-    AtPort port code after ((written ≡ events) × (count ≡ 0)) (λ before now. IsTriedAll asked budget continues before events count code written now)
+TriesAll call budget continues port events count code written after =
+    AtPort port code after ((written ≡ events) × (count ≡ 0)) (λ before now. IsTriedAll call budget continues before events count code written now)
 
 -- the budget of a number of bytes; the greatest number is no budget
 abbrev pub budget_of : ℕ → Option ℕ

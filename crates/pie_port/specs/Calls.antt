@@ -39,13 +39,13 @@ pub record IsTried (command : Command) (fills : Result (Told Answer) (Tried Refu
 
 -- the event's call; an ECN field above 3 is refused before it
 abbrev pub IsTriedUnless : Bool → EventCall → CallerView → PieEvent → ℕ → PieEvent → CallerView → Type 0
-IsTriedUnless true asked before e code written after =
-    (code ≡ 111) × (written ≡ under before.first (numbered_event asked e 111)) × (after ≡ before)
-IsTriedUnless false asked before e code written after = IsTried (command_in asked e) (filled asked before.first e) before code written after
+IsTriedUnless true call before e code written after =
+    (code ≡ 111) × (written ≡ under before.first (numbered_event call e 111)) × (after ≡ before)
+IsTriedUnless false call before e code written after = IsTried (command_in call e) (filled call before.first e) before code written after
 
 abbrev pub Tries : EventCall → Option CallerView → PieEvent → ℕ → PieEvent → Option CallerView → Type 0
-Tries asked port e code written after =
-    AtPort port code after (written ≡ e) (λ before now. IsTriedUnless (has_bad_ecn asked e) asked before e code written now)
+Tries call port e code written after =
+    AtPort port code after (written ≡ e) (λ before now. IsTriedUnless (has_bad_ecn call e) call before e code written now)
 
 -- ---- new parameters
 

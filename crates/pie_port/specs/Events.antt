@@ -65,9 +65,9 @@ numbered_event Reset e number = bare_event 4 e number
 
 -- the event with an answer: a departure's packet, an update's numbers
 abbrev pub answered_event : EventCall → PieEvent → Answer → PieEvent
-answered_event asked e (Left packet) = record (numbered_event asked e 0) { tag = packet.tag; size = packet.size; ecn = bits_of packet.ecn }
-answered_event asked e (Updated delay prob burst) = record (numbered_event asked e 0) { delay = delay; prob = prob; burst = burst }
-answered_event asked e answer = numbered_event asked e (answer_number answer)
+answered_event call e (Left packet) = record (numbered_event call e 0) { tag = packet.tag; size = packet.size; ecn = bits_of packet.ecn }
+answered_event call e (Updated delay prob burst) = record (numbered_event call e 0) { delay = delay; prob = prob; burst = burst }
+answered_event call e answer = numbered_event call e (answer_number answer)
 
 -- the event with the caller's number
 abbrev pub under : ℕ → PieEvent → PieEvent
@@ -75,6 +75,6 @@ under caller e = record e { caller = caller }
 
 -- the event after a call with this result; unchanged if the link was busy
 abbrev pub filled : EventCall → ℕ → PieEvent → Result (Told Answer) (Tried Refusal) → PieEvent
-filled asked caller e (Ok reply) = under caller (answered_event asked e reply.answer)
-filled asked caller e (Err Busy) = e
-filled asked caller e (Err (Refused why)) = under caller (numbered_event asked e (refusal_number why))
+filled call caller e (Ok reply) = under caller (answered_event call e reply.answer)
+filled call caller e (Err Busy) = e
+filled call caller e (Err (Refused why)) = under caller (numbered_event call e (refusal_number why))

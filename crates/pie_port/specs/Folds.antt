@@ -3,7 +3,7 @@ use Rattle.std.specs.Prelude.{ℕ, ◌≡◌, List, [], ◌∷◌, ◌++◌, Opt
 use Rattle.pie_port.specs.Names.{bits_of, Answer, Command, SetParams, Event, Refusal, TriesToFoldInto, CallerView, StaysOne, Tried, PieEvent}
 use Rattle.pie_port.specs.Names.{RawParams, Told, arrived_event, bare_event}
 use Rattle.pie_event.specs.declared.command.Command.TheVariants.{Arrive, Depart, Update, Reset}
-use Rattle.pie_port.specs.declared.event_results.EventCall.TheVariants as asked
+use Rattle.pie_port.specs.declared.event_results.EventCall.TheVariants as call
 use Rattle.pie_port.specs.Calls.{AtPort}
 use Rattle.pie_port.specs.Events.{answer_number, answered_event}
 
@@ -30,8 +30,8 @@ blank moment caller = record {
 abbrev pub struct_with : ℕ → Answer → Command → PieEvent
 struct_with caller a (Arrive moment packet word) =
     arrived_event (record (blank moment caller) { tag = packet.tag; word = word; size = packet.size; ecn = bits_of packet.ecn }) (answer_number a)
-struct_with caller a (Depart moment) = answered_event asked.Depart (blank moment caller) a
-struct_with caller a (Update moment) = answered_event asked.Update (blank moment caller) a
+struct_with caller a (Depart moment) = answered_event call.Depart (blank moment caller) a
+struct_with caller a (Update moment) = answered_event call.Update (blank moment caller) a
 struct_with caller a (Reset moment) = bare_event 4 (blank moment caller) (answer_number a)
 struct_with caller a (SetParams moment params) = bare_event 5 (blank moment caller) (answer_number a)
 

@@ -1,6 +1,6 @@
 //! Bursts: several events in one turn, read and written in place in the caller's memory. No call waits or allocates.
 ghost use Rattle.std.specs.Prelude.{◌≡◌, ◌<◌, Bool, drop, length, map, slice_index_or, slice_set, ℕ, None};
-ghost use Rattle.pie_port.specs.{Reply, always, has_left_or_updated, PieEvent, EventCall, Arrive, Depart, asks, command_unless, call_of_event, event_answered};
+ghost use Rattle.pie_port.specs.{Reply, always, has_left_or_updated, PieEvent, EventCall, Arrive, Depart, command_by, command_unless, call_of_event, event_answered};
 ghost use Rattle.pie_port.specs.{has_bad_ecn, IsTriedAll, TriesAll, budget_of};
 
 use crate::code::{BUSY, CLOSED, code_of_refusal};
@@ -20,13 +20,13 @@ use std::marker::PhantomData;
 /// A kind of burst: the call of its events, apart from updates, and the results after which it continues. Each kind is
 /// compiled on its own.
 pub(crate) trait BurstKind {
-    ghost asked: { EventCall };
+    ghost call: { EventCall };
 
     ghost continues: { Reply → Bool };
 
     /// Returns the call of its events.
-    fn asks() -> EventCall
-        ensures { result ≡ asked };
+    fn event_call() -> EventCall
+        ensures { result ≡ call };
 
     /// Returns true if the burst continues after `reply`.
     fn continues_after(reply: &Reply) -> bool
@@ -37,12 +37,12 @@ pub(crate) trait BurstKind {
 pub(crate) struct Arrivals;
 
 impl BurstKind for Arrivals {
-    ghost asked = { Arrive };
+    ghost call = { Arrive };
 
     ghost continues = { always };
 
     #[inline(always)]
-    fn asks() -> EventCall {
+    fn event_call() -> EventCall {
         EventCall::Arrive
     }
 
@@ -56,12 +56,12 @@ impl BurstKind for Arrivals {
 pub(crate) struct Departures;
 
 impl BurstKind for Departures {
-    ghost asked = { Depart };
+    ghost call = { Depart };
 
     ghost continues = { has_left_or_updated };
 
     #[inline(always)]
-    fn asks() -> EventCall {
+    fn event_call() -> EventCall {
         EventCall::Depart
     }
 
@@ -89,13 +89,13 @@ pub(crate) struct PortBurst<'a, K> {
 
 // Returns the call of an event of a burst.
 #[inline(always)]
-fn call_of_event(asked: EventCall, event: &PieEvent) -> EventCall
-    ensures { result ≡ call_of_event asked event.now }
+fn call_of_event(call: EventCall, event: &PieEvent) -> EventCall
+    ensures { result ≡ call_of_event call event.now }
 {
     if event.kind == UPDATE {
         EventCall::Update
     } else {
-        asked
+        call
     }
 }
 
@@ -121,11 +121,11 @@ fn arrival_of(event: &PieEvent) -> Command
 
 // Returns the command of an event of a burst.
 #[inline(always)]
-fn command_of(asked: EventCall, event: &PieEvent) -> Command
-    ensures { result ≡ asks asked event.now }
+fn command_of(call: EventCall, event: &PieEvent) -> Command
+    ensures { result ≡ command_by call event.now }
 {
     let moment = event.moment;
-    match call_of_event(asked, event) {
+    match call_of_event(call, event) {
         EventCall::Arrive => arrival_of(event),
         EventCall::Depart => Command::Depart { moment },
         EventCall::Update => Command::Update { moment },
@@ -135,16 +135,16 @@ fn command_of(asked: EventCall, event: &PieEvent) -> Command
 
 // Writes the result of an event of a burst, with the caller's number.
 #[inline(always)]
-fn fill_event(event: &mut PieEvent, asked: EventCall, caller: u16, reply: &Reply)
-    ensures { event.new ≡ event_answered asked caller event.old reply.now }
+fn fill_event(event: &mut PieEvent, call: EventCall, caller: u16, reply: &Reply)
+    ensures { event.new ≡ event_answered call caller event.old reply.now }
 {
-    let asked = call_of_event(asked, event);
-    if has_bad_ecn(asked, event) {
-        fill_code(event, asked, BAD_ECN);
+    let call = call_of_event(call, event);
+    if has_bad_ecn(call, event) {
+        fill_code(event, call, BAD_ECN);
     } else {
         match reply {
-            Ok(reply) => fill_answer(event, asked, &reply.answer),
-            Err(why) => fill_code(event, asked, code_of_refusal(why)),
+            Ok(reply) => fill_answer(event, call, &reply.answer),
+            Err(why) => fill_code(event, call, code_of_refusal(why)),
         }
     }
     event.caller = caller;
@@ -152,29 +152,23 @@ fn fill_event(event: &mut PieEvent, asked: EventCall, caller: u16, reply: &Reply
 
 // Writes the result of the event at `place`.
 #[inline(always)]
-fn fill_event_at(
-    events: &mut [PieEvent],
-    place: usize,
-    asked: EventCall,
-    caller: u16,
-    reply: &Reply,
-)
+fn fill_event_at(events: &mut [PieEvent], place: usize, call: EventCall, caller: u16, reply: &Reply)
     requires { place < length events.old }
     ensures { (d : PieEvent) → events.new
-        ≡ slice_set events.old place (event_answered asked caller (slice_index_or events.old place d) reply.now) }
+        ≡ slice_set events.old place (event_answered call caller (slice_index_or events.old place d) reply.now) }
 {
-    fill_event(&mut events[place], asked, caller, reply);
+    fill_event(&mut events[place], call, caller, reply);
 }
 
 impl<K: BurstKind> Burst for PortBurst<'_, K> {
     ghost use Rattle.pie_port.specs.{Took};
 
-    ghost commands = { λ b place. map (asks K.asked) (drop place b.events.now) };
+    ghost commands = { λ b place. map (command_by K.call) (drop place b.events.now) };
 
     ghost continues = { λ b. K.continues };
 
     ghost shows = { λ first b replies. (b.events.ghost_name ≡ first.events.ghost_name)
-        × Took K.asked first.caller b.caller first.events.now b.events.now b.done replies };
+        × Took K.call first.caller b.caller first.events.now b.events.now b.done replies };
 
     ghost room = { λ b. b.events.ghost_name };
 
@@ -188,12 +182,12 @@ impl<K: BurstKind> Burst for PortBurst<'_, K> {
     #[inline(always)]
     fn command(&self, place: usize) -> Command {
         let events = &*self.events;
-        command_of(K::asks(), &events[place])
+        command_of(K::event_call(), &events[place])
     }
 
     #[inline(always)]
     fn take(&mut self, place: usize, reply: Reply) -> bool {
-        fill_event_at(self.events, place, K::asks(), self.caller, &reply);
+        fill_event_at(self.events, place, K::event_call(), self.caller, &reply);
         self.done = place + 1;
         K::continues_after(&reply)
     }
@@ -217,7 +211,7 @@ impl Port {
         requires fresh { burst.done ≡ 0 }
         requires caller { burst.caller ≡ self.old.first }
         ensures same { result.events.ghost_name ≡ burst.entry.events.ghost_name }
-        ensures tried { IsTriedAll K.asked budget K.continues self.old burst.entry.events.now result.done code.new result.events.now self.new }
+        ensures tried { IsTriedAll K.call budget K.continues self.old burst.entry.events.now result.done code.new result.events.now self.new }
     {
         match self.link.try_answer_all(&mut self.caller, budget, burst) {
             Ok(after) => {
@@ -239,7 +233,7 @@ impl Port {
         code: &mut u32,
     ) -> PortBurst<'a, K>
         ensures same { result.events.ghost_name ≡ events.entry.ghost_name }
-        ensures tried { IsTriedAll K.asked budget K.continues self.old events.entry.now result.done code.new result.events.now self.new }
+        ensures tried { IsTriedAll K.call budget K.continues self.old events.entry.now result.done code.new result.events.now self.new }
     {
         let caller = self.caller.first();
         let burst = PortBurst {
@@ -258,7 +252,7 @@ impl Port {
         budget: Option<u64>,
         events: &mut [PieEvent],
     ) -> (u32, usize)
-        ensures { IsTriedAll K.asked budget K.continues self.old events.old result.1 result.0 events.new self.new }
+        ensures { IsTriedAll K.call budget K.continues self.old events.old result.1 result.0 events.new self.new }
     {
         let mut code = DONE;
         let after = self.decide_events::<K>(budget, events, &mut code);
@@ -275,7 +269,7 @@ fn try_all<K: BurstKind>(
     budget: Option<u64>,
     events: &mut [PieEvent],
 ) -> (u32, usize)
-    ensures { TriesAll K.asked budget K.continues port.old.port events.old result.1 result.0 events.new port.new.port }
+    ensures { TriesAll K.call budget K.continues port.old.port events.old result.1 result.0 events.new port.new.port }
 {
     let Some(mut held) = port.take(alloc) else {
         return (CLOSED, 0);
@@ -305,7 +299,7 @@ pub fn try_depart_all(
 ) -> u32
     ensures { TriesAll Depart (budget_of bytes) has_left_or_updated port.old.port events.old made.new result events.new port.new.port }
 {
-    let (code, asked) = try_all::<Departures>(alloc, port, budget_of(bytes), events);
-    *made = asked;
+    let (code, done) = try_all::<Departures>(alloc, port, budget_of(bytes), events);
+    *made = done;
     code
 }

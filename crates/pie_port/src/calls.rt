@@ -8,16 +8,16 @@ use pie_abi::PieEvent;
 use pie_params::RawParams;
 use std::alloc::Global;
 
-/// Makes the call `asked` of `event`, if the port is open.
+/// Makes this call for `event`, if the port is open.
 #[inline(always)]
 #[tactic(auto, unfolding(crate::specs::Calls::AtPort))]
-pub fn try_event(alloc: Global, port: &mut PiePort, asked: EventCall, event: &mut PieEvent) -> u32
-    ensures { Tries asked port.old.port event.old result event.new port.new.port }
+pub fn try_event(alloc: Global, port: &mut PiePort, call: EventCall, event: &mut PieEvent) -> u32
+    ensures { Tries call port.old.port event.old result event.new port.new.port }
 {
     let Some(mut held) = port.take(alloc) else {
         return CLOSED;
     };
-    let code = held.try_event(asked, event);
+    let code = held.try_event(call, event);
     port.put(held);
     code
 }

@@ -24,10 +24,10 @@ pub enum EventCall {
 
 /// Writes the number `number`, and 0 to the numbers that the call does not use.
 #[inline(always)]
-pub(crate) fn fill_code(event: &mut PieEvent, asked: EventCall, number: u32)
-    ensures { event.new ≡ numbered_event asked event.old number }
+pub(crate) fn fill_code(event: &mut PieEvent, call: EventCall, number: u32)
+    ensures { event.new ≡ numbered_event call event.old number }
 {
-    match asked {
+    match call {
         EventCall::Arrive => event.fill_arrival(number),
         EventCall::Depart => event.fill_other(DEPART, number),
         EventCall::Update => event.fill_other(UPDATE, number),
@@ -37,11 +37,11 @@ pub(crate) fn fill_code(event: &mut PieEvent, asked: EventCall, number: u32)
 
 /// Writes an answer.
 #[inline(always)]
-pub(crate) fn fill_answer(event: &mut PieEvent, asked: EventCall, answer: &Answer)
-    ensures { event.new ≡ answered_event asked event.old answer.now }
+pub(crate) fn fill_answer(event: &mut PieEvent, call: EventCall, answer: &Answer)
+    ensures { event.new ≡ answered_event call event.old answer.now }
 {
     let number = code_of_answer(answer);
-    fill_code(event, asked, number);
+    fill_code(event, call, number);
     match answer {
         Answer::Left(packet) => {
             event.tag = packet.tag;
@@ -62,23 +62,23 @@ pub(crate) fn fill_answer(event: &mut PieEvent, asked: EventCall, answer: &Answe
 #[inline(always)]
 pub(crate) fn fill(
     event: &mut PieEvent,
-    asked: EventCall,
+    call: EventCall,
     caller: u16,
     reply: &Result<Told<Answer>, Tried<Refusal>>,
 ) -> u32
     ensures code { result ≡ code_of reply.now }
-    ensures event { event.new ≡ filled asked caller event.old reply.now }
+    ensures event { event.new ≡ filled call caller event.old reply.now }
 {
     match reply {
         Ok(reply) => {
-            fill_answer(event, asked, &reply.answer);
+            fill_answer(event, call, &reply.answer);
             event.caller = caller;
             code_of_answer(&reply.answer)
         }
         Err(Tried::Busy) => BUSY,
         Err(Tried::Refused(why)) => {
             let number = code_of_refusal(why);
-            fill_code(event, asked, number);
+            fill_code(event, call, number);
             event.caller = caller;
             number
         }

@@ -66,10 +66,10 @@ impl PiePort {
     }
 
     /// Returns the open port of a pointer.
-    pub(crate) fn of_pointer(loose: BoxPointer<Port, Global>) -> PiePort
-        ensures { result.port ≡ Some loose.value }
+    pub(crate) fn of_pointer(pointer: BoxPointer<Port, Global>) -> PiePort
+        ensures { result.port ≡ Some pointer.value }
     {
-        let BoxPointer { at, alloc } = loose;
+        let BoxPointer { at, alloc } = pointer;
         let at = at as *mut u8;
         PiePort { at, alloc }
     }
@@ -92,7 +92,7 @@ impl PiePort {
     {
         match replace(self, PiePort::none(alloc)).into_pointer() {
             None => None,
-            Some(loose) => Some(loose.into_box()),
+            Some(pointer) => Some(pointer.into_box()),
         }
     }
 
@@ -101,12 +101,12 @@ impl PiePort {
     pub(crate) fn put(&mut self, held: Box<Port>)
         ensures { self.new.port ≡ Some held.value }
     {
-        if let Some(loose) = replace(
+        if let Some(pointer) = replace(
             self,
             PiePort::of_pointer(BoxPointer::of(held)),
         ).into_pointer()
         {
-            drop(loose.into_box());
+            drop(pointer.into_box());
         }
     }
 }
@@ -139,10 +139,10 @@ impl PieExcerpt {
     }
 
     /// Returns the open excerpt of a pointer.
-    pub(crate) fn of_pointer(loose: BoxPointer<ExcerptText, Global>) -> PieExcerpt
-        ensures { result.text ≡ Some loose.value }
+    pub(crate) fn of_pointer(pointer: BoxPointer<ExcerptText, Global>) -> PieExcerpt
+        ensures { result.text ≡ Some pointer.value }
     {
-        let BoxPointer { at, alloc } = loose;
+        let BoxPointer { at, alloc } = pointer;
         let at = at as *mut u8;
         PieExcerpt { at, alloc }
     }
@@ -164,7 +164,7 @@ impl PieExcerpt {
     {
         match replace(self, PieExcerpt::none(alloc)).into_pointer() {
             None => None,
-            Some(loose) => Some(loose.into_box()),
+            Some(pointer) => Some(pointer.into_box()),
         }
     }
 
@@ -172,12 +172,12 @@ impl PieExcerpt {
     pub(crate) fn put(&mut self, held: Box<ExcerptText>)
         ensures { self.new.text ≡ Some held.value }
     {
-        if let Some(loose) = replace(
+        if let Some(pointer) = replace(
             self,
             PieExcerpt::of_pointer(BoxPointer::of(held)),
         ).into_pointer()
         {
-            drop(loose.into_box());
+            drop(pointer.into_box());
         }
     }
 }

@@ -85,14 +85,14 @@ impl Port {
         Box::new(alloc, port).ok()
     }
 
-    /// Makes the call `asked` of an event.
+    /// Makes this call for an event.
     #[inline(always)]
-    fn ask(&mut self, asked: EventCall, event: &PieEvent) -> Result<Told<Answer>, Tried<Refusal>>
-        requires ecn { has_bad_ecn asked event.now ≡ false }
-        ensures tried { TriesToAnswer self.old.lock self.old (command_in asked event.now) result self.new }
+    fn apply(&mut self, call: EventCall, event: &PieEvent) -> Result<Told<Answer>, Tried<Refusal>>
+        requires ecn { has_bad_ecn call event.now ≡ false }
+        ensures tried { TriesToAnswer self.old.lock self.old (command_in call event.now) result self.new }
         ensures stays { StaysOne self.old self.new }
     {
-        match asked {
+        match call {
             EventCall::Arrive => {
                 let Some(ecn) = ecn(u32::from(event.ecn)) else {
                     unreachable!()
@@ -111,19 +111,19 @@ impl Port {
         }
     }
 
-    /// Makes the call `asked` of an event, and writes the result to it.
+    /// Makes this call for an event, and writes the result to it.
     #[inline(always)]
-    pub(crate) fn try_event(&mut self, asked: EventCall, event: &mut PieEvent) -> u32
-        ensures { IsTriedUnless (has_bad_ecn asked event.old) asked self.old event.old result event.new self.new }
+    pub(crate) fn try_event(&mut self, call: EventCall, event: &mut PieEvent) -> u32
+        ensures { IsTriedUnless (has_bad_ecn call event.old) call self.old event.old result event.new self.new }
     {
         let caller = self.caller.first();
-        if has_bad_ecn(asked, event) {
-            fill_code(event, asked, BAD_ECN);
+        if has_bad_ecn(call, event) {
+            fill_code(event, call, BAD_ECN);
             event.caller = caller;
             return BAD_ECN;
         }
-        let reply = self.ask(asked, event);
-        fill(event, asked, caller, &reply)
+        let reply = self.apply(call, event);
+        fill(event, call, caller, &reply)
     }
 
     /// Sets the parameters, and writes the result to `event`.
@@ -230,10 +230,10 @@ impl Port {
 
 /// Returns true if the call is an arrival and the event's ECN field is invalid.
 #[inline(always)]
-pub(crate) fn has_bad_ecn(asked: EventCall, event: &PieEvent) -> bool
-    ensures { result ≡ has_bad_ecn asked event.now }
+pub(crate) fn has_bad_ecn(call: EventCall, event: &PieEvent) -> bool
+    ensures { result ≡ has_bad_ecn call event.now }
 {
-    matches!(asked, EventCall::Arrive) && event.ecn > 3
+    matches!(call, EventCall::Arrive) && event.ecn > 3
 }
 
 /// Returns a boxed port, or the caller if there is no memory.

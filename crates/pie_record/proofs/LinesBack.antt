@@ -20,7 +20,7 @@ use Rattle.pie_record.proofs.FieldFacts.{Says, numbers-back, read-as, Has, HasAl
 use Rattle.pie_record.proofs.FieldFacts.{found, same-bytes}
 use Rattle.pie_record.proofs.HistoryFacts.{read-all}
 use Rattle.pie_record.proofs.NumberFacts.{number-back}
-use Rattle.pie_record.specs.declared.command.CommandFields.TheVariants as asked
+use Rattle.pie_record.specs.declared.command.CommandFields.TheVariants as fields
 use Rattle.pie_record.specs.declared.fault.RecordFault.TheVariants as flaw
 use Rattle.pie_record.specs.declared.history_record.Line.TheVariants as line
 use Rattle.pie_record.specs.declared.trace_record.Request.TheVariants as request
@@ -37,13 +37,13 @@ kind_of (Reset moment) = kind.Reset
 kind_of (SetParams moment params) = kind.Params
 
 abbrev pub command_row_kind : CommandFields → CommandKind
-command_row_kind (asked.Command caller command) = kind_of command
-command_row_kind (asked.BadParams change) = kind.Params
+command_row_kind (fields.Command caller command) = kind_of command
+command_row_kind (fields.BadParams change) = kind.Params
 
 -- the fields of the command
 abbrev pub command_row_fields : CommandFields → Row
-command_row_fields (asked.Command caller command) = command_fields caller command
-command_row_fields (asked.BadParams change) = command_fields change.caller (SetParams change.moment change.params)
+command_row_fields (fields.Command caller command) = command_fields caller command
+command_row_fields (fields.BadParams change) = command_fields change.caller (SetParams change.moment change.params)
 
 -- new parameters, one of which is out of its range, whose numbers fit their types
 pub record ChangeFits (change : BadChange) : Type 0 where
@@ -54,8 +54,8 @@ pub record ChangeFits (change : BadChange) : Type 0 where
   pub bad : first_bad change.params ≡ Some field
 
 abbrev pub CommandFieldsFit : CommandFields → Type 0
-CommandFieldsFit (asked.Command caller command) = (caller ≤ most_u16) × CommandFits command
-CommandFieldsFit (asked.BadParams change) = ChangeFits change
+CommandFieldsFit (fields.Command caller command) = (caller ≤ most_u16) × CommandFits command
+CommandFieldsFit (fields.BadParams change) = ChangeFits change
 
 pub nine-of-fits : (params : RawParams) → ParamsFit params → NineFit params
 nine-of-fits params fits = search rules
@@ -72,13 +72,13 @@ pub record Reads (row : Row) (k : CommandKind) (asks : CommandFields) : Type 0 w
   pub fits : CommandFieldsFit asks
 
 arrival-read : (row : Row) (caller moment : ℕ) (command : Command) → Has row 1 (decimal caller) → Has row 2 (decimal moment) → caller ≤ most_u16
-    → moment < 2 ^ 64 → arrival_at row moment ≡ Ok command → Reads row kind.Arrive (asked.Command caller command)
+    → moment < 2 ^ 64 → arrival_at row moment ≡ Ok command → Reads row kind.Arrive (fields.Command caller command)
 unfolding arrival_at command_fields
 arrival-read row caller moment command who when few small e =
     let p = and_after (packet_at row 3) _ command e in
     let w = number-then row 6 most_u64 _ command (omega arith) p.rest in
     let packet = packet-read row 3 p.got p.is in
-    read-as (λ (c : Command). Reads row kind.Arrive (asked.Command caller c)) (Arrive moment p.got w.got) command w.rest
+    read-as (λ (c : Command). Reads row kind.Arrive (fields.Command caller c)) (Arrive moment p.got w.got) command w.rest
     (record { kind = refl; has = search rules; fits = (few, (small, packet.fits, w.small)) })
 
 change-read : (row : Row) (caller moment : ℕ) (asks : CommandFields) → Has row 1 (decimal caller) → Has row 2 (decimal moment) → caller ≤ most_u16
@@ -98,15 +98,15 @@ command-read row k asks e =
     let a = number-then row 1 most_u16 _ asks (omega arith) e in
     let b = number-then row 2 most_u64 _ asks (omega arith) a.rest in by k a.got b.got a.there b.there a.within (omega (arith, b.within)) b.rest
   where
-    short : (caller : ℕ) (command : Command) → HasAll row 1 (drop 1 (command_fields caller command)) → CommandFieldsFit (asked.Command caller command)
-        → Says (Ok (asked.Command caller command)) asks → Reads row (kind_of command) asks
+    short : (caller : ℕ) (command : Command) → HasAll row 1 (drop 1 (command_fields caller command)) → CommandFieldsFit (fields.Command caller command)
+        → Says (Ok (fields.Command caller command)) asks → Reads row (kind_of command) asks
     short caller command has fits e = read-as (Reads row (kind_of command)) _ asks e (record { kind = refl; has = has; fits = fits })
 
     by : (k : CommandKind) (caller moment : ℕ) → Has row 1 (decimal caller) → Has row 2 (decimal moment) → caller ≤ most_u16 → moment < 2 ^ 64
         → Says (command_fields_at row k caller moment) asks → Reads row k asks
     by kind.Arrive caller moment who when few small e =
-        let c = and_after (arrival_at row moment) (λ (command : Command). Ok (asked.Command caller command)) asks e in
-        read-as (Reads row kind.Arrive) (asked.Command caller c.got) asks c.rest (arrival-read row caller moment c.got who when few small c.is)
+        let c = and_after (arrival_at row moment) (λ (command : Command). Ok (fields.Command caller command)) asks e in
+        read-as (Reads row kind.Arrive) (fields.Command caller c.got) asks c.rest (arrival-read row caller moment c.got who when few small c.is)
     by kind.Depart caller moment who when few small e = short caller (Depart moment) (who, (when, tt)) (few, small) e
     by kind.Update caller moment who when few small e = short caller (Update moment) (who, (when, tt)) (few, small) e
     by kind.Reset caller moment who when few small e = short caller (Reset moment) (who, (when, tt)) (few, small) e
@@ -170,14 +170,14 @@ clock-read _ row clock e = cc
 
 -- ---- a record of a trace
 
-pub command-as-written : (version : Version) (row : Row) (caller : ℕ) (command : Command) → request_of version row ≡ Ok (request.Ask caller command)
-    → WrittenAs row (asked.Command caller command)
+pub command-as-written : (version : Version) (row : Row) (caller : ℕ) (command : Command) → request_of version row ≡ Ok (request.Apply caller command)
+    → WrittenAs row (fields.Command caller command)
 unfolding request_of command_request fold_request
 command-as-written version row caller command e = by (command_kind row) refl e
   where
-    by : (o : Option CommandKind) → command_kind row ≡ o → request_by o version row ≡ Ok (request.Ask caller command)
-        → WrittenAs row (asked.Command caller command)
-    by (Some k) known e = written-as row k (asked.Command caller command) known (grind (arith, nat_tests, e)) (grind (arith, nat_tests, e))
+    by : (o : Option CommandKind) → command_kind row ≡ o → request_by o version row ≡ Ok (request.Apply caller command)
+        → WrittenAs row (fields.Command caller command)
+    by (Some k) known e = written-as row k (fields.Command caller command) known (grind (arith, nat_tests, e)) (grind (arith, nat_tests, e))
     by None known e = absurd (grind (arith, nat_tests, e))
 
 pub clock-as-written : (version : Version) (row : Row) (clock : Clock) → request_of version row ≡ Ok (request.Clock clock)
@@ -204,12 +204,12 @@ params-behind a b c params more fits = params-back params more fits
 -- the fields of a command are read back, whatever fields follow
 pub command-back : (asks : CommandFields) (more : Row) → CommandFieldsFit asks → command_at (command_row_fields asks ++ more) (command_row_kind asks) ≡ Ok asks
 unfolding command_at arrival_at change_at packet_at field_at command_fields
-command-back (asked.Command caller (Arrive moment packet word)) more f = grind (arith, nat_tests, back_u16, back_u64, back_u32, back_ecn)
-command-back (asked.Command caller (SetParams moment params)) more f =
+command-back (fields.Command caller (Arrive moment packet word)) more f = grind (arith, nat_tests, back_u16, back_u64, back_u32, back_ecn)
+command-back (fields.Command caller (SetParams moment params)) more f =
     rw (back_u16 caller f.0, back_u64 moment f.1.0, params-behind _ _ _ params more (nine-of-fits params f.1.1), f.1.1.in_range) refl
-command-back (asked.BadParams change) more f =
+command-back (fields.BadParams change) more f =
     rw (back_u16 change.caller f.caller, back_u64 change.moment f.moment, params-behind _ _ _ change.params more f.nine, f.bad) refl
-command-back (asked.Command caller _) more f = rw (back_u16 caller f.0, back_u64 _ f.1) refl
+command-back (fields.Command caller _) more f = rw (back_u16 caller f.0, back_u64 _ f.1) refl
 
 -- the numbers of a line fit their types, and an event that cannot be made has a parameter out of its range
 abbrev pub LineFits : Line → Type 0
@@ -238,8 +238,8 @@ word-there row place word value e = by (field_at row place) (tested (is_word wor
 
 -- answers that the fields of a command can have: invalid new parameters are recorded with the answer of valid ones
 abbrev CanHave : CommandFields → Answer → Type 0
-CanHave (asked.Command caller command) answer = fits command answer ≡ true
-CanHave (asked.BadParams change) answer = answer ≡ Done
+CanHave (fields.Command caller command) answer = fits command answer ≡ true
+CanHave (fields.BadParams change) answer = answer ≡ Done
 
 -- a record ends with the fields of an answer, after those of its command, which can have it; its numbers fit their types
 record Ends (row : Row) (asks : CommandFields) (answer : Answer) : Type 0 where
@@ -264,17 +264,17 @@ unfolding answer_fields
 done-ends row asks answer can long e = grind (arith, nat_tests, and_after, read-as, word-there, eqb-true)
 
 departure-ends : (row : Row) (caller moment : ℕ) (answer : Answer) → has_length kind.Depart (length row) ≡ true → Says (departure_at row) answer
-    → Ends row (asked.Command caller (Depart moment)) answer
+    → Ends row (fields.Command caller (Depart moment)) answer
 unfolding departure_at answer_fields
 departure-ends row caller moment answer long e = by (length row == 4) refl long e
   where
     by : (b : Bool) → (length row == 4) ≡ b → (b || (length row == 7)) ≡ true
         → Says (if b then and_then (word_at row 3 (word_of_answer said.Empty)) (λ _. Ok Empty) else and_then (word_at row 3 (word_of_answer said.Left))
         (λ _. and_then (packet_at row 4) (λ packet. Ok (Left packet)))) answer
-        → Ends row (asked.Command caller (Depart moment)) answer
+        → Ends row (fields.Command caller (Depart moment)) answer
     by true four long e =
         let a = and_after (word_at row 3 (word_of_answer said.Empty)) _ answer e in
-        read-as (Ends row (asked.Command caller (Depart moment))) Empty answer a.rest (record {
+        read-as (Ends row (fields.Command caller (Depart moment))) Empty answer a.rest (record {
           has = (word-there row 3 (word_of_answer said.Empty) a.got a.is, tt);
           long = eqb-true (length row) 4 four;
           can = refl;
@@ -284,7 +284,7 @@ departure-ends row caller moment answer long e = by (length row == 4) refl long 
         let a = and_after (word_at row 3 (word_of_answer said.Left)) _ answer e in
         let p = and_after (packet_at row 4) _ answer a.rest in
         let read = packet-read row 4 p.got p.is in
-        read-as (Ends row (asked.Command caller (Depart moment))) (Left p.got) answer p.rest (record {
+        read-as (Ends row (fields.Command caller (Depart moment))) (Left p.got) answer p.rest (record {
           has = (word-there row 3 (word_of_answer said.Left) a.got a.is, (read.tag, (read.size, (read.ecn, tt))));
           long = eqb-true (length row) 7 long;
           can = refl;
@@ -292,13 +292,13 @@ departure-ends row caller moment answer long e = by (length row == 4) refl long 
         })
 
 update-ends : (row : Row) (caller moment : ℕ) (answer : Answer) → (length row == 6) ≡ true → Says (update_at row) answer
-    → Ends row (asked.Command caller (Update moment)) answer
+    → Ends row (fields.Command caller (Update moment)) answer
 unfolding update_at answer_fields
 update-ends row caller moment answer long e =
     let a = number-then row 3 most_u64 _ answer (omega arith) e in
     let b = number-then row 4 most_u64 _ answer (omega arith) a.rest in
     let c = number-then row 5 most_u64 _ answer (omega arith) b.rest in
-    read-as (Ends row (asked.Command caller (Update moment))) (Updated a.got b.got c.got) answer c.rest (record {
+    read-as (Ends row (fields.Command caller (Update moment))) (Updated a.got b.got c.got) answer c.rest (record {
       has = (a.there, (b.there, (c.there, tt)));
       long = eqb-true (length row) 6 long;
       can = refl;
@@ -308,7 +308,7 @@ update-ends row caller moment answer long e =
 answer-ends : (row : Row) (asks : CommandFields) (answer : Answer) → has_length (command_row_kind asks) (length row) ≡ true
     → Says (answer_at row (command_row_kind asks)) answer → Ends row asks answer
 unfolding answer_at answer_fields
-answer-ends row (asked.Command caller (Arrive moment packet w)) answer long e =
+answer-ends row (fields.Command caller (Arrive moment packet w)) answer long e =
     let field = field-read verdict_of (field_at row 7) flaw.Word answer e in
     let word = verdict-word field.text answer field.reads in
     let can = verdict-read moment packet w field.text answer field.reads in
@@ -318,11 +318,11 @@ answer-ends row (asked.Command caller (Arrive moment packet w)) answer long e =
       can = can.0;
       numbers = can.1;
     }
-answer-ends row (asked.Command caller (Depart moment)) answer long e = departure-ends row caller moment answer long e
-answer-ends row (asked.Command caller (Update moment)) answer long e = update-ends row caller moment answer long e
-answer-ends row (asked.Command caller (Reset moment)) answer long e = done-ends row _ answer refl long e
-answer-ends row (asked.Command caller (SetParams moment params)) answer long e = done-ends row _ answer refl long e
-answer-ends row (asked.BadParams change) answer long e = done-ends row _ answer refl long e
+answer-ends row (fields.Command caller (Depart moment)) answer long e = departure-ends row caller moment answer long e
+answer-ends row (fields.Command caller (Update moment)) answer long e = update-ends row caller moment answer long e
+answer-ends row (fields.Command caller (Reset moment)) answer long e = done-ends row _ answer refl long e
+answer-ends row (fields.Command caller (SetParams moment params)) answer long e = done-ends row _ answer refl long e
+answer-ends row (fields.BadParams change) answer long e = done-ends row _ answer refl long e
 
 -- ---- a line that was read: its numbers fit their types, and its record, except a note's, is the record that is written for it
 
@@ -353,12 +353,12 @@ event-read row k parsed known e =
         (subst (λ (n : ℕ). HasAll row n (answer_fields answer)) zero-is back)))
 
     by : (asks : CommandFields) (answer : Answer) → Reads row k asks → Ends row asks answer → IsReadFrom row (line_for asks answer)
-    by (asked.Command caller command) answer read ends = (
+    by (fields.Command caller command) answer read ends = (
       record { kind = ends.can; caller = read.fits.0; command = read.fits.1; answer = ends.numbers },
-      ap (λ (r : Row). r ∷ []) (whole (asked.Command caller command) answer read ends),
+      ap (λ (r : Row). r ∷ []) (whole (fields.Command caller command) answer read ends),
     )
-    by (asked.BadParams change) answer read ends =
-        (read.fits, ap (λ (r : Row). r ∷ []) (rw ends.can at (whole (asked.BadParams change) answer read ends)))
+    by (fields.BadParams change) answer read ends =
+        (read.fits, ap (λ (r : Row). r ∷ []) (rw ends.can at (whole (fields.BadParams change) answer read ends)))
 
 clock-parsed : (version : Version) (row : Row) (parsed : Line) → is_kind row (codes "clock") ≡ true
     → Says (and_then (clock_in version row) (λ clock. Ok (line.Clock clock))) parsed → IsReadFrom row parsed
@@ -383,8 +383,8 @@ reads-line version row parsed e = by (command_kind row) refl e
         one-way (is_kind row (codes "tallied")) _ _ _ e (λ is e. noted row parsed (grind (arith, nat_tests, e))) (λ e.
         one-way (is_kind row (codes "clock")) _ _ _ e (clock-parsed version row parsed) (λ e. absurd (no-flaw flaw.Kind parsed e))))))
 
-pub lines-fit : (version : Version) (most number : ℕ) (rows : List Row) → All LineFits (lines_from version most number rows)
-lines-fit version most number rows = read-all LineFits version most number rows (λ row parsed e. (reads-line version row parsed e).0)
+pub lines-fit : (version : Version) (max_records number : ℕ) (rows : List Row) → All LineFits (lines_from version max_records number rows)
+lines-fit version max_records number rows = read-all LineFits version max_records number rows (λ row parsed e. (reads-line version row parsed e).0)
 
 -- ---- an event's record is read as it was written
 
@@ -404,16 +404,16 @@ line-back version asks answer fits can numbers = grind (arith, nat_tests, answer
 
 -- the record of a command followed by an answer that the command can have
 pub answered-back : (version : Version) (row : Row) (caller : ℕ) (command : Command) (answer : Answer)
-    → request_of version row ≡ Ok (request.Ask caller command) → fits command answer ≡ true → AnswerFits answer
+    → request_of version row ≡ Ok (request.Apply caller command) → fits command answer ≡ true → AnswerFits answer
     → line_of version (row ++ answer_fields answer) ≡ Ok (made caller command answer)
 answered-back version row caller command answer e can said =
     let written = command-as-written version row caller command e in
     ap (λ (r : Row). line_of version (r ++ answer_fields answer)) written.is
-    ∙ line-back version (asked.Command caller command) answer written.fits can said
+    ∙ line-back version (fields.Command caller command) answer written.fits can said
 
 -- the record of an event
 pub event-back : (version : Version) (event : Event) → EventFits event → line_of version (event_row event) ≡ Ok (line.Valid event)
-event-back version event fits = line-back version (asked.Command event.caller event.command) event.answer (fits.caller, fits.command) fits.kind fits.answer
+event-back version event fits = line-back version (fields.Command event.caller event.command) event.answer (fits.caller, fits.command) fits.kind fits.answer
 
 -- the line of a wall-clock record, from version three on
 clock-line : (version : Version) (clock : Clock)
@@ -436,7 +436,7 @@ clock-back clock fits = grind (arith, nat_tests, number-back)
 pub line-again : (parsed : Line) → LineFits parsed → AreLinesOf Three (line_rows parsed) (without_notes (parsed ∷ []))
 unfolding AreLinesOf
 line-again (line.Valid event) fits = (event-back Three event fits, tt)
-line-again (line.Invalid change) fits = (line-back Three (asked.BadParams change) Done fits refl tt, tt)
+line-again (line.Invalid change) fits = (line-back Three (fields.BadParams change) Done fits refl tt, tt)
 line-again line.Note fits = tt
 line-again (line.Clock clock) fits = (clock-back clock fits, tt)
 

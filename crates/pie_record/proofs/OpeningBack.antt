@@ -170,14 +170,14 @@ checked kind draft opening e =
 
 -- ---- rows of lines
 
-pub remaining-read : (version : Version) (most number : ℕ) (rows : List Row) (lines : List Line) → number + length rows ≤ most + 1
+pub remaining-read : (version : Version) (max_records number : ℕ) (rows : List Row) (lines : List Line) → number + length rows ≤ max_records + 1
     → AreLinesOf version rows lines
-    → remaining_from version most number rows ≡ record { lines = lines; fault = None }
+    → remaining_from version max_records number rows ≡ record { lines = lines; fault = None }
 unfolding AreLinesOf lines_from fault_from
-remaining-read version most number [] [] within read = refl
-remaining-read version most number (row ∷ rows) (line ∷ lines) within read =
-    grind (arith, nat_tests, line_in-line, remaining-read version most (number + 1) rows lines (omega arith) read.1)
-remaining-read version most number _ _ within read = absurd read
+remaining-read version max_records number [] [] within read = refl
+remaining-read version max_records number (row ∷ rows) (line ∷ lines) within read =
+    grind (arith, nat_tests, line_in-line, remaining-read version max_records (number + 1) rows lines (omega arith) read.1)
+remaining-read version max_records number _ _ within read = absurd read
 
 -- a row that reads as a line has a field
 pub field-reads : (version : Version) (row : Row) (line : Line) → line_of version row ≡ Ok line → HasField row

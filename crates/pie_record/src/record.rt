@@ -2,7 +2,7 @@
 ghost use Rattle.std.specs.Prelude.{◌≡◌, ◌≤◌, ◌<◌, ◌+◌, ◌-◌, ◌^◌, ◌++◌, ◌∷◌, get_or};
 ghost use Rattle.pie_record.specs.{[], ℕ, IfSome, Some, drop, length, number, option_and_then, option_map, field_at, text_of, IsLine, Row};
 ghost use Rattle.pie_record.specs.{split_line, start_of, IfOk, IfErr, ReadsPlain, TraceFault, IsReading, rows_left, fields_of};
-ghost use Rattle.pie_record.specs.Source.{Turns};
+ghost use Rattle.pie_record.specs.Source.{StepsBy};
 
 use crate::TraceFault;
 use crate::fault::ReadFailure;
@@ -270,7 +270,7 @@ impl Record {
     ) -> Result<ReadStep, ReadFailure>
         requires { IsReading reader.old }
         ensures reading { IsReading reader.new }
-        ensures turned { IfOk result (λ how. Turns how (rows_left R.remaining reader.old) self.new (rows_left R.remaining reader.new)) }
+        ensures stepped { IfOk result (λ how. StepsBy how (rows_left R.remaining reader.old) self.new (rows_left R.remaining reader.new)) }
     {
         self.count = 0;
         match reader.read_byte_record(&mut self.quoted) {

@@ -3,9 +3,9 @@
 use Rattle.pie_storm.proofs.Names.{◌≡◌, ℕ, ◌+◌, ◌<◌, List, [], length, length-append, events_in, refl, ap, sym, ◌∙◌, subst, inl, inr, ⊎_elim, arith}
 use Rattle.pie_storm.proofs.Names.{dite, ℕ_discrete, Bool, true, false, ◌||◌, get_or, is_within, nat_tests, Extends, Event, number_of}
 use Rattle.pie_storm.proofs.Names.{EntriesLookBack, Entry, CallerView, LinkView, Plan, Work, calls_of, folder, opening_of, updater, IsOutcomeOf}
-use Rattle.pie_storm.proofs.Names.{HasNoMore, IsWell, IsWorkBelow, WereFolded, zero, suc, ◌≤◌, cond, ◌∷◌, ◌++◌, All, All-nil, All-cons, All-head}
+use Rattle.pie_storm.proofs.Names.{HasNoMore, IsWell, IsWorkBelow, zero, suc, ◌≤◌, cond, ◌∷◌, ◌++◌, All, All-nil, All-cons, All-head}
 use Rattle.pie_storm.proofs.Names.{All-tail, own, own_none, entries_of, Call, IsSound, total, AreMade, ◌⊎◌, AreFolded, IsCutShort, None, Some, Ok}
-use Rattle.pie_storm.proofs.Names.{Err, Result, Opening, IsLegal, folded_events, senders, IsEndOf, IsFor, drop-append_seam, take-append_seam}
+use Rattle.pie_storm.proofs.Names.{Err, Result, folded_events, senders, IsEndOf, IsFor, drop-append_seam, take-append_seam}
 use Rattle.pie_lock.specs.Promises.{IsBothOf}
 use Rattle.pie_lock.proofs.Seats.{goes_on, gone_on}
 use Rattle.pie_storm.specs.declared.worker.Folding.{Folding}
@@ -51,14 +51,13 @@ each_below caller n h k below on =
 fronts : (plan : Plan) (p q r : CallerView) (n : ℕ) → p.first ≡ 0 → p.limit ≡ n → q.first ≡ n → q.limit ≡ n + 1 → IsBothOf number_of p q r
     → ((caller : ℕ) → caller < n → HasNoMore caller p.front r.front) × HasNoMore n q.front r.front
 fronts plan p q r n p_first p_limit q_first q_limit both =
-    let P : List Entry → Type 0 = λ front. ((caller : ℕ) → caller < n → HasNoMore caller p.front front) × HasNoMore n q.front front in
     ⊎_elim
     (λ behind.
     let on : Extends number_of 0 n p.front q.front = rw (p_first, p_limit) at behind.0 in
-    subst P (sym behind.1) ((λ caller below. each_below caller n p.front q.front below on), stays n q.front))
+    rw behind.1 ((λ caller below. each_below caller n p.front q.front below on), stays n q.front))
     (λ behind.
     let on : HasNoMore n q.front p.front = rw (q_first, q_limit) at behind.0 in
-    subst P (sym behind.1) ((λ caller below. stays caller p.front), on))
+    rw behind.1 ((λ caller below. stays caller p.front), on))
     both.3
 
 pub neither : (a b : Bool) → (a || b) ≡ false → (a ≡ false) × (b ≡ false)
@@ -81,7 +80,7 @@ together law link plan n work last whole both passed soon as_before events well 
       first = omega (arith, both.1, below.first);
       limit = omega (arith, both.2, below.limit, its.at.limit);
       came = λ fine caller less. dite (ℕ_discrete caller n)
-          (λ is. (last.passed, subst (λ (c : ℕ). IsOutcomeOf plan c r.front last.passed) (sym is) (mine fine), λ updates. sym (soon (sym is ∙ updates))))
+          (λ is. (last.passed, rw is (mine fine), λ updates. sym (soon (sym is ∙ updates))))
           (λ other.
           let before : caller < n = omega (arith, less, other) in
           let came = below.came (well fine).0 caller before in (
@@ -92,10 +91,8 @@ together law link plan n work last whole both passed soon as_before events well 
       folds = λ fine all.
           let is : n ≡ folder plan = omega (arith, all) in
           let folds_split = its.folds_split (well fine).1 is in (
-            subst (λ (passed : ℕ). IsOutcomeOf plan (folder plan) r.front passed) (sym passed)
-                (subst (λ (c : ℕ). IsOutcomeOf plan c r.front last.passed) is (mine fine)),
-            subst (λ (c : ℕ). WereFolded plan c whole.folding.events.items r.front) is
-                (events ∙ (folds_split ∙ sym (folded_same law (opening_of plan) n q.front r.front on.1))),
+            rw (passed, ← is) (mine fine),
+            rw (← is) (events ∙ (folds_split ∙ sym (folded_same law (opening_of plan) n q.front r.front on.1))),
           );
     }
 
@@ -115,8 +112,7 @@ starter_alone link plan caller rest folding begins first one same =
       limit = ap (λ (p : CallerView). p.limit) same;
       came = λ fine number less.
           let is : 0 ≡ number = omega (arith, one, first, less) in
-          subst (λ (c : ℕ). (passed : ℕ) × IsOutcomeOf plan c rest.front passed × (c ≡ updater plan → passed ≡ 0)) is
-          (0, subst (λ (h : List Entry). IsOutcomeOf plan 0 h 0) (sym new) (nothing_requested plan), λ updates. refl);
+          rw (← is, new) (0, nothing_requested plan, λ updates. refl);
       folds = λ fine all. absurd (omega (arith, one, first, all));
     }
 
@@ -141,9 +137,7 @@ counted_fewer : (f : ℕ → ℕ) (n k : ℕ) (xs : List Entry) → ((j : ℕ) �
 counted_fewer f zero k xs few below fewer = absurd (omega (arith, below))
 counted_fewer f (suc n) k xs few below fewer =
     let each = λ (j : ℕ) (lower : j < n). few j (omega (arith, lower)) in
-    dite (ℕ_discrete k n)
-    (λ is. let here : length (entries_of n xs) < f n = subst (λ (j : ℕ). length (entries_of j xs) < f j) is fewer in
-    omega (arith, split n xs, counted f n xs each, here))
+    dite (ℕ_discrete k n) (λ is. let all = counted f n xs each in let cut = split n xs in grind arith)
     (λ other. omega (arith, split n xs, counted_fewer f n k xs each (omega (arith, below, other)) fewer, few n (omega arith)))
 
 -- the number of the last caller, which folds, plus one
@@ -196,8 +190,7 @@ module _ (plan : Plan) (caller : ℕ) where
   none_passed : (front : List Entry) (calls : List Call) (h : List Entry) (passed : ℕ) → (caller ≡ updater plan → ⊥) → (caller ≡ folder plan → ⊥)
       → All IsIts calls → AreMade (opening_of plan) caller front calls h passed → passed ≡ 0
   none_passed front [] h passed no_updates no_folds its m = m.1
-  none_passed front (call ∷ calls) h passed no_updates no_folds its (inl m) =
-      none_passed (m.0 ++ m.1 ∷ []) calls h passed no_updates no_folds (All-tail IsIts call calls its) m.4
+  none_passed front (call ∷ calls) h passed no_updates no_folds its (inl m) = grind (arith, nat_tests, none_passed (m.0 ++ m.1 ∷ []) calls h passed no_updates no_folds (All-tail IsIts call calls its) m.4)
   none_passed front (call ∷ calls) h passed no_updates no_folds its (inr m) =
       absurd (not_passed m.0 call no_updates no_folds (All-head IsIts call calls its) m.3)
 
@@ -211,8 +204,7 @@ module _ (plan : Plan) (caller : ℕ) where
       all_right_by (m.0 ++ m.1 ∷ []) calls h passed (All-tail IsIts call calls its) m.4
       (subst (All IsFine) (sym (own_entry caller m.0 m.1 (numbered caller (opening_of plan) m.0 call m.1 m.3) ∙ ap (λ (l : List Entry). l ++ m.1 ∷ []) m.2.1))
       (All-push IsFine (entries_of caller front) m.1 all (right_by m.0 call (All-head IsIts call calls its) m.1 m.3)))
-  all_right_by front (call ∷ calls) h passed its (inr m) all =
-      all_right_by m.0 calls h m.1 (All-tail IsIts call calls its) m.5 (subst (All IsFine) (sym m.2.1) all)
+  all_right_by front (call ∷ calls) h passed its (inr m) all = grind (arith, nat_tests, all_right_by m.0 calls h m.1 (All-tail IsIts call calls its) m.5 (subst (All IsFine) (sym m.2.1) all))
 
 -- ---- a whole storm
 
@@ -266,13 +258,8 @@ module _ (plan : Plan) (h : List Entry) (sound : IsSound plan) (below : All (IsB
   each_made caller = dite (dec_le (callers_of_plan plan) caller)
       (λ over. (
         0,
-        subst (λ (calls : List Call). AreMade (opening_of plan) caller [] calls h 0) (sym (no_calls plan caller (omega (arith, over)))) (
-          (
-            (h, refl),
-            own_none number_of caller (caller + 1) h (λ k d within. let less = below k d within in grind (arith, nat_tests, less, over)),
-          ),
-          refl,
-        ),
+        rw (no_calls plan caller (omega (arith, over)))
+            (((h, refl), own_none number_of caller (caller + 1) h (λ k d within. let less = below k d within in grind (arith, nat_tests, less, over))), refl),
         λ is. absurd (omega (arith, over, is)),
       ))
       (λ not_over.
@@ -291,12 +278,12 @@ module _ (plan : Plan) (h : List Entry) (sound : IsSound plan) (below : All (IsB
   pub is_storm : (too_many : ℕ) → IsOutcomeOf plan (folder plan) h too_many → IsAsPlanned plan h too_soon too_many
   is_storm too_many folds =
       let updates = each_made (updater plan) in (
-        subst (AllMade plan h (updater plan)) (updates.2 refl) updates.1,
+        rw (← updates.2 refl) updates.1,
         all_made (folder plan) too_many (omega arith) folds,
         λ caller no_updates no_folds.
             let m = each_made caller in
             let none = none_passed plan caller [] (calls_of plan caller) h m.0 no_updates no_folds (calls_are plan sound caller) m.1 in
-            subst (AllMade plan h caller) none m.1,
+            rw (← none) m.1,
       )
 
 module _ (plan : Plan) (link : LinkView) (work : Work) (book : BookView) (link_for : IsFor plan link)
@@ -352,17 +339,16 @@ module _ (plan : Plan) (link : LinkView) (work : Work) (book : BookView) (link_f
       let represents_list = (represents holds_all).represents in
       let storm = storm_of counts.0 in
       let is : end.events.items ≡ h = items ∙ whole_history counts.0 in record {
-        legal = subst (λ (es : List Event). IsLegal (opening_of plan) es) (sym is)
-            (subst (λ (o : Opening). IsLegal o h) opened_so represents_list.running.legal);
+        legal = rw (is, ← opened_so) represents_list.running.legal;
         made = record {
           history = work.caller.front;
           of_history = sym is;
-          updates = subst (AllMade plan work.caller.front (updater plan)) (sym (counts.1)) storm.0;
-          folds = subst (AllMade plan work.caller.front (folder plan)) (sym (counts.2)) storm.1;
+          updates = rw counts.1 storm.0;
+          folds = rw counts.2 storm.1;
           others = storm.2;
         };
         folded = all_parted counts.0 end.events.items end.folded items counts.3;
-        registers = registers h represents_list ∙ (ap (λ o. registers_after o h) opened_so ∙ ap (λ es. registers_after (opening_of plan) es) (sym is));
-        stats = stats h represents_list ∙ (ap (λ o. stats_after o h) opened_so ∙ ap (λ es. stats_after (opening_of plan) es) (sym is));
+        registers = cc (registers h represents_list, opened_so, is);
+        stats = cc (stats h represents_list, opened_so, is);
       }
   ended (Err why) items registers stats counts = counts

@@ -4,7 +4,7 @@ use Rattle.pie_storm.proofs.Names.{All-head, All-tail, is_within, NoneOwn, gone_
 use Rattle.pie_storm.proofs.Names.{Entry, Applied, Folded, HasNoMore, is_number, zero, suc, ◌≤◌, Some, None, Ok, Err, Option, Result, Vec, drop, min}
 use Rattle.pie_storm.proofs.Names.{length, slice_get, subst, inl, inr, length-append, length-drop, Global, take-add, take-length, length-take}
 use Rattle.pie_storm.proofs.Names.{append_assoc, Extends, goes_on_itself, Answer, Command, Refusal, refusal_by_rule, event_of, entries_of, events_in}
-use Rattle.pie_storm.proofs.Names.{Told, CallerView, LinkView, Call, Ask, Fold, Plan, IsFair, calls_of, folder, opening_of, AreMade, IsOutcomeBy}
+use Rattle.pie_storm.proofs.Names.{Told, CallerView, LinkView, Call, Apply, Fold, Plan, IsFair, calls_of, folder, opening_of, AreMade, IsOutcomeBy}
 use Rattle.pie_storm.proofs.Names.{IsOutcomeOf, IsAt, IsCutShort, IsFor, WereFolded, map, IfSome, IsOk, length-map, All-cons, All-nil, Arrival, Reply}
 use Rattle.pie_storm.proofs.Names.{always, arrive, arriving, AddedByAll, decision}
 use Rattle.std.proofs.lemmas.List.Elements.{filter-append, All-drop, All-take}
@@ -40,10 +40,7 @@ pub folded_same : (law : EntriesLookBack) (opening : Opening) (caller : ℕ) (g 
     → folded_for (is_number caller) opening [] h ≡ folded_for (is_number caller) opening [] g
 folded_same law opening caller g h same =
     let on = gone_on number_of caller (caller + 1) g h same in
-    ap (λ (l : List Entry). folded_for (is_number caller) opening [] l) (sym on.1)
-    ∙ (law.folds_split (is_number caller) opening [] g on.0
-    ∙ (ap (λ (es : List Event). folded_for (is_number caller) opening [] g ++ es) (folded_none opening caller g on.0 on.2)
-    ∙ append-nil (folded_for (is_number caller) opening [] g)))
+    let none = folded_none opening caller g on.0 on.2 in grind (arith, append-nil, law.folds_split (is_number caller) opening [] g on.0)
 
 -- an entry of a history in which this caller folds and makes no other entry, and no other caller folds
 abbrev pub IsRight : ℕ → Entry → Type 0
@@ -88,9 +85,7 @@ module _ (opening : Opening) (caller : ℕ) where
   -- calls after calls
   made_both : (front : List Entry) (calls later : List Call) (mid h : List Entry) (p q : ℕ) → AreMade opening caller front calls mid p
       → AreMade opening caller mid later h q → AreMade opening caller front (calls ++ later) h (p + q)
-  made_both front [] later mid h p q m n =
-      let none : q ≡ p + q = omega (arith, m.1) in
-      subst (λ (t : ℕ). AreMade opening caller front later h t) none (made_from front mid later h q m.0 n)
+  made_both front [] later mid h p q m n = grind (arith, nat_tests, made_from)
   made_both front (call ∷ calls) later mid h p q (inl m) n = grind (arith, nat_tests, made_both (m.0 ++ m.1 ∷ []) calls later mid h p q m.4 n)
   made_both front (call ∷ calls) later mid h p q (inr m) n = grind (arith, nat_tests, made_both m.0 calls later mid h m.1 q m.5 n)
 
@@ -105,9 +100,8 @@ module _ (opening : Opening) (caller : ℕ) where
   pub few_made : (front : List Entry) (calls : List Call) (h : List Entry) (passed : ℕ) → AreMade opening caller front calls h passed
       → length (entries_of caller h) ≤ length (entries_of caller front) + length calls
   few_made front [] h passed m = let same = m.0.1 in grind arith
-  few_made front (call ∷ calls) h passed (inl m) =
-      grind (arith, nat_tests, own_entry, numbered, length-append, few_made (m.0 ++ m.1 ∷ []) calls h passed m.4)
-  few_made front (call ∷ calls) h passed (inr m) = let rest = few_made m.0 calls h m.1 m.5 in let same = m.2.1 in grind arith
+  few_made front (call ∷ calls) h passed (inl m) = grind (arith, nat_tests, own_entry, numbered, length-append, few_made (m.0 ++ m.1 ∷ []) calls h passed m.4)
+  few_made front (call ∷ calls) h passed (inr m) = grind (arith, nat_tests, few_made m.0 calls h m.1 m.5)
 
 -- the element at the place at which the list is cut
 one_at : {A : Type 0} (xs : List A) (k : ℕ) (x : A) → slice_get xs k ≡ Some x → take 1 (drop k xs) ≡ x ∷ []
@@ -159,17 +153,17 @@ module _ (plan : Plan) (number : ℕ) where
   one_passed call h front was shown = inr (h, 0, stays number h, was, refl, (shows h front shown, refl))
 
   -- a refused command
-  module _ (h front : List Entry) (command : Command) (its : IsCallOf plan number (Ask command)) (shown : front ≡ h) where
+  module _ (h front : List Entry) (command : Command) (its : IsCallOf plan number (Apply command)) (shown : front ≡ h) where
     cut_short : (why : Refusal) → refusal_in (opening_of plan) h command ≡ Some why → ((d : ℕ) → why ≡ TooSoon d → ⊥)
-        → IsCutShort plan number h (Ask command ∷ []) front
+        → IsCutShort plan number h (Apply command ∷ []) front
     cut_short why because not_soon =
-        subst (λ (l : List Entry). IsCutShort plan number h (Ask command ∷ []) l) (sym shown)
+        subst (λ (l : List Entry). IsCutShort plan number h (Apply command ∷ []) l) (sym shown)
         (record { asks = its.0; full = full_after (opening_of plan) h command why its.1 because not_soon; fewer = omega arith })
 
-    refused_by : (why : Refusal) → refusal_in (opening_of plan) h command ≡ Some why → IsOutcomeBy plan number h (Ask command ∷ []) front (added_by (Err why))
+    refused_by : (why : Refusal) → refusal_in (opening_of plan) h command ≡ Some why → IsOutcomeBy plan number h (Apply command ∷ []) front (added_by (Err why))
     unfolding IsOutcomeBy added_by
     refused_by (TooSoon due) because =
-        one_passed (Ask command) h front (record { due = due; refused = too_soon_by_rule (opening_of plan) h command due because }) shown
+        one_passed (Apply command) h front (record { due = due; refused = too_soon_by_rule (opening_of plan) h command due because }) shown
     refused_by Moment because = cut_short Moment because (λ d e. cc e)
     refused_by Size because = cut_short Size because (λ d e. cc e)
     refused_by Exhausted because = cut_short Exhausted because (λ d e. cc e)
@@ -184,20 +178,20 @@ module _ (plan : Plan) (number k : ℕ) (link : LinkView) (link_for : IsFor plan
       → Extends number_of before.first before.limit before.front history → IsOutcomeBy plan number history (call ∷ []) after.front passed → Came passed
   one_came call history passed there on came = grind (arith, nat_tests, one_at, came_from, has_front)
 
-  pub asked_next : (command : Command) → slice_get (calls_of plan number) k ≡ Some (Ask command) → (answer : Result (Told Answer) Refusal)
+  pub asked_next : (command : Command) → slice_get (calls_of plan number) k ≡ Some (Apply command) → (answer : Result (Told Answer) Refusal)
       → Answers link before command answer after → Came (added_by answer)
   unfolding Answers IsOutcomeBy added_by
   asked_next command there (Ok reply) answers =
       let a = answers (opening_of plan) link_for.opened in
       let taken : IsTurn (opening_of plan) before _ _ after a.0 = a.1 in
-      one_came (Ask command) a.0 (Some 0) there taken.from.continues
-      (one_made plan number (Ask command) a.0 (Applied (event_of before.first command reply.answer)) after.front (at.first, refl)
+      one_came (Apply command) a.0 (Some 0) there taken.from.continues
+      (one_made plan number (Apply command) a.0 (Applied (event_of before.first command reply.answer)) after.front (at.first, refl)
       (ap (λ (c : CallerView). c.front) taken.has_front))
   asked_next command there (Err why) answers =
       let a = answers (opening_of plan) link_for.opened in
       let refused : IsTurn (opening_of plan) before _ _ after a.0 = a.1 in
-      let its = all_at (IsCallOf plan number) (calls_of plan number) k (Ask command) (calls_are plan link_for.sound number) there in
-      one_came (Ask command) a.0 (added_by (Err why)) there refused.from.continues
+      let its = all_at (IsCallOf plan number) (calls_of plan number) k (Apply command) (calls_are plan link_for.sound number) there in
+      one_came (Apply command) a.0 (added_by (Err why)) there refused.from.continues
       (refused_by plan number a.0 after.front command its (ap (λ (c : CallerView). c.front) refused.has_front ∙ append-nil a.0) why
       (refused_why (refusal_in (opening_of plan) a.0 command) _ why (sym refused.has_result)))
 
@@ -217,10 +211,7 @@ module _ (plan : Plan) (number k : ℕ) (link : LinkView) (link_for : IsFor plan
         let shown : after.front ≡ a.0 ++ Folded before.first n ∷ [] = ap (λ (c : CallerView). c.front) made.has_front in (
           subst Came (sym kept.1) (one_came (Fold n) a.0 (Some 0) there made.from.continues
               (one_made plan number (Fold n) a.0 (Folded before.first n) after.front (at.first, refl, made.has_result.held) shown)),
-          λ had. kept.0 ∙ (ap (λ (es : List Event). es ++ reply.answer.items) (handed_before a.0 on had)
-              ∙ (ap (λ (es : List Event). folded_for (is_number number) (opening_of plan) [] a.0 ++ es) made.has_result.oldest
-              ∙ (sym (folded_more law (opening_of plan) number a.0 n before.first at.first)
-              ∙ ap (λ (h : List Entry). folded_for (is_number number) (opening_of plan) [] h) (sym shown)))),
+          λ had. cc (kept.0, handed_before a.0 on had, made.has_result.oldest, folded_more law (opening_of plan) number a.0 n before.first at.first, shown),
         )
     folded_next passed (Err (TooMany held)) answers kept =
         let a = answers (opening_of plan) link_for.opened in
@@ -229,8 +220,7 @@ module _ (plan : Plan) (number k : ℕ) (link : LinkView) (link_for : IsFor plan
         let shown : after.front ≡ a.0 = ap (λ (c : CallerView). c.front) refused.has_front ∙ append-nil a.0 in (
           subst Came (sym kept.1) (one_came (Fold n) a.0 (Some 1) there refused.from.continues
               (one_passed plan number (Fold n) a.0 after.front (omega (arith, refused.has_result.0, refused.has_result.1)) shown)),
-          λ had. kept.0 ∙ (handed_before a.0 on had
-              ∙ ap (λ (h : List Entry). folded_for (is_number number) (opening_of plan) [] h) (sym shown)),
+          λ had. cc (kept.0, handed_before a.0 on had, shown),
         )
     folded_next passed (Err Memory) answers kept = absurd kept
 
@@ -293,7 +283,7 @@ module _ (law : EntriesLookBack) (plan : Plan) (caller : ℕ) where
       let added = entries_by caller (arrive a) reply in
       let rest = is_answered h (made ++ added) later in
       let is : h ++ (made ++ added) ≡ grown (h ++ made) a reply = sym (append_assoc h made added) in (
-        ap (λ (l : List Reply). reply ∷ l) (rest.0 ∙ ap (λ (g : List Entry). replies_to g later) is),
+        cc (rest.0, is),
         ap (λ (l : List Entry). h ++ l) (sym (append_assoc made added (recorded h (made ++ added) later)))
             ∙ (rest.1 ∙ ap (λ (g : List Entry). after_all g later) is),
       )
@@ -308,9 +298,7 @@ module _ (law : EntriesLookBack) (plan : Plan) (caller : ℕ) where
 
   grows : (g : List Entry) (burst : List Arrival) → Grows g (length burst) (after_all g burst)
   grows g [] = (omega arith, omega arith)
-  grows g (a ∷ later) =
-      let one = grows_by g a (reply_to g a) in let rest = grows (grown g a (reply_to g a)) later in
-      (omega (arith, one.0, rest.0), omega (arith, one.1, rest.1))
+  grows g (a ∷ later) = grind (arith, nat_tests, grows_by, grows (grown g a (reply_to g a)) later)
 
   -- an arrival, followed by those after it
   first_came : (g end : List Entry) (a : Arrival) (later : List Call) (replies : List Reply) (passed : Option ℕ) (reply : Reply)

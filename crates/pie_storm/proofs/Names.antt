@@ -35,7 +35,7 @@ pub use Rattle.pie_storm.specs.Storms.{AddedByAll, AreFolded, AreMade, HasNoMore
 pub use Rattle.pie_storm.specs.Storms.{is_number}
 unfoldable pub use Rattle.pie_storm.specs.Storms.{IsOutcomeBy, IsOutcomeOf}
 pub use Rattle.pie_storm.specs.declared.plan.Call.{Call}
-pub use Rattle.pie_storm.specs.declared.plan.Call.TheVariants.{Ask, Fold}
+pub use Rattle.pie_storm.specs.declared.plan.Call.TheVariants.{Apply, Fold}
 pub use Rattle.pie_storm.specs.declared.plan.Plan.{Plan}
 pub use Rattle.pie_storm.specs.declared.worker.Work.{Work}
 pub use mathlib.Core.Logic.{dite}

@@ -1,8 +1,8 @@
 -- The lists of a storm's plan grow by one entry, the random words are taken one after another, and the calls of a sound
 -- plan's callers.
-use Rattle.pie_storm.proofs.Names.{◌≡◌, ◌+◌, ◌*◌, ◌/◌, ◌^◌, ◌≤◌, ℕ, List, [], ◌∷◌, ◌++◌, map, refl, sym, ap, ◌∙◌, arith, Vec, range_with_len, Global}
+use Rattle.pie_storm.proofs.Names.{◌≡◌, ◌+◌, ◌*◌, ◌/◌, ◌^◌, ◌≤◌, ℕ, List, [], ◌∷◌, ◌++◌, map, refl, sym, arith, Vec, range_with_len, Global}
 use Rattle.pie_storm.proofs.Names.{length, map-append, take, take-length, total, Arrival, arrivals_of, held_by, ◌-◌, ◌==◌, nat_le, Bool, true, false}
-use Rattle.pie_storm.proofs.Names.{Some, slice_get, drop, subst, if◌then◌else◌, All, drop-map, take-map, nat_tests, All-nil, Call, Ask, Fold, Plan}
+use Rattle.pie_storm.proofs.Names.{Some, slice_get, drop, subst, if◌then◌else◌, All, drop-map, take-map, nat_tests, All-nil, Call, Apply, Fold, Plan}
 use Rattle.pie_storm.proofs.Names.{IsFair, IsSound, arriving, calls_of, changing, departing, folder, senders, updater, updating, None, Option}
 use Rattle.std.proofs.Common.{add-one}
 use Rattle.std.proofs.Math.Nat.{div-le_self, mul-le-mul_left}
@@ -36,14 +36,11 @@ pub lists_push : (packets burst seed before : ℕ) (lists later : List (Vec Arri
     → map held_by lists ≡ map (arrivals_of packets burst seed) (range_with_len 1 before) → later ≡ lists ++ list ∷ []
     → held_by list ≡ arrivals_of packets burst seed (before + 1)
     → map held_by later ≡ map (arrivals_of packets burst seed) (range_with_len 1 (before + 1))
-lists_push packets burst seed before lists later list so_far pushed is =
-    ap (λ (all : List (Vec Arrival Global)). map held_by all) pushed ∙ map-append held_by lists (list ∷ [])
-    ∙ ap (λ (all : List (List Arrival)). all ++ held_by list ∷ []) so_far
-    ∙ ap (λ (last : List Arrival). map (arrivals_of packets burst seed) (range_with_len 1 before) ++ last ∷ []) is
-    ∙ sym (map-range_with_len_more (arrivals_of packets burst seed) 1 before (before + 1) (omega arith))
+lists_push packets burst seed before lists later list so_far pushed is = rw (pushed, map-append held_by lists (list ∷ []), so_far, is)
+    (sym (map-range_with_len_more (arrivals_of packets burst seed) 1 before (before + 1) (omega arith)))
 
 pub taken_whole : {A : Type 0} (list : List A) (n : ℕ) → n ≡ length list → take n list ≡ list
-taken_whole list n is = ap (λ (k : ℕ). take k list) is ∙ take-length list
+taken_whole list n is = rw is (take-length list)
 
 -- ---- words
 
@@ -70,7 +67,7 @@ all_at P xs k x a e = subst P (get_or_from_slice_get xs k x x e) (a k x (slice_g
 -- a call of this caller: a fold by the folder, or a command with moment and size in their ranges. Only commands of the
 -- updater can be too soon
 abbrev pub IsCallOf : Plan → ℕ → Call → Type 0
-IsCallOf plan caller (Ask command) =
+IsCallOf plan caller (Apply command) =
     (caller ≡ folder plan → ⊥) × IsFair command × ((caller ≡ updater plan → ⊥) → (before due : ℕ) → is_too_soon before due command ≡ false)
 IsCallOf plan caller (Fold n) = caller ≡ folder plan
 
@@ -117,9 +114,7 @@ no_calls plan caller over = grind (arith, nat_tests, over)
 -- a part of a sender's list has the calls of that part
 pub part_of : (k n : ℕ) (list part : List Arrival) (calls : List Call) → calls ≡ map arriving list → part ≡ take n (drop k list)
     → map arriving part ≡ take n (drop k calls)
-part_of k n list part calls has is =
-    ap (λ (l : List Arrival). map arriving l) is ∙ sym (take-map arriving n (drop k list))
-    ∙ ap (λ (l : List Call). take n l) (sym (drop-map arriving k list)) ∙ ap (λ (l : List Call). take n (drop k l)) (sym has)
+part_of k n list part calls has is = rw (is, has, drop-map arriving k list, take-map arriving n (drop k list)) refl
 
 -- a sender's calls are those of its list
 pub sender_has : (plan : Plan) (caller : ℕ) (list : Vec Arrival Global) → 1 ≤ caller → caller ≤ senders plan

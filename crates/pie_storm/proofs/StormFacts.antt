@@ -1,7 +1,7 @@
 -- A plan from numbers in their ranges is sound, and its link is opened if there is memory. The events of a legal history
 -- have the kinds of their commands, and are few; their text is clean.
-use Rattle.pie_storm.proofs.Names.{◌≡◌, ◌≤◌, ◌<◌, ◌+◌, ◌*◌, ◌-◌, ◌/◌, ◌∙◌, ℕ, zero, suc, List, Vec, Global, All, map, length, refl, sym, ap, subst}
-use Rattle.pie_storm.proofs.Names.{⊎_elim, arith, ◌^◌, ◌∷◌, [], nat_tests, range_with_len, slice_get, Some, None, Arrival, Call, Plan, IsSound, arrivals_of}
+use Rattle.pie_storm.proofs.Names.{◌≡◌, ◌≤◌, ◌<◌, ◌+◌, ◌*◌, ◌/◌, ◌∙◌, ℕ, zero, suc, List, Vec, Global, All, map, length, refl, sym, ap, subst}
+use Rattle.pie_storm.proofs.Names.{⊎_elim, arith, ◌^◌, ◌∷◌, [], nat_tests, range_with_len, slice_get, Some, None, Arrival, Plan, IsSound, arrivals_of}
 use Rattle.pie_storm.proofs.Names.{held_by, length-map, arriving, planned_arrival, sender_words, senders, total, calls_of, ◌++◌, true, IfSome, Option}
 use Rattle.pie_storm.proofs.Names.{Result, Ok, Err, append-nil, Command, Event, Opening, IsLegal, IsLegalAt, decision, opening_of}
 use Rattle.pie_storm.proofs.PlanFacts.{all_at, sender_has, total_more, all_of}
@@ -10,7 +10,6 @@ use Rattle.pie_storm.specs.StormPlan.{HasStormRange, IsStormPlan, change_at, com
 use Rattle.pie_storm.specs.Storms.{refusal_of}
 unfoldable use Rattle.pie_storm.specs.Storms.{CanStop, HasFault}
 use Rattle.pie_storm.specs.declared.storm_end.StormFault.{StormFault}
-use Rattle.pie_storm.specs.declared.storm_end.StormFault.TheVariants as fault
 use Rattle.pie_event.specs.declared.opening.Limits.{Limits}
 use Rattle.pie_link.specs.Opening.{link_refusal}
 use Rattle.rand_core.specs.Stream.{next_u64}
@@ -74,30 +73,24 @@ module _ (n : StormNumbers) (plan : Plan) (range : HasStormRange n) (is : IsStor
   arrivals_sound : All (λ (list : Vec Arrival Global). All IsSoundArrival list.items) plan.arrivals.items
   arrivals_sound =
       of_held (All IsSoundArrival) plan.arrivals.items
-      (subst (All (All IsSoundArrival)) (sym is.arrivals)
-      (of_range (All IsSoundArrival) (arrivals_of n.packets n.burst n.seed) 1 n.senders
+      (rw is.arrivals (of_range (All IsSoundArrival) (arrivals_of n.packets n.burst n.seed) 1 n.senders
       (λ sender less. of_range IsSoundArrival (planned_arrival n.packets n.burst sender (sender_words n.seed sender)) 0 n.packets
       (λ i within. arrival_sound sender i))))
 
   departs_sound : All IsMoment plan.departs.items
   departs_sound =
-      subst (All IsMoment) (sym is.departs)
-      (of_range IsMoment (λ j. (j + 1) * n.load * 10_000 / n.senders) 0 (n.senders * n.packets)
-      (λ j less.
+      rw is.departs (of_range IsMoment (λ j. (j + 1) * n.load * 10_000 / n.senders) 0 (n.senders * n.packets) (λ j less.
       let one : j + 1 ≤ 80_000 = omega (arith, less, few) in
       omega (arith, div-le_self ((j + 1) * n.load * 10_000) n.senders, mul-le-mul one range.load)))
 
   updates_sound : All IsMoment plan.updates.items
   updates_sound =
-      subst (All IsMoment) (sym is.updates)
-      (of_range IsMoment (λ j. (j + 1) * 15_000_000) 0 (n.packets / 15 + 1)
-      (λ j less. omega (arith, less, div-le_self n.packets 15, range.packets)))
+      rw is.updates (of_range IsMoment (λ j. (j + 1) * 15_000_000) 0 (n.packets / 15 + 1) (λ j less.
+      omega (arith, less, div-le_self n.packets 15, range.packets)))
 
   changes_sound : All (λ (c : Change). IsMoment c.moment) plan.changes.items
   changes_sound =
-      subst (All (λ (c : Change). IsMoment c.moment)) (sym is.changes)
-      (of_range (λ (c : Change). IsMoment c.moment) (change_at n.packets n.changes) 0 n.changes
-      (λ k less.
+      rw is.changes (of_range (λ (c : Change). IsMoment c.moment) (change_at n.packets n.changes) 0 n.changes (λ k less.
       let one : k + 1 ≤ 100 = omega (arith, less, range.changes) in
       omega (arith, div-le_self ((k + 1) * n.packets * 1_000_000) (n.changes + 1), mul-le-mul one range.packets)))
 
@@ -113,13 +106,9 @@ module _ (n : StormNumbers) (plan : Plan) (range : HasStormRange n) (is : IsStor
       let long : length it.0.items ≡ n.packets =
       all_at (λ (l : Vec Arrival Global). length l.items ≡ n.packets) plan.arrivals.items k it.0
       (of_held (λ (l : List Arrival). length l ≡ n.packets) plan.arrivals.items
-      (subst (All (λ (l : List Arrival). length l ≡ n.packets)) (sym is.arrivals)
-      (of_range (λ (l : List Arrival). length l ≡ n.packets) (arrivals_of n.packets n.burst n.seed) 1 n.senders
+      (rw is.arrivals (of_range (λ (l : List Arrival). length l ≡ n.packets) (arrivals_of n.packets n.burst n.seed) 1 n.senders
       (λ sender below. length-map-range_with_len (planned_arrival n.packets n.burst sender (sender_words n.seed sender)) 0 n.packets)))) it.1 in
-      let place : slice_get plan.arrivals.items (k + 1 - 1) ≡ Some it.0 =
-      ap (λ (p : ℕ). slice_get plan.arrivals.items p) (omega arith) ∙ it.1 in
-      ap (λ (l : List Call). length l) (sender_has plan (k + 1) it.0 (omega arith) (omega (arith, within)) place)
-      ∙ (length-map it.0.items arriving ∙ long)
+      rw (sender_has plan (k + 1) it.0 (omega arith) (omega (arith, within)) (grind arith)) (length-map it.0.items arriving ∙ long)
 
   none_many : many 0 ≡ 0
   unfolding calls_of

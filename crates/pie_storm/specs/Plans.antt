@@ -12,7 +12,7 @@ use Rattle.pie_book.specs.Decision.{has_bad_size}
 use Rattle.pie_link.specs.declared.arrival.Arrival.{Arrival}
 use Rattle.pie_link.specs.Bursts.{arrive}
 use Rattle.pie_storm.specs.declared.plan.Call.{Call}
-use Rattle.pie_storm.specs.declared.plan.Call.TheVariants.{Ask, Fold}
+use Rattle.pie_storm.specs.declared.plan.Call.TheVariants.{Apply, Fold}
 use Rattle.pie_storm.specs.declared.plan.Change.{Change}
 use Rattle.pie_storm.specs.declared.plan.Plan.{Plan}
 
@@ -31,16 +31,16 @@ senders plan = length plan.arrivals.items
 
 -- the call of an arrival, a departure, an update or a change
 abbrev pub arriving : Arrival → Call
-arriving arrival = Ask (arrive arrival)
+arriving arrival = Apply (arrive arrival)
 
 abbrev pub departing : ℕ → Call
-departing moment = Ask (Depart moment)
+departing moment = Apply (Depart moment)
 
 abbrev pub updating : ℕ → Call
-updating moment = Ask (Update moment)
+updating moment = Apply (Update moment)
 
 abbrev pub changing : Change → Call
-changing new = Ask (SetParams new.moment new.params)
+changing new = Apply (SetParams new.moment new.params)
 
 -- the calls of one of these senders, counted from 0
 abbrev pub sent_by : Option (Vec Arrival Global) → List Call

@@ -27,15 +27,15 @@ use Rattle.pie_storm.specs.declared.storm_end.StormFault.{StormFault}
 use Rattle.pie_storm.specs.declared.storm_end.StormFault.TheVariants as fault
 use Rattle.pie_storm.specs.declared.plan.Plan.{Plan}
 use Rattle.pie_storm.specs.declared.plan.Call.{Call}
-use Rattle.pie_storm.specs.declared.plan.Call.TheVariants.{Ask, Fold}
+use Rattle.pie_storm.specs.declared.plan.Call.TheVariants.{Apply, Fold}
 use Rattle.pie_storm.specs.declared.worker.Folding.{Folding}
 use Rattle.pie_storm.specs.declared.worker.Work.{Work}
 use Rattle.pie_storm.specs.Plans.{IsSound, calls_of, folder, opening_of, senders, updater}
 
 -- this entry is the one that the caller's call adds to this history; a fold found its events in the log
 abbrev pub IsEntryOf : Opening → List Entry → ℕ → Call → Entry → Type 0
-IsEntryOf opening before caller (Ask command) (Applied event) = (event.caller ≡ caller) × (event.command ≡ command)
-IsEntryOf opening before caller (Ask command) (Folded who n) = ⊥
+IsEntryOf opening before caller (Apply command) (Applied event) = (event.caller ≡ caller) × (event.command ≡ command)
+IsEntryOf opening before caller (Apply command) (Folded who n) = ⊥
 IsEntryOf opening before caller (Fold count) (Applied event) = ⊥
 IsEntryOf opening before caller (Fold count) (Folded who n) = (who ≡ caller) × (n ≡ count) × (count ≤ length (tail_in opening before))
 
@@ -50,7 +50,7 @@ WasTooMany opening before n = length (tail_in opening before) < n
 
 -- a call was refused after this history, and the storm skips it
 abbrev pub WasPassedOver : Opening → List Entry → Call → Type 0
-WasPassedOver opening before (Ask command) = WasTooSoon opening (events_in before) command
+WasPassedOver opening before (Apply command) = WasTooSoon opening (events_in before) command
 WasPassedOver opening before (Fold n) = WasTooMany opening before n
 
 -- a longer list continues the caller's front, and has no further entry of the caller

@@ -73,7 +73,7 @@ impl<'a, C: Clock> Pace<'a, C> {
         let place = call.wrapping_sub(1);
         let first = place.saturating_mul(self.plan.turn(caller) as u64) as usize;
         match self.plan.call(caller, first) {
-            Some(Call::Ask(command)) => command.moment().max(1),
+            Some(Call::Apply(command)) => command.moment().max(1),
             Some(Call::Fold(_)) => {
                 let folds = (self.plan.folds.len() as u64).max(1);
                 let last = self.plan.updates.last().copied().unwrap_or(0);

@@ -26,7 +26,7 @@ impl Change {
     fn call(&self) -> Call
         ensures { result ≡ changing self.now }
     {
-        Call::Ask(Command::SetParams {
+        Call::Apply(Command::SetParams {
             moment: self.moment,
             params: self.params,
         })
@@ -37,7 +37,7 @@ impl Change {
 #[derive(Clone, Copy)]
 pub enum Call {
     /// A command.
-    Ask(Command),
+    Apply(Command),
     /// A fold of this number of events.
     Fold(u64),
 }
@@ -213,8 +213,8 @@ impl Plan {
         if place == 0 {
             None
         } else if place <= senders {
-            let ask = |it: &Arrival| Call::Ask(it.command());
-            self.arrivals[place - 1].as_slice().get(k).map(ask)
+            let call = |it: &Arrival| Call::Apply(it.command());
+            self.arrivals[place - 1].as_slice().get(k).map(call)
         } else {
             self.call_after_senders(place - senders, k)
         }
@@ -225,17 +225,17 @@ impl Plan {
         ensures { result ≡ slice_get (calls_after_senders self.now n) k }
     {
         if n == 1 {
-            let ask = |it: &u64| Call::Ask(Command::Depart { moment: *it });
-            self.departs.as_slice().get(k).map(ask)
+            let call = |it: &u64| Call::Apply(Command::Depart { moment: *it });
+            self.departs.as_slice().get(k).map(call)
         } else if n == 2 {
-            let ask = |it: &u64| Call::Ask(Command::Update { moment: *it });
-            self.updates.as_slice().get(k).map(ask)
+            let call = |it: &u64| Call::Apply(Command::Update { moment: *it });
+            self.updates.as_slice().get(k).map(call)
         } else if n == 3 {
-            let ask = |it: &Change| it.call();
-            self.changes.as_slice().get(k).map(ask)
+            let call = |it: &Change| it.call();
+            self.changes.as_slice().get(k).map(call)
         } else if n == 4 {
-            let ask = |it: &u64| Call::Fold(*it);
-            self.folds.as_slice().get(k).map(ask)
+            let call = |it: &u64| Call::Fold(*it);
+            self.folds.as_slice().get(k).map(call)
         } else {
             None
         }

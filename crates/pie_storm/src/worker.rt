@@ -80,7 +80,7 @@ impl Folding {
 }
 
 // Makes one command at the link, and waits for its result.
-fn ask<R: Wait>(
+fn apply<R: Wait>(
     rt: &R,
     link: &Link,
     caller: &mut Caller,
@@ -181,7 +181,7 @@ fn make_turn<R: Wait>(
     }
     entries_look_back();
     match plan.call(number, k) {
-        Some(Call::Ask(command)) => added_by(&ask(rt, link, caller, &command)),
+        Some(Call::Apply(command)) => added_by(&apply(rt, link, caller, &command)),
         Some(Call::Fold(n)) => folding.take_in(link.fold(rt, caller, n)),
         None => unreachable!(),
     }

@@ -1,6 +1,6 @@
 -- Worked examples of the definitions: each theorem computes. The tests tests/program/summary.py and flows.py cover
 -- the output.
-use Rattle.pie_summary.proofs.Names.{◌^◌, Some, None, ⊤, greatest, last_or, Bounds, period_of, kept, first_up_to, range_of, bounds_of}
+use Rattle.pie_summary.proofs.Names.{◌^◌, Some, None, ⊤, greatest, last_or, Bounds, interval_of, kept, first_up_to, range_of, bounds_of}
 use Rattle.pie_summary.proofs.Names.{peak_of, total_in, total_of}
 use Rattle.std.specs.Prelude.{ℕ, ◌≡◌, ◌-◌, true, false, [], ◌∷◌, map, refl}
 use Rattle.pie_summary.specs.Ranges.{end_within, range_end}
@@ -17,9 +17,9 @@ agreeing : map (disagree 8) (2 ∷ 3 ∷ 4 ∷ 8 ∷ 16 ∷ 17 ∷ 18 ∷ []) �
 agreeing = refl
 
 -- intervals of 100 ns, of length 0, and no interval
-periods : (map (period_of (Some 100)) (0 ∷ 99 ∷ 100 ∷ 199 ∷ 250 ∷ []) ≡ 0 ∷ 0 ∷ 1 ∷ 1 ∷ 2 ∷ [])
-    × (map (period_of (Some 0)) (0 ∷ 7 ∷ []) ≡ 0 ∷ 7 ∷ []) × (period_of None 250 ≡ 0)
-periods = (refl, refl, refl)
+intervals : (map (interval_of (Some 100)) (0 ∷ 99 ∷ 100 ∷ 199 ∷ 250 ∷ []) ≡ 0 ∷ 0 ∷ 1 ∷ 1 ∷ 2 ∷ [])
+    × (map (interval_of (Some 0)) (0 ∷ 7 ∷ []) ≡ 0 ∷ 7 ∷ []) × (interval_of None 250 ≡ 0)
+intervals = (refl, refl, refl)
 
 -- ---- ranges
 

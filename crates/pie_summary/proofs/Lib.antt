@@ -4,6 +4,6 @@ pub mod RangeFacts
 mod Examples
 pub mod SpanFacts
 pub mod SumsFacts
-pub mod PeriodFacts
+pub mod IntervalFacts
 pub mod LiveFacts
 pub mod FlowFacts

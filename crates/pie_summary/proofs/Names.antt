@@ -26,8 +26,8 @@ pub use Rattle.pie_summary.specs.FlowSums.{flow_sums, is_of}
 unfoldable pub use Rattle.pie_summary.specs.FlowSums.{added_up}
 pub use Rattle.pie_summary.specs.Flows.{HasFlows, first_of, placed, sums_beside}
 unfoldable pub use Rattle.pie_summary.specs.Flows.{distinct, in_order}
-pub use Rattle.pie_summary.specs.LivePeriod.{Holds, clock_of, length_of, number_in}
-pub use Rattle.pie_summary.specs.Period.{begins, last_events, last_period, period_at, period_of, since, starts}
+pub use Rattle.pie_summary.specs.LiveInterval.{Holds, clock_of, length_of, number_in}
+pub use Rattle.pie_summary.specs.Interval.{ends_interval, last_events, last_interval, interval_at, interval_of, since, starts_interval}
 pub use Rattle.pie_summary.specs.Ranges.{first_up_to}
 unfoldable pub use Rattle.pie_summary.specs.Ranges.{range_of, ranges_of}
 unfoldable pub use Rattle.pie_summary.specs.Record.{record_of}
@@ -39,9 +39,9 @@ unfoldable pub use Rattle.pie_summary.specs.Sums.{meter_of, meter_input_by, sums
 unfoldable pub use Rattle.pie_summary.specs.Words.{cause_words}
 pub use Rattle.pie_summary.specs.declared.flow.Flow.{Flow}
 pub use Rattle.pie_summary.specs.declared.flow_sums.FlowSums.{FlowSums}
-pub use Rattle.pie_summary.specs.declared.live_period.LivePeriod.{LivePeriod}
+pub use Rattle.pie_summary.specs.declared.live_interval.LiveInterval.{LiveInterval}
 pub use Rattle.pie_summary.specs.declared.meter.Meter.{Meter}
 pub use Rattle.pie_summary.specs.declared.meter_input.MeterInput.{MeterInput}
 pub use Rattle.pie_summary.specs.declared.aggregates.Bounds.{Bounds}
-pub use Rattle.pie_summary.specs.declared.period.Sums.{Sums}
+pub use Rattle.pie_summary.specs.declared.interval.Sums.{Sums}
 unfoldable pub use Rattle.pie_units.specs.Utc.{utc_text}

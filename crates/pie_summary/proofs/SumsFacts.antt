@@ -3,6 +3,7 @@ use Rattle.pie_summary.proofs.Names.{◌≡◌, ◌+◌, arith, ℕ, suc, List, 
 use Rattle.pie_summary.proofs.Names.{filter_map, sum, map_push, filter_map-append, sum_by_push, Explained, last_or, Meter, kept, ranges_of}
 use Rattle.pie_summary.proofs.Names.{time_at, meter_of, reached, timed_by, wait_in, waits_of}
 use Rattle.pie_summary.proofs.Names.{Answer, Done, Left, MeterInput, Some, Updated, answer_of, cause_of, meter_input_by, size_in}
+use Rattle.pie_event.specs.declared.cause_name.CauseName.{CauseName}
 use Rattle.pie_event.specs.declared.verdict.Verdict.{Verdict}
 use Rattle.pie_event.specs.declared.verdict.Verdict.TheVariants.{Enqueued}
 use Rattle.pie_summary.specs.declared.meter_input.Conditions.{Conditions}
@@ -103,13 +104,13 @@ taken shown one is time-is notes takes reached-is =
 
 -- ---- The meter's input for an event, by its numbers and its answer
 
-pub input-by : (met : Conditions) (one : Explained) (answer : Answer) (cause : ℕ) (arrived : Option ℕ) → HasConditions met one → one.explanation.event.answer ≡ answer
+pub input-by : (met : Conditions) (one : Explained) (answer : Answer) (cause : Option CauseName) (arrived : Option ℕ) → HasConditions met one → one.explanation.event.answer ≡ answer
     → cause_of one ≡ cause → size_in one ≡ arrived → meter_input_of one ≡ meter_input_by met answer cause arrived one.explanation.waited
 input-by met one answer cause arrived m is cause-is size-is = λ i. meter_input_by (m i) (is i) (cause-is i) (size-is i) one.explanation.waited
 
 -- the input for an arrival with any verdict
-pub arrival-input : (met : Conditions) (verdict : Verdict) (cause size waited : ℕ)
-    → record (meter_input_by met Done 15 None 0) { answer = answer_place (answer_of verdict); cause = cause; arrived = Some size }
+pub arrival-input : (met : Conditions) (verdict : Verdict) (cause : Option CauseName) (size waited : ℕ)
+    → record (meter_input_by met Done None None 0) { answer = answer_place (answer_of verdict); cause = cause; arrived = Some size }
     ≡ meter_input_by met (answer_of verdict) cause (Some size) waited
 unfolding meter_input_by
 arrival-input met Enqueued cause size waited = refl

@@ -6,10 +6,10 @@ use Rattle.pie_explain.specs.declared.explanation.Explained.{Explained}
 use Rattle.pie_explain.specs.declared.form.Form.{Form}
 use Rattle.pie_explain.specs.Output.{header_of}
 use Rattle.pie_summary.specs.declared.by_flow.ByFlow.{ByFlow}
-use Rattle.pie_summary.specs.declared.by_flow.FlowPeriod.{FlowPeriod}
+use Rattle.pie_summary.specs.declared.by_flow.FlowInterval.{FlowInterval}
 use Rattle.pie_summary.specs.Flows.{HasFlows, flows_of}
 use Rattle.pie_summary.specs.FlowWords.{flow_names, flows_text}
-use Rattle.pie_summary.specs.Period.{Keeps, at_end, at_last}
+use Rattle.pie_summary.specs.Interval.{Keeps, at_end, at_last}
 use Rattle.pie_summary.specs.Aggregates.{span_of}
 
 -- the text before the first interval: for CSV the header row
@@ -29,9 +29,9 @@ abbrev pub flows_whole : ByFlow → List Explained → List ℕ
 flows_whole by_flow all = flows_so_far by_flow all ++ at_last by_flow.every (text_by_flow by_flow) all
 
 -- the state of an interval after these events: their span, and their flows
-pub record HoldsFlows (period : FlowPeriod) (all : List Explained) : Type 0 where
-  pub span : period.span ≡ span_of all
-  pub flows : HasFlows period.rows.entries all
+pub record HoldsFlows (interval : FlowInterval) (all : List Explained) : Type 0 where
+  pub span : interval.span ≡ span_of all
+  pub flows : HasFlows interval.rows.entries all
 
-abbrev pub keeps_flows : ByFlow → FlowPeriod → List Explained → Type 0
-keeps_flows by_flow period all = Keeps (HoldsFlows period) by_flow.every period.number all
+abbrev pub keeps_flows : ByFlow → FlowInterval → List Explained → Type 0
+keeps_flows by_flow interval all = Keeps (HoldsFlows interval) by_flow.every interval.number all

@@ -2,10 +2,10 @@ pub mod Counts
 pub mod Ranges
 pub mod Aggregates
 pub mod Sums
-pub mod Period
+pub mod Interval
 pub mod Words
 pub mod Record
-pub mod LivePeriod
+pub mod LiveInterval
 pub mod Summary
 pub mod FlowSums
 pub mod Flows

@@ -1,9 +1,9 @@
 -- The numbers of a summary, each over the whole list of explained events.
 use Rattle.std.specs.Prelude.{ℕ, ◌-◌, ◌&&◌, nat_lt, min, if◌then◌else◌, Bool, true, false, List, [], ◌∷◌, ◌++◌, length, map, slice_index}
-use Rattle.std.specs.Prelude.{◌≡◌, None, Option, Some}
+use Rattle.std.specs.Prelude.{◌≡◌, None, Option, Some, option_map}
 use Rattle.std.specs.List.{filter_map, sum}
 use Rattle.std.specs.Option.{option_and}
-use Rattle.pie_event.specs.declared.cause.Cause.{Cause}
+use Rattle.pie_event.specs.declared.cause_name.CauseName.{CauseName}
 use Rattle.pie_aqm.specs.Places.{Place, greatest, last_or, places, up_to}
 use Rattle.pie_event.specs.CauseName.{name_of, place_of_cause}
 use Rattle.pie_event.specs.declared.command.Command.{Command}
@@ -15,7 +15,7 @@ use Rattle.pie_explain.specs.declared.explanation.Explained.{Explained}
 use Rattle.pie_summary.specs.declared.meter.Meter.{Meter}
 use Rattle.pie_summary.specs.declared.meter_input.Conditions.{Conditions}
 use Rattle.pie_summary.specs.declared.meter_input.MeterInput.{MeterInput}
-use Rattle.pie_summary.specs.declared.period.Sums.{Sums}
+use Rattle.pie_summary.specs.declared.interval.Sums.{Sums}
 use Rattle.pie_summary.specs.Counts.{counts_of, kept}
 use Rattle.pie_summary.specs.Ranges.{ranges_of}
 use Rattle.pie_summary.specs.Aggregates.{bounds_of, peak_of, time_at, total_of}
@@ -43,8 +43,8 @@ answer_place (Updated delay prob burst) = updated_place
 answer_place Done = 8
 
 -- the place of the count of an arrival's cause, in the order of the decision; 15 for any other event
-abbrev pub cause_place : Option Cause → ℕ
-cause_place (Some cause) = place_of_cause (name_of cause)
+abbrev pub cause_place : Option CauseName → ℕ
+cause_place (Some name) = place_of_cause name
 cause_place None = 15
 
 -- the size of the packet that arrived
@@ -55,9 +55,9 @@ size_by _ = None
 abbrev pub size_in : Explained → Option ℕ
 size_in all = size_by all.explanation.event.command
 
--- the place of an event's cause
-abbrev pub cause_of : Explained → ℕ
-cause_of all = cause_place all.explanation.cause
+-- the name of an event's cause
+abbrev pub cause_of : Explained → Option CauseName
+cause_of all = option_map name_of all.explanation.cause
 
 -- the moment of an event if it changed the controller's activity in this direction: `true` for on, `false` for off; then its activity before and
 -- after the event
@@ -66,9 +66,9 @@ turned_at true false true moment = Some moment
 turned_at false true false moment = Some moment
 turned_at _ _ _ moment = None
 
--- the meter's input for an event of any kind, by the numbers before and after it: with the place of its answer, that of its cause, and the size of
+-- the meter's input for an event of any kind, by the numbers before and after it: with the place of its answer, the name of its cause, and the size of
 -- the packet that arrived
-abbrev pub meter_input_plain : Conditions → ℕ → ℕ → Option ℕ → MeterInput
+abbrev pub meter_input_plain : Conditions → ℕ → Option CauseName → Option ℕ → MeterInput
 meter_input_plain met answer cause arrived = record {
   answer = answer;
   cause = cause;
@@ -79,8 +79,8 @@ meter_input_plain met answer cause arrived = record {
   excess = None;
   delay = None;
   prob = met.prob;
-  turned_on = turned_at true met.was met.is met.moment;
-  turned_off = turned_at false met.was met.is met.moment;
+  turned_on = turned_at true met.was_active met.is_active met.moment;
+  turned_off = turned_at false met.was_active met.is_active met.moment;
   carried = 0;
   above = 0;
   target = met.target;
@@ -89,16 +89,16 @@ meter_input_plain met answer cause arrived = record {
 
 -- the meter's input for an event. For a packet that left, also its waiting time, the excess of that over the target, its moment and its bytes; for an
 -- update of an active controller, its delay, and if that is above the target, the time since the update before
-unfoldable pub meter_input_by : Conditions → Answer → ℕ → Option ℕ → ℕ → MeterInput
+unfoldable pub meter_input_by : Conditions → Answer → Option CauseName → Option ℕ → ℕ → MeterInput
 meter_input_by met (Left packet) cause arrived waited = record (meter_input_plain met left_place cause arrived) {
   wait = Some waited;
   left = Some met.moment;
-  excess = if nat_lt met.held waited then Some (waited - met.held) else None;
+  excess = if nat_lt met.old_target waited then Some (waited - met.old_target) else None;
   carried = packet.size;
 }
 meter_input_by met (Updated delay prob burst) cause arrived waited = record (meter_input_plain met updated_place cause arrived) {
-  delay = if met.was then Some delay else None;
-  above = if met.was && nat_lt met.held delay then met.moment - met.last else 0;
+  delay = if met.was_active then Some delay else None;
+  above = if met.was_active && nat_lt met.old_target delay then met.moment - met.last_update else 0;
 }
 meter_input_by met answer cause arrived waited = meter_input_plain met (answer_place answer) cause arrived
 
@@ -106,10 +106,10 @@ meter_input_by met answer cause arrived waited = meter_input_plain met (answer_p
 abbrev pub conditions_of_event : Explained → Conditions
 conditions_of_event one = record {
   moment = one.explanation.moment;
-  was = one.explanation.before.active;
-  is = one.after.active;
-  held = one.explanation.before.params.target;
-  last = one.explanation.before.last;
+  was_active = one.explanation.before.active;
+  is_active = one.after.active;
+  old_target = one.explanation.before.params.target;
+  last_update = one.explanation.before.last;
   prob = one.after.prob;
   burst = one.after.burst;
   target = one.after.params.target;
@@ -158,7 +158,7 @@ late_at place = excess_within place.event.excess (place.event.moment - first_sin
 unfoldable pub meter_of : List MeterInput → List ℕ → Meter
 meter_of all times = record {
   answers = counts_of (λ one. one.answer) 9 all;
-  causes = counts_of (λ one. one.cause) 15 all;
+  causes = counts_of (λ one. cause_place one.cause) 15 all;
   first = slice_index (moments_of all) 0;
   last = last_or 0 (moments_of all);
   since = last_or (slice_index (moments_of all) 0) (filter_map (λ one. one.left) all);

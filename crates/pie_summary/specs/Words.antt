@@ -9,7 +9,7 @@ use Rattle.pie_event.specs.declared.command.Answer.TheVariants.{DroppedBytes, Dr
 use Rattle.pie_units.specs.Utc.{utc_text}
 use Rattle.pie_summary.specs.declared.meter.Meter.{Meter}
 use Rattle.pie_summary.specs.declared.aggregates.Bounds.{Bounds}
-use Rattle.pie_summary.specs.declared.period.Sums.{Sums}
+use Rattle.pie_summary.specs.declared.interval.Sums.{Sums}
 use Rattle.pie_summary.specs.Ranges.{end_within, first_up_to}
 use Rattle.pie_summary.specs.Aggregates.{mean_in, sum_in}
 use Rattle.pie_summary.specs.Sums.{answer_place, left_place, updated_place}

@@ -4,13 +4,13 @@ ghost use Rattle.pie_explain.specs.declared.explanation.Explained.{Explained};
 ghost use Rattle.pie_summary.specs.ByFlow.{HoldsFlows};
 ghost use Rattle.pie_summary.specs.Flows.{HasFlows};
 ghost use Rattle.pie_summary.specs.FlowWords.{flows_text};
-ghost use Rattle.pie_summary.specs.Period.{Keeps, since};
+ghost use Rattle.pie_summary.specs.Interval.{Keeps, since};
 ghost use Rattle.pie_summary.specs.Aggregates.{span_of};
 
 use crate::aggregates::Span;
 use crate::flow::{Flow, flows_of, take};
 use crate::flow_words::{NAMES, push_flows};
-use crate::period::{begins, has_summary, period_of, starts};
+use crate::interval::{ends_interval, has_summary, interval_of, starts_interval};
 use crate::words::Written;
 use indexmap::IndexMap;
 use pie_explain::{Explained, Form, Report, push_header, time_of};
@@ -37,7 +37,7 @@ pub struct ByFlow {
 
 /// The flows of the last events, as far back as they are in the same interval.
 #[derive(Drop)]
-pub struct FlowPeriod {
+pub struct FlowInterval {
     /// The number of that interval; `None` before the first event.
     pub number: Option<u64>,
     /// The span of these events.
@@ -46,15 +46,15 @@ pub struct FlowPeriod {
     pub rows: IndexMap<u32, Flow>,
 }
 
-impl FlowPeriod {
+impl FlowInterval {
     /// Returns the state before the first event.
     #[tactic(auto, using(crate::proofs::FlowFacts::none_shown), unfolding(pie_aqm::specs::Places::last_or))]
-    pub(crate) fn empty(alloc: Global) -> FlowPeriod
+    pub(crate) fn empty(alloc: Global) -> FlowInterval
         ensures number { result.number ≡ None }
         ensures span { result.span ≡ span_of [] }
         ensures flows { HasFlows result.rows.entries [] }
     {
-        FlowPeriod {
+        FlowInterval {
             number: None,
             span: Span::default(),
             rows: IndexMap::new(alloc),
@@ -62,12 +62,12 @@ impl FlowPeriod {
     }
 
     /// Drops the earlier events if they are in another interval than this one.
-    #[tactic(auto, using(crate::proofs::FlowFacts::none_shown, crate::proofs::PeriodFacts::since_begun, crate::proofs::PeriodFacts::since_same), unfolding(pie_aqm::specs::Places::last_or))]
-    fn begin(&mut self, period: u64)
+    #[tactic(auto, using(crate::proofs::FlowFacts::none_shown, crate::proofs::IntervalFacts::since_begun, crate::proofs::IntervalFacts::since_same), unfolding(pie_aqm::specs::Places::last_or))]
+    fn begin(&mut self, interval: u64)
         ensures { (shown : List Explained) (every : Option ℕ) → Keeps (HoldsFlows self.old) every self.old.number shown
-            → HoldsFlows self.new (since every (Some period) shown) }
+            → HoldsFlows self.new (since every (Some interval) shown) }
     {
-        if starts(self.number, period) {
+        if starts_interval(self.number, interval) {
             self.span = Span::default();
             self.rows.clear();
         }
@@ -86,7 +86,7 @@ impl FlowPeriod {
         ensures { (shown : List Explained) → Keeps (HoldsFlows self.old) every self.old.number shown
             → OnOk result (Keeps (HoldsFlows self.new) every self.new.number (shown ++ explained.now ∷ [])) }
     {
-        let number = period_of(every, explained.explanation.moment);
+        let number = interval_of(every, explained.explanation.moment);
         self.begin(number);
         self.number = Some(number);
         let (clock, moment) = (explained.explanation.clock, explained.explanation.moment);
@@ -109,7 +109,7 @@ fn push_ended(page: &mut Page, by_flow: &ByFlow, ends: bool, span: &Span, flows:
 }
 
 impl Report for ByFlow {
-    type State = FlowPeriod;
+    type State = FlowInterval;
 
     ghost use Rattle.pie_summary.specs.ByFlow.{flows_so_far, flows_whole, keeps_flows};
 
@@ -125,27 +125,27 @@ impl Report for ByFlow {
     }
 
     #[tactic(auto, unfolding(pie_aqm::specs::Places::last_or))]
-    fn begin(&self, page: &mut Page) -> Result<FlowPeriod, AllocError> {
+    fn begin(&self, page: &mut Page) -> Result<FlowInterval, AllocError> {
         push_header(page, NAMES, self.form)?;
-        Ok(FlowPeriod::empty(page.allocator()))
+        Ok(FlowInterval::empty(page.allocator()))
     }
 
     fn report_event(
         &self,
-        state: &mut FlowPeriod,
+        state: &mut FlowInterval,
         explained: &Explained,
         page: &mut Page,
     ) -> Written {
-        let ends = begins(
+        let ends = ends_interval(
             state.number,
-            period_of(self.every, explained.explanation.moment),
+            interval_of(self.every, explained.explanation.moment),
         );
         push_ended(page, self, ends, &state.span, flows_of(&state.rows))?;
         state.take(self.every, explained)?;
         Ok(())
     }
 
-    fn end(&self, state: &FlowPeriod, page: &mut Page) -> Written {
+    fn end(&self, state: &FlowInterval, page: &mut Page) -> Written {
         let ends = has_summary(self.every, state.number);
         push_ended(page, self, ends, &state.span, flows_of(&state.rows))
     }

@@ -1,29 +1,29 @@
 //! Summaries of a saved history: the number of arrivals by verdict and by cause, the waiting times, the numbers of the updates, and the changes of
 //! the controller's activity; of all events, or of each interval that has some.
 //!
-//! `Summary` is a report that `explain` of pie_explain writes about the chosen events, and its text is `summary_of` them. The numbers of a summary
+//! `Summaries` is a report that `explain` of pie_explain writes about the chosen events, and its text is `summary_of` them. The numbers of a summary
 //! are those of `sums_of`, which is defined on the whole list of its events. Each event has the same cost, and only the numbers are kept. With
-//! `packets` each packet that was lost or marked is explained between the summaries, so one pass over a history gives both. `SumsAlone` writes the
+//! `packets` each packet that was lost or marked is explained between the summaries, so one pass over a history gives both. `SummariesOnly` writes the
 //! summaries without packets, in less time for each event.
 #![tactic(auto)]
 
 pub mod aggregates;
-pub mod alone;
 pub mod by_flow;
 pub mod flow;
 pub mod flow_sums;
 pub mod flow_words;
-pub mod live_period;
+pub mod interval;
+pub mod live_interval;
 pub mod meter;
 pub mod meter_input;
-pub mod period;
 pub mod ranges;
 mod record;
+pub mod summaries_only;
 pub mod summary;
 mod words;
 
-pub use alone::SumsAlone;
 pub use by_flow::ByFlow;
-pub use live_period::LivePeriod;
+pub use live_interval::LiveInterval;
 pub use meter_input::{Conditions, MeterInput};
-pub use summary::Summary;
+pub use summaries_only::SummariesOnly;
+pub use summary::Summaries;

@@ -5,12 +5,13 @@ ghost use Rattle.std.specs.List.{cons_option};
 ghost use Rattle.pie_summary.specs.Counts.{kept};
 ghost use Rattle.pie_summary.specs.declared.meter_input.MeterInput.{MeterInput};
 ghost use Rattle.pie_summary.specs.Aggregates.{counted_some};
-ghost use Rattle.pie_summary.specs.Sums.{awaiting, excess_within, meter_of, timed_by};
+ghost use Rattle.pie_summary.specs.Sums.{awaiting, cause_place, excess_within, meter_of, timed_by};
 ghost use Rattle.pie_summary.specs.Words.{wait_99};
 
 use crate::aggregates::{Bounds, Peak, Total, raise};
 use crate::meter_input::{LEFT, MeterInput};
 use crate::ranges::{RANGES, end_within, first_up_to};
+use pie_event::CauseName;
 use pie_explain::increase;
 
 /// The numbers of a record, each over all events of an interval. `answers` also gives the number of events and of
@@ -74,14 +75,15 @@ fn count<const N: usize>(counts: &mut [u64; N], place: usize)
     increase(&mut counts[place], 1);
 }
 
-/// Counts one more at the place of an arrival's cause; the place of any other event is after the counts.
+/// Counts one more at the position of an arrival's cause; an event without a cause counts nothing.
 #[inline(always)]
-fn count_cause(causes: &mut [u64; 15], place: usize)
-    ensures { causes.new ≡ (if nat_lt place 15 then slice_set causes.old place (min (slice_index causes.old place + 1) (2 ^ 64 - 1))
+fn count_cause(causes: &mut [u64; 15], cause: Option<CauseName>)
+    ensures { let place = cause_place cause in
+        causes.new ≡ (if nat_lt place 15 then slice_set causes.old place (min (slice_index causes.old place + 1) (2 ^ 64 - 1))
         else causes.old) }
 {
-    if place < 15 {
-        count(causes, place);
+    if let Some(name) = cause {
+        count(causes, name.place());
     }
 }
 

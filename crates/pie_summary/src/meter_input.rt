@@ -1,13 +1,15 @@
 //! The meter's input for an event.
-ghost use Rattle.std.specs.Prelude.{◌≡◌, ◌<◌, ℕ, Some, None};
+ghost use Rattle.std.specs.Prelude.{◌≡◌, ◌<◌, ℕ, Some, None, option_map};
 ghost use Rattle.pie_explain.specs.declared.explanation.Explained.{Explained};
 ghost use Rattle.pie_queue.specs.declared.packet.Packet.{Packet};
 ghost use Rattle.pie_event.specs.declared.command.Answer.TheVariants.{Done, Empty, Left, Updated};
+ghost use Rattle.pie_event.specs.CauseName.{name_of};
 ghost use Rattle.pie_event.specs.declared.verdict.Verdict.{Verdict};
 ghost use Rattle.pie_event.specs.Verdict.{answer_of};
-ghost use Rattle.pie_summary.specs.Sums.{HasConditions, answer_place, cause_of, cause_place, meter_input_by, meter_input_of, size_by, size_in, turned_at};
+ghost use Rattle.pie_summary.specs.Sums.{HasConditions, answer_place, cause_of, meter_input_by, meter_input_of, size_by, size_in, turned_at};
 
 use pie_book::{Answer, Cause, Command};
+use pie_event::CauseName;
 use pie_explain::Explained;
 use pie_queue::{Ecn, Packet};
 
@@ -30,17 +32,14 @@ pub(crate) const UPDATED: usize = 7;
 
 pub(crate) const DONE: usize = 8;
 
-// The place of the cause of an event that is no arrival.
-const NO_CAUSE: usize = 15;
-
 /// The meter's input for an event. A field that its kind does not have is `None` or 0.
 #[derive(Clone, Copy)]
 pub struct MeterInput {
     /// The place of its answer's count, 0 to 8: queued, marked, dropped early, in bytes, in packets, a packet that left, none that did, an
     /// update, and a reset or new parameters.
     pub answer: usize,
-    /// The place of the count of its cause: 0 to 14 for an arrival, in the order of the decision, and 15 for any other event.
-    pub cause: usize,
+    /// The name of an arrival's cause.
+    pub cause: Option<CauseName>,
     /// Its effective moment, in nanoseconds.
     pub moment: u64,
     /// The size of an arriving packet, in bytes.
@@ -77,13 +76,13 @@ pub struct Conditions {
     /// Its effective moment.
     pub moment: u64,
     /// True if the controller was active before it.
-    pub was: bool,
+    pub was_active: bool,
     /// True if the controller is active after it.
-    pub is: bool,
+    pub is_active: bool,
     /// The target before it.
-    pub held: u64,
+    pub old_target: u64,
     /// The moment of the last update before it.
-    pub last: u64,
+    pub last_update: u64,
     /// The probability after it.
     pub prob: u64,
     /// The burst allowance after it.
@@ -111,14 +110,13 @@ fn answer_place(answer: Answer) -> usize
     }
 }
 
-/// Returns the place of the count of an arrival's cause; 15 for any other event.
-fn cause_place(cause: Option<Cause>) -> usize
-    ensures place { result ≡ cause_place cause }
-    ensures within { result < 16 }
+/// Returns the name of an arrival's cause; `None` for any other event.
+fn cause_named(cause: Option<Cause>) -> Option<CauseName>
+    ensures { result ≡ option_map name_of cause }
 {
     match cause {
-        Some(cause) => cause.name().place(),
-        None => NO_CAUSE,
+        Some(cause) => Some(cause.name()),
+        None => None,
     }
 }
 
@@ -134,17 +132,17 @@ fn size_by(command: Command) -> Option<u64>
 
 /// Returns the moment of an event that changed the controller's activity in this direction, `on` or off, by the activity before and after the event.
 #[inline(always)]
-fn turned_at(on: bool, was: bool, is: bool, moment: u64) -> Option<u64>
-    ensures { result ≡ turned_at on was is moment }
+fn turned_at(on: bool, was_active: bool, is_active: bool, moment: u64) -> Option<u64>
+    ensures { result ≡ turned_at on was_active is_active moment }
 {
-    match (on, was, is) {
+    match (on, was_active, is_active) {
         (true, false, true) | (false, true, false) => Some(moment),
         _ => None,
     }
 }
 
 impl Conditions {
-    /// Returns the meter's input for an event with this answer. `cause` is the place of its cause, `arrived` the
+    /// Returns the meter's input for an event with this answer. `cause` is the name of its cause, `arrived` the
     /// size of an arriving packet, and `waited` a departing packet's time in the queue. The function is inlined, so
     /// a caller for one kind of event computes only the fields of that kind.
     #[inline(always)]
@@ -152,7 +150,7 @@ impl Conditions {
     pub(crate) fn noted(
         &self,
         answer: Answer,
-        cause: usize,
+        cause: Option<CauseName>,
         arrived: Option<u64>,
         waited: u64,
     ) -> MeterInput
@@ -169,8 +167,8 @@ impl Conditions {
             excess: None,
             delay: None,
             prob: self.prob,
-            turned_on: turned_at(true, self.was, self.is, self.moment),
-            turned_off: turned_at(false, self.was, self.is, self.moment),
+            turned_on: turned_at(true, self.was_active, self.is_active, self.moment),
+            turned_off: turned_at(false, self.was_active, self.is_active, self.moment),
             carried: 0,
             above: 0,
             target: self.target,
@@ -180,8 +178,8 @@ impl Conditions {
             Answer::Left(packet) => MeterInput {
                 wait: Some(waited),
                 left: Some(self.moment),
-                excess: if self.held < waited {
-                    Some(waited - self.held)
+                excess: if self.old_target < waited {
+                    Some(waited - self.old_target)
                 } else {
                     None
                 },
@@ -189,10 +187,10 @@ impl Conditions {
                 ..plain
             },
             Answer::Updated { delay, .. } => {
-                let is_above = self.was && self.held < delay;
-                let since = self.moment.saturating_sub(self.last);
+                let is_above = self.was_active && self.old_target < delay;
+                let since = self.moment.saturating_sub(self.last_update);
                 MeterInput {
-                    delay: if self.was { Some(delay) } else { None },
+                    delay: if self.was_active { Some(delay) } else { None },
                     above: if is_above { since } else { 0 },
                     ..plain
                 }
@@ -201,10 +199,10 @@ impl Conditions {
         }
     }
 
-    /// Returns the input for an arrival with this answer's place, this cause's place and this size.
+    /// Returns the input for an arrival with this answer's place, a cause of this name and this size.
     #[inline(always)]
     #[tactic(auto, unfolding(crate::specs::Sums::meter_input_by))]
-    pub fn arrived(&self, answer: usize, cause: usize, size: u32) -> MeterInput
+    pub fn arrived(&self, answer: usize, cause: Option<CauseName>, size: u32) -> MeterInput
         ensures places { (result.answer ≡ answer) × (result.cause ≡ cause) }
         ensures adds { (one : Explained) (verdict : Verdict) → HasConditions self.now one → one.explanation.event.answer ≡ answer_of verdict
             → answer ≡ answer_place (answer_of verdict) → cause ≡ cause_of one → size_in one ≡ Some size → result ≡ meter_input_of one }
@@ -219,47 +217,47 @@ impl Conditions {
     #[inline(always)]
     #[tactic(auto, unfolding(crate::specs::Sums::meter_input_by))]
     pub fn left(&self, size: u32, waited: u64) -> MeterInput
-        ensures places { (result.answer ≡ 5) × (result.cause ≡ 15) }
+        ensures places { (result.answer ≡ 5) × (result.cause ≡ None) }
         ensures adds { (one : Explained) (packet : Packet) → HasConditions self.now one → one.explanation.event.answer ≡ Left packet → packet.size ≡ size
             → one.explanation.waited ≡ waited → one.explanation.cause ≡ None → size_in one ≡ None → result ≡ meter_input_of one }
     {
         let (tag, ecn) = (0, Ecn::NotEct);
         let packet = Packet { tag, size, ecn };
-        self.noted(Answer::Left(packet), NO_CAUSE, None, waited)
+        self.noted(Answer::Left(packet), None, None, waited)
     }
 
     /// Returns the input for a departure that found no packet.
     #[inline(always)]
     #[tactic(auto, unfolding(crate::specs::Sums::meter_input_by))]
     pub fn empty(&self) -> MeterInput
-        ensures places { (result.answer ≡ 6) × (result.cause ≡ 15) }
+        ensures places { (result.answer ≡ 6) × (result.cause ≡ None) }
         ensures adds { (one : Explained) → HasConditions self.now one → one.explanation.event.answer ≡ Empty → one.explanation.cause ≡ None → size_in one ≡ None
             → result ≡ meter_input_of one }
     {
-        self.noted(Answer::Empty, NO_CAUSE, None, 0)
+        self.noted(Answer::Empty, None, None, 0)
     }
 
     /// Returns the input for an update that took this delay.
     #[inline(always)]
     #[tactic(auto, unfolding(crate::specs::Sums::meter_input_by))]
     pub fn updated(&self, delay: u64) -> MeterInput
-        ensures places { (result.answer ≡ 7) × (result.cause ≡ 15) }
+        ensures places { (result.answer ≡ 7) × (result.cause ≡ None) }
         ensures adds { (one : Explained) (prob burst : ℕ) → HasConditions self.now one → one.explanation.event.answer ≡ Updated delay prob burst
             → one.explanation.cause ≡ None → size_in one ≡ None → result ≡ meter_input_of one }
     {
         let (prob, burst) = (0, 0);
-        self.noted(Answer::Updated { delay, prob, burst }, NO_CAUSE, None, 0)
+        self.noted(Answer::Updated { delay, prob, burst }, None, None, 0)
     }
 
     /// Returns the input for a reset, or for new parameters.
     #[inline(always)]
     #[tactic(auto, unfolding(crate::specs::Sums::meter_input_by))]
     pub fn done(&self) -> MeterInput
-        ensures places { (result.answer ≡ 8) × (result.cause ≡ 15) }
+        ensures places { (result.answer ≡ 8) × (result.cause ≡ None) }
         ensures adds { (one : Explained) → HasConditions self.now one → one.explanation.event.answer ≡ Done → one.explanation.cause ≡ None → size_in one ≡ None
             → result ≡ meter_input_of one }
     {
-        self.noted(Answer::Done, NO_CAUSE, None, 0)
+        self.noted(Answer::Done, None, None, 0)
     }
 }
 
@@ -272,17 +270,17 @@ pub(crate) fn meter_input_of(all: &Explained) -> MeterInput
     let (explanation, after) = (&all.explanation, &all.after);
     let met = Conditions {
         moment: explanation.moment,
-        was: explanation.before.active,
-        is: after.active,
-        held: explanation.before.params.target().units(),
-        last: explanation.before.last,
+        was_active: explanation.before.active,
+        is_active: after.active,
+        old_target: explanation.before.params.target().units(),
+        last_update: explanation.before.last,
         prob: after.prob,
         burst: after.burst,
         target: after.params.target().units(),
     };
     let (size, cause) = (
         size_by(explanation.event.command),
-        cause_place(explanation.cause),
+        cause_named(explanation.cause),
     );
     met.noted(explanation.event.answer, cause, size, explanation.waited)
 }

@@ -1,13 +1,13 @@
 //! Summaries of the explained events, and between them the words for each packet that was lost or marked.
 ghost use Rattle.std.specs.Prelude.{◌≡◌, ◌++◌, [], ℕ, List, OnOk, Option, Some, if◌then◌else◌};
 ghost use Rattle.pie_explain.specs.declared.explanation.Explained.{Explained};
-ghost use Rattle.pie_summary.specs.Period.{Keeps, begins, since};
+ghost use Rattle.pie_summary.specs.Interval.{Keeps, ends_interval, since};
 ghost use Rattle.pie_summary.specs.Record.{record_of};
 ghost use Rattle.pie_summary.specs.Words.{words};
 ghost use Rattle.pie_summary.specs.Summary.{HoldsSums, is_lost_or_marked, event_words, summary_text};
 
+use crate::interval::{Interval, Sums, ends_interval, has_summary, interval_of, starts_interval};
 use crate::meter::Meter;
-use crate::period::{Period, Sums, begins, has_summary, period_of, starts};
 use crate::record::{NAMES, push_record};
 use crate::words::{Written, push_words};
 use pie_explain::{EventChoice, Explained, Form, Report, push_header};
@@ -18,7 +18,7 @@ use std::alloc::AllocError;
 /// of the controller's activity. There is one of all events, also if there is none, or one of each interval that has some; each is written when its
 /// last event is known.
 #[derive(Clone, Copy)]
-pub struct Summary {
+pub struct Summaries {
     /// In words, or as CSV: a header row, and one record for each summary. With wall-clock times a line of words
     /// has those of the first and the last event that has one, and a record has that of the first as its last
     /// field.
@@ -52,14 +52,14 @@ fn push_as_record(page: &mut Page, by_wall: bool, meter: &Meter, most: u64) -> W
 }
 
 /// Writes the summary of an interval onto `page` if the interval `ends`.
-fn push_ended(page: &mut Page, form: Form, period: &Period, ends: bool) -> Written
-    ensures { OnOk result (page.new ≡ page.old ++ (if ends then summary_text form period.now.sums period.now.waits.value else [])) }
+fn push_ended(page: &mut Page, form: Form, interval: &Interval, ends: bool) -> Written
+    ensures { OnOk result (page.new ≡ page.old ++ (if ends then summary_text form interval.now.sums interval.now.waits.value else [])) }
 {
     if !ends {
         return Ok(());
     }
-    let sums = &period.sums;
-    let most = sums.meter.wait_99(&period.waits);
+    let sums = &interval.sums;
+    let most = sums.meter.wait_99(&interval.waits);
     if form.csv {
         return push_as_record(page, form.by_wall, &sums.meter, most);
     }
@@ -69,33 +69,33 @@ fn push_ended(page: &mut Page, form: Form, period: &Period, ends: bool) -> Writt
 /// Begins the interval with this number, unless it is under way. Writes the summary of the interval before onto
 /// `page`, if there is one.
 #[inline(always)]
-#[tactic(auto, using(crate::proofs::PeriodFacts::not_begun, crate::proofs::PeriodFacts::since_same, crate::proofs::PeriodFacts::under_way))]
-pub(crate) fn reach(page: &mut Page, form: Form, period: &mut Period, number: u64) -> Written
+#[tactic(auto, using(crate::proofs::IntervalFacts::not_begun, crate::proofs::IntervalFacts::since_same, crate::proofs::IntervalFacts::under_way))]
+pub(crate) fn enter(page: &mut Page, form: Form, interval: &mut Interval, number: u64) -> Written
     ensures written { OnOk result (page.new ≡ page.old
-        ++ (if begins period.old.number number then summary_text form period.old.sums period.old.waits.value else [])) }
-    ensures number { OnOk result (period.new.number ≡ Some number) }
-    ensures holds { OnOk result ((shown : List Explained) (every : Option ℕ) → Keeps (HoldsSums period.old) every period.old.number shown
-        → HoldsSums period.new (since every (Some number) shown)) }
+        ++ (if ends_interval interval.old.number number then summary_text form interval.old.sums interval.old.waits.value else [])) }
+    ensures number { OnOk result (interval.new.number ≡ Some number) }
+    ensures holds { OnOk result ((shown : List Explained) (every : Option ℕ) → Keeps (HoldsSums interval.old) every interval.old.number shown
+        → HoldsSums interval.new (since every (Some number) shown)) }
 {
-    if !starts(period.number, number) {
+    if !starts_interval(interval.number, number) {
         return Ok(());
     }
-    turn(page, form, period, number)
+    begin_interval(page, form, interval, number)
 }
 
-/// Begins the interval with this number, as `reach` does, if it is under way or not.
+/// Begins the interval with this number, as `enter` does, if it is under way or not.
 #[cold]
 #[inline(never)]
-fn turn(page: &mut Page, form: Form, period: &mut Period, number: u64) -> Written
+fn begin_interval(page: &mut Page, form: Form, interval: &mut Interval, number: u64) -> Written
     ensures written { OnOk result (page.new ≡ page.old
-        ++ (if begins period.old.number number then summary_text form period.old.sums period.old.waits.value else [])) }
-    ensures number { OnOk result (period.new.number ≡ Some number) }
-    ensures holds { OnOk result ((shown : List Explained) (every : Option ℕ) → Keeps (HoldsSums period.old) every period.old.number shown
-        → HoldsSums period.new (since every (Some number) shown)) }
+        ++ (if ends_interval interval.old.number number then summary_text form interval.old.sums interval.old.waits.value else [])) }
+    ensures number { OnOk result (interval.new.number ≡ Some number) }
+    ensures holds { OnOk result ((shown : List Explained) (every : Option ℕ) → Keeps (HoldsSums interval.old) every interval.old.number shown
+        → HoldsSums interval.new (since every (Some number) shown)) }
 {
-    let ends = begins(period.number, number);
-    push_ended(page, form, period, ends)?;
-    period.begin(number);
+    let ends = ends_interval(interval.number, number);
+    push_ended(page, form, interval, ends)?;
+    interval.begin(number);
     Ok(())
 }
 
@@ -109,7 +109,7 @@ fn is_lost_or_marked(explained: &Explained) -> bool
 
 /// Writes the words for an event that lost or marked a packet, if packets are explained.
 #[tactic(auto, unfolding(crate::specs::Summary::event_words))]
-fn push_event_words(page: &mut Page, summary: &Summary, explained: &Explained) -> Written
+fn push_event_words(page: &mut Page, summary: &Summaries, explained: &Explained) -> Written
     ensures { OnOk result (page.new ≡ page.old ++ event_words summary.now explained.now) }
 {
     if summary.packets && is_lost_or_marked(explained) {
@@ -123,8 +123,8 @@ fn push_event_words(page: &mut Page, summary: &Summary, explained: &Explained) -
     }
 }
 
-impl Report for Summary {
-    type State = Period;
+impl Report for Summaries {
+    type State = Interval;
 
     ghost use Rattle.pie_summary.specs.Summary.{keeps, summaries, summary_of};
 
@@ -140,21 +140,21 @@ impl Report for Summary {
     }
 
     #[tactic(auto, unfolding(pie_aqm::specs::Places::last_or))]
-    fn begin(&self, page: &mut Page) -> Result<Period, AllocError> {
+    fn begin(&self, page: &mut Page) -> Result<Interval, AllocError> {
         push_header(page, NAMES, self.form)?;
-        let period = Period::empty(page.allocator())?;
-        Ok(period)
+        let interval = Interval::empty(page.allocator())?;
+        Ok(interval)
     }
 
-    fn report_event(&self, state: &mut Period, explained: &Explained, page: &mut Page) -> Written {
-        let number = period_of(self.every, explained.explanation.moment);
-        reach(page, self.form, state, number)?;
+    fn report_event(&self, sums: &mut Interval, explained: &Explained, page: &mut Page) -> Written {
+        let number = interval_of(self.every, explained.explanation.moment);
+        enter(page, self.form, sums, number)?;
         push_event_words(page, self, explained)?;
-        state.add(explained);
+        sums.add(explained);
         Ok(())
     }
 
-    fn end(&self, state: &Period, page: &mut Page) -> Written {
+    fn end(&self, state: &Interval, page: &mut Page) -> Written {
         push_ended(
             page,
             self.form,

@@ -4,9 +4,9 @@ ghost use Rattle.pie_summary.specs.Words.{above_words, arrival_words, cause_row,
 ghost use Rattle.pie_summary.specs.Words.{row_words, time_words, turned_words, turning_words, update_words, verdict_words, words};
 
 use crate::aggregates::Bounds;
+use crate::interval::Sums;
 use crate::meter::Meter;
 use crate::meter_input::{EARLY, LEFT, MARKED, NO_BYTES, NO_PACKETS, QUEUED, UPDATED};
-use crate::period::Sums;
 use pie_aqm::CauseName;
 use pie_explain::{Millis, PerCent, Share};
 use pie_units::Utc;

@@ -8,6 +8,6 @@ ghost use Rattle.pie_text.specs.{ℕ, List, IfOk, None, history_opening, later_f
 /// The function does nothing: its contract is the law.
 #[tactic(auto, using(crate::proofs::LostFacts::lost_is_fault))]
 pub fn lost_records_are_faults()
-    ensures { (most count : ℕ) (before after : List Row) → IfOk (history_opening (before ++ lost_row count ∷ after))
-        (λ opening. later_fault most (before ++ lost_row count ∷ after) ≢ None) }
+    ensures { (max_records count : ℕ) (before after : List Row) → IfOk (history_opening (before ++ lost_row count ∷ after))
+        (λ opening. later_fault max_records (before ++ lost_row count ∷ after) ≢ None) }
 {}

@@ -10,11 +10,11 @@ pub use Rattle.pie_record.proofs.Laws.{rows_text-cons, same-before-three, tested
 pub use Rattle.pie_record.specs.{Field.and_then, Field.number_at, FirstRecord.first_fields, FirstRecord.kind_word, FirstRecord.opening_read}
 pub use Rattle.pie_record.specs.{ReadBack.TextsAreReadBack, Text.TakesRow, Text.Took, declared.first_record.Draft.Draft}
 pub use Rattle.pie_text.proofs.{LostFacts.lost-later, WriteFacts.contents-read}
-pub use Rattle.pie_trace.specs.{Answer, Appends, Ask, BadParams, Begins, BookRepresents, BookView, Bounded, Clean, Clock, CoreView, Err, Event}
+pub use Rattle.pie_trace.specs.{Answer, Appends, Apply, BadParams, Begins, BookRepresents, BookView, Bounded, Clean, Clock, CoreView, Err, Event}
 pub use Rattle.pie_trace.specs.{FirstKind, RecordFault, Fold, FoldRefusal, HasField, HasOutcome, HaveSameLines, IfErr, IfOk, IfSome, IsAt, IsHistoryText}
 pub use Rattle.pie_trace.specs.{IsProgressOf, IsWrite, Line, NoDeviceFailed, None, Ok, OnOk, One, Opening, Option, Progress, Promises, Refusal}
 pub use Rattle.pie_trace.specs.{Registers, RemainingLines, Replies, Represents, Request, Result, Rolling, Row, Show, Some, Stats, Tally, Three}
-pub use Rattle.pie_trace.specs.{TraceFault, Two, Version, after, append_known, apply_in, beginning_of_preamble, closed, code_of, core_after, end_at}
+pub use Rattle.pie_trace.specs.{TraceFault, Two, Version, after, append_known, apply_in, beginning_of_preamble, after_flush, code_of, core_after, end_at}
 pub use Rattle.pie_trace.specs.{end_left, events_in, fault_at, fold_outcome, fold_reply, history_row, is_device, is_kind, later_records_pass}
 pub use Rattle.pie_trace.specs.{later_rows, line_in, line_of_reply, lines_left, migrated_text, migrated_version, migration_pass, opening_refusal}
 pub use Rattle.pie_trace.specs.{outcome, progress_at_end, queued_row, records_of, refused, refused_count, registers_of, reply, reply_to_command}

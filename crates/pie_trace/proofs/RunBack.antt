@@ -1,5 +1,5 @@
 -- The history text of a trace is read back: its opening, the events of its run, and notes.
-use Rattle.pie_trace.proofs.Names.{All, All-append, All-cons, All-nil, AreLegal, AreLinesOf, Ask, BadParams, Begins, Bool, CanBeMade, Clean, Clock}
+use Rattle.pie_trace.proofs.Names.{All, All-append, All-cons, All-nil, AreLegal, AreLinesOf, Apply, BadParams, Begins, Bool, CanBeMade, Clean, Clock}
 use Rattle.pie_trace.proofs.Names.{Command, Draft, Err, Event, Finding, FirstKind, RecordFault, Fold, FoldRefusal, IsHistoryText, IsLegal, Line, List, Mode}
 use Rattle.pie_trace.proofs.Names.{None, Ok, Opening, Option, Preamble, Progress, Promises, Refusal, Reply, Represents, Request, Result, Row, RunEnd}
 use Rattle.pie_trace.proofs.Names.{Show, Some, Tally, TextsAreReadBack, Three, TraceFault, Version, [], after, and_then, ap, append-nil, append_assoc}
@@ -21,7 +21,7 @@ use Rattle.pie_queue.specs.declared.packet.Waiting.{Waiting}
 use Rattle.pie_record.specs.{FirstRecord.opening_by, declared.history_record.Line.TheVariants.Note, declared.history_record.Line.TheVariants.Valid}
 use Rattle.pie_text.specs.Lost.{lost_row}
 use Rattle.pie_trace.proofs.RunFacts.{first-one, part-opened, progress_after-request, whole-opened}
-use Rattle.pie_trace.specs.{TextStart, answered, long_by, progress_resumed, resumed_end, resumed_fault, resumed_text, text_in, within_by, within_most}
+use Rattle.pie_trace.specs.{TextStart, answered, long_by, progress_resumed, resumed_end, resumed_fault, resumed_text, text_in, within_by, within_max}
 use Rattle.pie_record.specs.declared.fault.TraceFault.TheVariants as fault
 use Rattle.pie_event.specs.declared.refusal.Refusal.TheVariants as refusal
 use Rattle.pie_record.specs.declared.trace_record.Request.TheVariants as request
@@ -48,7 +48,7 @@ pub requested-by : (P : Reply → Progress → Type 0) (opening : Opening) (prog
     → (refusal_by_rule opening progress.history command ≡ None → P (answered (decision opening progress.history command))
     (recorded opening progress caller command (Ok (decision opening progress.history command))))
     → ((why : Refusal) → P (refused (code_of why)) progress)
-    → P (reply opening progress (Ask caller command)) (after opening progress (Ask caller command))
+    → P (reply opening progress (Apply caller command)) (after opening progress (Apply caller command))
 requested-by P opening progress caller command taken refuses =
     by (refusal_by_rule opening progress.history command) (is_refused_full opening.choices.mode (progress.held == opening.limits.tail)) refl
   where
@@ -62,8 +62,8 @@ requested-by P opening progress caller command taken refuses =
 fold-enough : (progress : Progress) (n : ℕ) (events : List Event) → fold_outcome progress n ≡ Ok events → n ≤ progress.held
 fold-enough progress n events e = grind (arith, nat_tests, e)
 
-with-one : (mode : Mode) (most held : ℕ) → held_with_one mode most held ≤ held + 1
-with-one mode most held = grind (arith, nat_tests)
+with-one : (mode : Mode) (max_records held : ℕ) → held_with_one mode max_records held ≤ held + 1
+with-one mode max_records held = grind (arith, nat_tests)
 
 after-fold : (held n : ℕ) → (if nat_lt held n then held else held - n) ≤ held
 after-fold held n = grind (arith, nat_tests)
@@ -72,7 +72,7 @@ module _ (version : Version) (held : Promises) (opening : Opening) where
   -- the state of a run after a record is sound
   after-sound : (progress : Progress) (row : Row) (request : Request) → request_of version row ≡ Ok request → Sound opening progress
       → Sound opening (after opening progress request)
-  after-sound progress row (Ask caller command) reads sound = requested-by (λ given later. Sound opening later) opening progress caller command
+  after-sound progress row (Apply caller command) reads sound = requested-by (λ given later. Sound opening later) opening progress caller command
       (λ free.
       let event : Event = event_of caller command (decision opening progress.history command) in
       let more = length-append progress.history (event ∷ []) in
@@ -97,18 +97,18 @@ module _ (version : Version) (held : Promises) (opening : Opening) (opens : Open
   count-small progress sound = (held.registers opening progress.history opens.accepted opens.params sound.legal sound.fit).count
 
   -- the history record of a reply has its line
-  record-told : (number : ℕ) (row : Row) (request : Request) (progress : Progress) → number < 2 ^ 64 → Sound opening progress
+  record-written : (number : ℕ) (row : Row) (request : Request) (progress : Progress) → number < 2 ^ 64 → Sound opening progress
       → request_of version row ≡ Ok request
       → line_of version (history_row version number row (reply opening progress request)) ≡ Ok (line_of_reply request (reply opening progress request))
-  record-told number row (Ask caller command) progress small sound reads =
-      requested-by (λ given later. line_of version (history_row version number row given) ≡ Ok (line_of_reply (Ask caller command) given)) opening
+  record-written number row (Apply caller command) progress small sound reads =
+      requested-by (λ given later. line_of version (history_row version number row given) ≡ Ok (line_of_reply (Apply caller command) given)) opening
       progress caller command
       (λ free. held.back.answered version row caller command (decision opening progress.history command) reads
       (held.kinds opening progress.history command)
       (held.answers opening progress.history command opens.accepted opens.params sound.legal sound.fit free))
       (λ why. held.back.refused version number (code_of why) small (code-small why))
-  record-told number row BadParams progress small sound reads = held.back.refused version number 7 small (omega arith)
-  record-told number row (Fold n) progress small sound reads = by (fold_outcome progress n) refl
+  record-written number row BadParams progress small sound reads = held.back.refused version number 7 small (omega arith)
+  record-written number row (Fold n) progress small sound reads = by (fold_outcome progress n) refl
     where
       by : (o : Result (List Event) FoldRefusal) → fold_outcome progress n ≡ o
           → line_of version (history_row version number row (reply_to_fold n o)) ≡ Ok (line_of_reply (Fold n) (reply_to_fold n o))
@@ -118,11 +118,11 @@ module _ (version : Version) (held : Promises) (opening : Opening) (opens : Open
           let within = sound.held in
           let count = count-small progress sound in
           held.back.folded version n (omega arith)
-  record-told number row Show progress small sound reads =
+  record-written number row Show progress small sound reads =
       held.back.shown version _ (held.registers opening progress.history opens.accepted opens.params sound.legal sound.fit)
-  record-told number row Tally progress small sound reads =
+  record-written number row Tally progress small sound reads =
       held.back.tallied version _ (held.stats opening progress.history opens.accepted opens.params sound.legal sound.fit)
-  record-told number row (Clock clock) progress small sound reads = held.back.clock version row clock reads
+  record-written number row (Clock clock) progress small sound reads = held.back.clock version row clock reads
 
 -- ---- all records
 
@@ -132,46 +132,46 @@ RowsAreLines version opening number progress rows requests = AreLinesOf version 
 
 -- induction over the records up to the first that has a fault: a property of no records, and of a record with a
 -- request before others that have the property
-pub each-good : (version : Version) (most : ℕ) (opening : Opening) (P : ℕ → Progress → List Row → List Request → Type 0)
+pub each-good : (version : Version) (max_records : ℕ) (opening : Opening) (P : ℕ → Progress → List Row → List Request → Type 0)
     → ((number : ℕ) (progress : Progress) → P number progress [] [])
-    → ((number : ℕ) (progress : Progress) (row : Row) (rows : List Row) (request : Request) (requests : List Request) → number ≤ most
+    → ((number : ℕ) (progress : Progress) (row : Row) (rows : List Row) (request : Request) (requests : List Request) → number ≤ max_records
     → request_of version row ≡ Ok request → P (number + 1) (after opening progress request) rows requests
     → P number progress (row ∷ rows) (request ∷ requests))
     → (number : ℕ) (progress : Progress) (rows : List Row)
-    → P number progress (before_fault version most number rows) (requests_of version (before_fault version most number rows))
+    → P number progress (before_fault version max_records number rows) (requests_of version (before_fault version max_records number rows))
 unfolding requests_of before_fault record_fault
-each-good version most opening P none one number progress [] = none number progress
-each-good version most opening P none one number progress (row ∷ rows) =
-    by (record_fault version most number row) (request_of version row) refl refl
-    (λ request. each-good version most opening P none one (number + 1) (after opening progress request) rows)
+each-good version max_records opening P none one number progress [] = none number progress
+each-good version max_records opening P none one number progress (row ∷ rows) =
+    by (record_fault version max_records number row) (request_of version row) refl refl
+    (λ request. each-good version max_records opening P none one (number + 1) (after opening progress request) rows)
   where
     rest : List Row
-    rest = before_fault version most (number + 1) rows
+    rest = before_fault version max_records (number + 1) rows
 
-    by : (o : Option TraceFault) (r : Result Request RecordFault) → record_fault version most number row ≡ o → request_of version row ≡ r
+    by : (o : Option TraceFault) (r : Result Request RecordFault) → record_fault version max_records number row ≡ o → request_of version row ≡ r
         → ((request : Request) → P (number + 1) (after opening progress request) rest (requests_of version rest))
-        → P number progress (before_fault version most number (row ∷ rows)) (requests_of version (before_fault version most number (row ∷ rows)))
+        → P number progress (before_fault version max_records number (row ∷ rows)) (requests_of version (before_fault version max_records number (row ∷ rows)))
     by o r e q later = grind (arith, nat_tests)
 
-pub rows-lines : (version : Version) (held : Promises) (most : ℕ) (opening : Opening) (number : ℕ) (progress : Progress) (rows : List Row) → most ≤ 2 ^ 32
+pub rows-lines : (version : Version) (held : Promises) (max_records : ℕ) (opening : Opening) (number : ℕ) (progress : Progress) (rows : List Row) → max_records ≤ 2 ^ 32
     → Opens opening → Sound opening progress
-    → AreLinesOf version (rows_left version most opening number progress rows) (lines_left version most opening number progress rows)
+    → AreLinesOf version (rows_left version max_records opening number progress rows) (lines_left version max_records opening number progress rows)
 unfolding replies history_rows lines_of_replies AreLinesOf
-rows-lines version held most opening number progress rows few opens =
-    each-good version most opening (λ number progress rows requests. Sound opening progress → RowsAreLines version opening number progress rows requests)
+rows-lines version held max_records opening number progress rows few opens =
+    each-good version max_records opening (λ number progress rows requests. Sound opening progress → RowsAreLines version opening number progress rows requests)
     (λ number progress sound. tt)
     (λ number progress row rows request requests within reads later sound. (
-      record-told version held opening opens number row request progress (omega (arith, within, few)) sound reads,
+      record-written version held opening opens number row request progress (omega (arith, within, few)) sound reads,
       later (after-sound version held opening progress row request reads sound),
     )) number progress rows
 
 -- the number of history records is within the limit
-pub few-left : (version : Version) (most : ℕ) (opening : Opening) (number : ℕ) (progress : Progress) (rows : List Row) → number ≤ most + 1
-    → number + length (rows_left version most opening number progress rows) ≤ most + 1
+pub few-left : (version : Version) (max_records : ℕ) (opening : Opening) (number : ℕ) (progress : Progress) (rows : List Row) → number ≤ max_records + 1
+    → number + length (rows_left version max_records opening number progress rows) ≤ max_records + 1
 unfolding replies history_rows
-few-left version most opening number progress rows =
-    each-good version most opening (λ number progress rows requests. number ≤ most + 1
-    → number + length (history_rows version number rows (replies opening progress requests)) ≤ most + 1)
+few-left version max_records opening number progress rows =
+    each-good version max_records opening (λ number progress rows requests. number ≤ max_records + 1
+    → number + length (history_rows version number rows (replies opening progress requests)) ≤ max_records + 1)
     (λ number progress within. omega (arith, within))
     (λ number progress row rows request requests here reads later within. let more = later (omega (arith, here)) in omega (arith, more))
     number progress rows
@@ -185,13 +185,13 @@ pub record Written (kind : FirstKind) (rest : Row) (rows : List Row) (opening : 
   pub few : length rows < 2 ^ 32
 
 -- records that each are a line are all read
-all-answered : (version : Version) (most number : ℕ) (rows : List Row) (lines : List Line) → number + length rows ≤ most + 1
-    → AreLinesOf version rows lines → rows_without_fault version most number rows ≡ rows
+all-answered : (version : Version) (max_records number : ℕ) (rows : List Row) (lines : List Line) → number + length rows ≤ max_records + 1
+    → AreLinesOf version rows lines → rows_without_fault version max_records number rows ≡ rows
 unfolding AreLinesOf lines_from
-all-answered version most number [] lines within are_lines = refl
-all-answered version most number (row ∷ rows) [] within are_lines = absurd are_lines
-all-answered version most number (row ∷ rows) (line ∷ lines) within are_lines =
-    grind (arith, nat_tests, line_in-line, all-answered version most (number + 1) rows lines (omega arith) are_lines.1)
+all-answered version max_records number [] lines within are_lines = refl
+all-answered version max_records number (row ∷ rows) [] within are_lines = absurd are_lines
+all-answered version max_records number (row ∷ rows) (line ∷ lines) within are_lines =
+    grind (arith, nat_tests, line_in-line, all-answered version max_records (number + 1) rows lines (omega arith) are_lines.1)
 
 module _ (texts : TextsAreReadBack) (kind : FirstKind) (rest : Row) (rows : List Row) (opening : Opening) (lines : List Line) where
   pub written-tells : Written kind rest rows opening lines → IsHistoryText (rows_text ((kind_word kind ∷ rest) ∷ rows)) opening lines
@@ -240,38 +240,38 @@ pub sound-start : (held : Promises) (opening : Opening) → Sound opening start
 sound-start held opening = record { legal = held.legal_at_first opening; fit = All-nil (λ (e : Event). CommandFits e.command); held = omega arith }
 
 -- the records of the beginning, and those of the replies
-pub text-begun : (most : ℕ) (past : List Event) (rows : List Row) (b : TextStart)
-    → text_in most past rows (Ok b) ≡ rows_text (take b.read rows ++ rows_left b.version most b.opening (b.read + 1) (resumed_progress past) b.left)
+pub text-begun : (max_records : ℕ) (past : List Event) (rows : List Row) (b : TextStart)
+    → text_in max_records past rows (Ok b) ≡ rows_text (take b.read rows ++ rows_left b.version max_records b.opening (b.read + 1) (resumed_progress past) b.left)
 unfolding text_left rows_text
-text-begun most past rows b = grind (arith, nat_tests, flat_map-append)
+text-begun max_records past rows b = grind (arith, nat_tests, flat_map-append)
 
-pub text-whole : (most : ℕ) (row : Row) (rows : List Row) (opening : Opening) → 0 < most → opening_of row ≡ Ok opening
-    → history_text most (row ∷ rows) ≡ rows_text (row ∷ rows_left (version_of row) most opening 2 start rows)
+pub text-whole : (max_records : ℕ) (row : Row) (rows : List Row) (opening : Opening) → 0 < max_records → opening_of row ≡ Ok opening
+    → history_text max_records (row ∷ rows) ≡ rows_text (row ∷ rows_left (version_of row) max_records opening 2 start rows)
 unfolding history_text
-text-whole most row rows opening some opens =
-    rw (whole-opened most row rows opening some opens)
-    (text-begun most [] (row ∷ rows) (record { version = version_of row; opening = opening; read = 1; left = rows })
-    ∙ ap (λ (first : List Row). rows_text (first ++ rows_left (version_of row) most opening 2 start rows)) (first-one row rows))
+text-whole max_records row rows opening some opens =
+    rw (whole-opened max_records row rows opening some opens)
+    (text-begun max_records [] (row ∷ rows) (record { version = version_of row; opening = opening; read = 1; left = rows })
+    ∙ ap (λ (first : List Row). rows_text (first ++ rows_left (version_of row) max_records opening 2 start rows)) (first-one row rows))
 
-pub run-written : (held : Promises) (most : ℕ) (kind : FirstKind) (rest : Row) (rows : List Row) (opening : Opening) → most ≤ 2 ^ 32
-    → opening_of (kind_word kind ∷ rest) ≡ Ok opening → 0 < most → let version = version_of (kind_word kind ∷ rest) in
-    Written kind rest (rows_left version most opening 2 start rows) opening (lines_left version most opening 2 start rows)
-run-written held most kind rest rows opening few opens some =
+pub run-written : (held : Promises) (max_records : ℕ) (kind : FirstKind) (rest : Row) (rows : List Row) (opening : Opening) → max_records ≤ 2 ^ 32
+    → opening_of (kind_word kind ∷ rest) ≡ Ok opening → 0 < max_records → let version = version_of (kind_word kind ∷ rest) in
+    Written kind rest (rows_left version max_records opening 2 start rows) opening (lines_left version max_records opening 2 start rows)
+run-written held max_records kind rest rows opening few opens some =
     let version : Version = version_of (kind_word kind ∷ rest) in
     let is = opened held (kind_word kind ∷ rest) opening opens in
     let fit : Opens opening = record { accepted = is.accepted; params = held.params opening.params is.in_range } in
-    let count = few-left version most opening 2 start rows (omega arith) in
-    record { opens = opens; are_lines = rows-lines version held most opening 2 start rows few fit (sound-start held opening); few = omega (arith, count) }
+    let count = few-left version max_records opening 2 start rows (omega arith) in
+    record { opens = opens; are_lines = rows-lines version held max_records opening 2 start rows few fit (sound-start held opening); few = omega (arith, count) }
 
-pub run-lines : (held : Promises) (most : ℕ) (row : Row) (rows : List Row) (opening : Opening) → 0 < most → most ≤ 2 ^ 32 → opening_of row ≡ Ok opening
-    → IsHistoryText (history_text most (row ∷ rows)) opening (run_lines (version_of row) most opening rows)
+pub run-lines : (held : Promises) (max_records : ℕ) (row : Row) (rows : List Row) (opening : Opening) → 0 < max_records → max_records ≤ 2 ^ 32 → opening_of row ≡ Ok opening
+    → IsHistoryText (history_text max_records (row ∷ rows)) opening (run_lines (version_of row) max_records opening rows)
 unfolding run_lines
-run-lines held most row rows opening some few opens =
+run-lines held max_records row rows opening some few opens =
     let is = (opened held row opening opens).begins in
-    subst (λ (first : Row). IsHistoryText (history_text most (first ∷ rows)) opening (run_lines (version_of first) most opening rows)) (sym is.is)
+    subst (λ (first : Row). IsHistoryText (history_text max_records (first ∷ rows)) opening (run_lines (version_of first) max_records opening rows)) (sym is.is)
     (let there = ap opening_of (sym is.is) ∙ opens in
-    rw (text-whole most (kind_word is.kind ∷ is.rest) rows opening some there)
-    (written-tells held.texts is.kind is.rest _ opening _ (run-written held most is.kind is.rest rows opening few there some)))
+    rw (text-whole max_records (kind_word is.kind ∷ is.rest) rows opening some there)
+    (written-tells held.texts is.kind is.rest _ opening _ (run-written held max_records is.kind is.rest rows opening few there some)))
 
 -- ==== The audit of a run's history text finds it clean
 
@@ -295,8 +295,8 @@ lines-none opening progress line held none = record { events = rw none (append-n
 lines-next : Promises → (opening : Opening) (progress : Progress) (request : Request)
     → IsStepOfLine opening progress (line_of_reply request (reply opening progress request)) (after opening progress request)
 unfolding events_of
-lines-next held opening progress (Ask caller command) =
-    requested-by (λ given later. IsStepOfLine opening progress (line_of_reply (Ask caller command) given) later) opening progress caller command
+lines-next held opening progress (Apply caller command) =
+    requested-by (λ given later. IsStepOfLine opening progress (line_of_reply (Apply caller command) given) later) opening progress caller command
     (λ free. record { events = refl; legal = λ legal. held.legal_with_one_more opening progress.history caller command legal free })
     (λ why. lines-none opening progress Note progress.held refl)
 lines-next held opening progress (Fold n) = lines-none opening progress Note (after opening progress (Fold n)).held refl
@@ -355,56 +355,56 @@ lines-legal held opening progress before requests made are_lines legal =
 
 -- the law of reading back a history text
 abbrev pub ReadBack : Type 0
-ReadBack = (most : ℕ) (row : Row) (rows : List Row) (opening : Opening) → 0 < most → most ≤ 2 ^ 32 → opening_of row ≡ Ok opening
-    → IsHistoryText (history_text most (row ∷ rows)) opening (run_lines (version_of row) most opening rows)
+ReadBack = (max_records : ℕ) (row : Row) (rows : List Row) (opening : Opening) → 0 < max_records → max_records ≤ 2 ^ 32 → opening_of row ≡ Ok opening
+    → IsHistoryText (history_text max_records (row ∷ rows)) opening (run_lines (version_of row) max_records opening rows)
 
 -- the law that legal lines have a clean finding
 abbrev pub LegalIsClean : Type 0
 LegalIsClean = (text : List ℕ) (opening : Opening) (lines : List Line) → IsHistoryText text opening lines → AreLegal opening lines
     → text_finding (records_of text) ≡ Ok (Clean (length (events_of lines)))
 
-pub run-clean : ReadBack → LegalIsClean → Promises → (most : ℕ) (row : Row) (rows : List Row)
-    (opening : Opening) → 0 < most → most ≤ 2 ^ 32 → opening_of row ≡ Ok opening
-    → text_finding (records_of (history_text most (row ∷ rows)))
-    ≡ Ok (Clean (length (progress_at_end opening (requests_of (version_of row) (before_fault (version_of row) most 2 rows))).history))
+pub run-clean : ReadBack → LegalIsClean → Promises → (max_records : ℕ) (row : Row) (rows : List Row)
+    (opening : Opening) → 0 < max_records → max_records ≤ 2 ^ 32 → opening_of row ≡ Ok opening
+    → text_finding (records_of (history_text max_records (row ∷ rows)))
+    ≡ Ok (Clean (length (progress_at_end opening (requests_of (version_of row) (before_fault (version_of row) max_records 2 rows))).history))
 unfolding run_lines events_of
-run-clean read_back clean held most row rows opening some few opens =
-    let asked = requests_of (version_of row) (before_fault (version_of row) most 2 rows) in
+run-clean read_back clean held max_records row rows opening some few opens =
+    let asked = requests_of (version_of row) (before_fault (version_of row) max_records 2 rows) in
     let runs = lines-legal held opening start [] asked (All-nil CanBeMade) refl (held.legal_at_first opening) in
-    clean (history_text most (row ∷ rows)) opening _ (read_back most row rows opening some few opens) runs.legal
+    clean (history_text max_records (row ∷ rows)) opening _ (read_back max_records row rows opening some few opens) runs.legal
     ∙ ap (λ (events : List Event). let found : Result Finding TraceFault = Ok (Clean (length events)) in found) runs.events
 
 -- ---- a trace with no fault
 
-pub before-all : (version : Version) (most number : ℕ) (rows : List Row) → first_fault version most number rows ≡ None
-    → before_fault version most number rows ≡ rows
+pub before-all : (version : Version) (max_records number : ℕ) (rows : List Row) → first_fault version max_records number rows ≡ None
+    → before_fault version max_records number rows ≡ rows
 unfolding first_fault before_fault
-before-all version most number [] e = refl
-before-all version most number (row ∷ rows) e = by (record_fault version most number row) refl e (λ f. before-all version most (number + 1) rows f)
+before-all version max_records number [] e = refl
+before-all version max_records number (row ∷ rows) e = by (record_fault version max_records number row) refl e (λ f. before-all version max_records (number + 1) rows f)
   where
-    by : (o : Option TraceFault) → record_fault version most number row ≡ o → first_fault version most number (row ∷ rows) ≡ None
-        → (first_fault version most (number + 1) rows ≡ None → before_fault version most (number + 1) rows ≡ rows)
-        → before_fault version most number (row ∷ rows) ≡ row ∷ rows
+    by : (o : Option TraceFault) → record_fault version max_records number row ≡ o → first_fault version max_records number (row ∷ rows) ≡ None
+        → (first_fault version max_records (number + 1) rows ≡ None → before_fault version max_records (number + 1) rows ≡ rows)
+        → before_fault version max_records number (row ∷ rows) ≡ row ∷ rows
     by o r e later = grind (arith, nat_tests)
 
-pub whole-clean : ReadBack → LegalIsClean → Promises → (most : ℕ) (rows : List Row) (end : RunEnd) → most ≤ 2 ^ 32 → fault_of most rows ≡ None
-    → end_of most rows ≡ Some end → text_finding (records_of (history_text most rows)) ≡ Ok (Clean end.events)
+pub whole-clean : ReadBack → LegalIsClean → Promises → (max_records : ℕ) (rows : List Row) (end : RunEnd) → max_records ≤ 2 ^ 32 → fault_of max_records rows ≡ None
+    → end_of max_records rows ≡ Some end → text_finding (records_of (history_text max_records rows)) ≡ Ok (Clean end.events)
 unfolding fault_of end_of
-whole-clean read_back clean held most [] end few sound run_end = cc
-whole-clean read_back clean held most (row ∷ rows) end few sound run_end = by (opening_of row) refl
+whole-clean read_back clean held max_records [] end few sound run_end = cc
+whole-clean read_back clean held max_records (row ∷ rows) end few sound run_end = by (opening_of row) refl
   where
     found : ℕ → Result Finding TraceFault
     found events = Ok (Clean events)
 
-    by : (o : Result Opening TraceFault) → opening_of row ≡ o → text_finding (records_of (history_text most (row ∷ rows))) ≡ Ok (Clean end.events)
+    by : (o : Result Opening TraceFault) → opening_of row ≡ o → text_finding (records_of (history_text max_records (row ∷ rows))) ≡ Ok (Clean end.events)
     by (Err why) opens = absurd (grind (arith, nat_tests, sound, opens))
     by (Ok opening) opens =
-        let some : 0 < most = grind (arith, nat_tests, sound) in
-        let none : first_fault (version_of row) most 2 rows ≡ None = grind (arith, nat_tests, sound, opens) in
+        let some : 0 < max_records = grind (arith, nat_tests, sound) in
+        let none : first_fault (version_of row) max_records 2 rows ≡ None = grind (arith, nat_tests, sound, opens) in
         let same : end_left (version_of row) opening start 0 rows ≡ end = grind (arith, nat_tests, some, run_end, opens) in
-        run-clean read_back clean held most row rows opening some few opens
+        run-clean read_back clean held max_records row rows opening some few opens
         ∙ ap (λ (all : List Row). found (length (progress_at_end opening (requests_of (version_of row) all)).history))
-        (before-all (version_of row) most 2 rows none)
+        (before-all (version_of row) max_records 2 rows none)
         ∙ ap (λ (r : RunEnd). found r.events) same
 
 -- ==== The audit finds the output of a run of an excerpt clean, with the events before it
@@ -422,43 +422,43 @@ pub record Below : Type 0 where
 
 -- ---- the preamble
 
--- a preamble with at most `most` records
-record Within (most : ℕ) (rows : List Row) (b : Preamble) : Type 0 where
+-- a preamble with at most `max_records` records
+record Within (max_records : ℕ) (rows : List Row) (b : Preamble) : Type 0 where
   begun : resumed_of rows ≡ Ok b
-  few : b.read ≤ most
+  few : b.read ≤ max_records
 
-behind : (most : ℕ) (rows : List Row) (b : Preamble) → resumed_within most rows ≡ Ok b → and_then (resumed_of rows) (within_most most) ≡ Ok b
-behind most [] b e = e
-behind most (row ∷ rows) b e = by (most == 0) (long_by most (resume_of row)) e
+behind : (max_records : ℕ) (rows : List Row) (b : Preamble) → resumed_within max_records rows ≡ Ok b → and_then (resumed_of rows) (within_max max_records) ≡ Ok b
+behind max_records [] b e = e
+behind max_records (row ∷ rows) b e = by (max_records == 0) (long_by max_records (resume_of row)) e
   where
     by : (none : Bool) (long : Option Resume)
-        → (if none then Err fault.TooLong else within_by most long (row ∷ rows) rows) ≡ Ok b
-        → and_then (resumed_of (row ∷ rows)) (within_most most) ≡ Ok b
+        → (if none then Err fault.TooLong else within_by max_records long (row ∷ rows) rows) ≡ Ok b
+        → and_then (resumed_of (row ∷ rows)) (within_max max_records) ≡ Ok b
     by true long e = cc
     by false (Some r) e = cc
     by false None e = e
 
-within : (most : ℕ) (rows : List Row) (b : Preamble) → resumed_within most rows ≡ Ok b → Within most rows b
-within most rows b e = grind (arith, nat_tests, behind)
+within : (max_records : ℕ) (rows : List Row) (b : Preamble) → resumed_within max_records rows ≡ Ok b → Within max_records rows b
+within max_records rows b e = grind (arith, nat_tests, behind)
 
 -- ---- the text
 
-text-resumed : (most : ℕ) (past : List Event) (rows : List Row) (b : Preamble) → resumed_within most rows ≡ Ok b
-    → resumed_text most past rows
-    ≡ rows_text (take b.read rows ++ rows_left Three most b.opening (b.read + 1) (resumed_progress past) b.left)
+text-resumed : (max_records : ℕ) (past : List Event) (rows : List Row) (b : Preamble) → resumed_within max_records rows ≡ Ok b
+    → resumed_text max_records past rows
+    ≡ rows_text (take b.read rows ++ rows_left Three max_records b.opening (b.read + 1) (resumed_progress past) b.left)
 unfolding resumed_text
-text-resumed most past rows b e = rw (part-opened most rows b e) (text-begun most past rows (beginning_of_preamble b))
+text-resumed max_records past rows b e = rw (part-opened max_records rows b e) (text-begun max_records past rows (beginning_of_preamble b))
 
 -- legal lines are found clean
 lines-clean : Below → (text : List ℕ) (opening : Opening) (past : List Event) (lines : List Line) (history : List Event)
     → IsExcerptText text opening past lines → AreRuns opening (map Valid past ++ lines) history → IsFound text opening past (Clean (length history))
 lines-clean law text opening past lines history is_text runs = grind (arith, nat_tests)
 
-pub resumed-clean : Below → (most : ℕ) (rows : List Row) (opening : Opening) (past : List Event) (b : Preamble) → most ≤ 2 ^ 32
-    → Resumes rows opening past → All (λ event. CommandFits event.command) past → resumed_within most rows ≡ Ok b
-    → IsFound (resumed_text most past rows) opening past (Clean (length (progress_resumed most past b).history))
-resumed-clean law most rows opening past b few goes fit e =
-    let at = within most rows b e in
+pub resumed-clean : Below → (max_records : ℕ) (rows : List Row) (opening : Opening) (past : List Event) (b : Preamble) → max_records ≤ 2 ^ 32
+    → Resumes rows opening past → All (λ event. CommandFits event.command) past → resumed_within max_records rows ≡ Ok b
+    → IsFound (resumed_text max_records past rows) opening past (Clean (length (progress_resumed max_records past b).history))
+resumed-clean law max_records rows opening past b few goes fit e =
+    let at = within max_records rows b e in
     let same : goes.beginning ≡ b = cc in
     let opened : b.opening ≡ opening = subst (λ (it : Preamble). it.opening ≡ opening) same goes.opened in
     let shows : Represents opening b.core past = subst (λ (it : Preamble). Represents opening it.core past) same goes.shown in
@@ -466,39 +466,39 @@ resumed-clean law most rows opening past b few goes fit e =
     let well = law.opens rows b at.begun in
     let opens : Opens b.opening = record { accepted = well.accepted; params = law.held.params b.opening.params well.in_range } in
     let sound : Sound b.opening (resumed_progress past) = record { legal = legal; fit = fit; held = omega arith } in
-    let more = rows_left Three most b.opening (b.read + 1) (resumed_progress past) b.left in
-    let lines = lines_left Three most b.opening (b.read + 1) (resumed_progress past) b.left in
-    let are_lines : AreLinesOf Three more lines = rows-lines Three law.held most b.opening (b.read + 1) (resumed_progress past) b.left few opens sound in
+    let more = rows_left Three max_records b.opening (b.read + 1) (resumed_progress past) b.left in
+    let lines = lines_left Three max_records b.opening (b.read + 1) (resumed_progress past) b.left in
+    let are_lines : AreLinesOf Three more lines = rows-lines Three law.held max_records b.opening (b.read + 1) (resumed_progress past) b.left few opens sound in
     let within = at.few in
-    let count = few-left Three most b.opening (b.read + 1) (resumed_progress past) b.left (omega (arith, within)) in
+    let count = few-left Three max_records b.opening (b.read + 1) (resumed_progress past) b.left (omega (arith, within)) in
     let is_text : IsExcerptText (rows_text (take b.read rows ++ more)) opening past lines =
     law.behind rows more b opening past lines at.begun goes are_lines (omega (arith, count, few)) in
-    let runs = lines-legal law.held b.opening (resumed_progress past) (map Valid past) (requests_of Three (before_fault Three most (b.read + 1) b.left))
+    let runs = lines-legal law.held b.opening (resumed_progress past) (map Valid past) (requests_of Three (before_fault Three max_records (b.read + 1) b.left))
     (law.events.made past) (law.events.events past) legal in
-    subst (λ (text : List ℕ). IsFound text opening past (Clean (length (progress_resumed most past b).history)))
-    (sym (text-resumed most past rows b e))
-    (lines-clean law (rows_text (take b.read rows ++ more)) opening past lines (progress_resumed most past b).history is_text
-    (subst (λ (o : Opening). AreRuns o (map Valid past ++ lines) (progress_resumed most past b).history) opened runs))
+    subst (λ (text : List ℕ). IsFound text opening past (Clean (length (progress_resumed max_records past b).history)))
+    (sym (text-resumed max_records past rows b e))
+    (lines-clean law (rows_text (take b.read rows ++ more)) opening past lines (progress_resumed max_records past b).history is_text
+    (subst (λ (o : Opening). AreRuns o (map Valid past ++ lines) (progress_resumed max_records past b).history) opened runs))
 
 -- ---- an excerpt without a fault
 
-pub resumed-whole : Below → (most : ℕ) (rows : List Row) (opening : Opening) (past : List Event) (end : RunEnd) → most ≤ 2 ^ 32
-    → Resumes rows opening past → All (λ event. CommandFits event.command) past → resumed_fault most rows ≡ None
-    → resumed_end most past rows ≡ Some end → IsFound (resumed_text most past rows) opening past (Clean end.events)
+pub resumed-whole : Below → (max_records : ℕ) (rows : List Row) (opening : Opening) (past : List Event) (end : RunEnd) → max_records ≤ 2 ^ 32
+    → Resumes rows opening past → All (λ event. CommandFits event.command) past → resumed_fault max_records rows ≡ None
+    → resumed_end max_records past rows ≡ Some end → IsFound (resumed_text max_records past rows) opening past (Clean end.events)
 unfolding resumed_fault resumed_end
-resumed-whole law most rows opening past end few goes fit sound run_end = by (resumed_within most rows) refl
+resumed-whole law max_records rows opening past end few goes fit sound run_end = by (resumed_within max_records rows) refl
   where
     found : ℕ → Type 0
-    found events = IsFound (resumed_text most past rows) opening past (Clean events)
+    found events = IsFound (resumed_text max_records past rows) opening past (Clean events)
 
-    by : (read : Result Preamble TraceFault) → resumed_within most rows ≡ read → found end.events
+    by : (read : Result Preamble TraceFault) → resumed_within max_records rows ≡ read → found end.events
     by (Err why) is = absurd (grind (arith, nat_tests, sound, is))
     by (Ok b) is =
-        let none : first_fault Three most (b.read + 1) b.left ≡ None = grind (arith, nat_tests, sound, is) in
+        let none : first_fault Three max_records (b.read + 1) b.left ≡ None = grind (arith, nat_tests, sound, is) in
         let same : end_left Three b.opening (resumed_progress past) 0 b.left ≡ end = grind (arith, nat_tests, run_end, is) in
         subst (λ (r : RunEnd). found r.events) same
         (subst (λ (rest : List Row). found (length (progress_after b.opening (resumed_progress past) (steps_of (requests_of Three rest))).history))
-        (before-all Three most (b.read + 1) b.left none) (resumed-clean law most rows opening past b few goes fit is))
+        (before-all Three max_records (b.read + 1) b.left none) (resumed-clean law max_records rows opening past b few goes fit is))
 
 -- ==== The run of an excerpt after a history gives the answers of the whole from there on
 

@@ -75,9 +75,9 @@ Replies version number request old new refused refused_then text =
 -- represents: the first fault, the result, and the history text up to the first record that has a fault. `number`
 -- is the number of the first record, and `refused` the number of refusals before it
 abbrev pub runs_on : Version → ℕ → Opening → ℕ → BookView → ℕ → List Row → Pass RunState RunEnd
-runs_on version most opening number book refused rows = record {
-  found = first_fault version most number rows;
+runs_on version max_records opening number book refused rows = record {
+  found = first_fault version max_records number rows;
   may_follow = IsInState book opening;
   gives = λ from. Some (end_after version opening from refused rows);
-  text = λ from. text_at version most opening number from rows;
+  text = λ from. text_at version max_records opening number from rows;
 }

@@ -38,8 +38,8 @@ pub(crate) fn all_is_held()
 ///
 /// The function does nothing: its contract is the law (this project's own).
 pub fn history_texts_are_read_back()
-    ensures { (most : ℕ) (row : Row) (rows : List Row) (opening : Opening) → 0 < most → most ≤ 2 ^ 32 → opening_of row ≡ Ok opening
-        → IsHistoryText (history_text most (row ∷ rows)) opening (run_lines (version_of row) most opening rows) }
+    ensures { (max_records : ℕ) (row : Row) (rows : List Row) (opening : Opening) → 0 < max_records → max_records ≤ 2 ^ 32 → opening_of row ≡ Ok opening
+        → IsHistoryText (history_text max_records (row ∷ rows)) opening (run_lines (version_of row) max_records opening rows) }
 {
     all_is_held();
 }
@@ -51,7 +51,7 @@ pub fn history_texts_are_read_back()
 ///
 /// The function does nothing: its contract is the law.
 #[tactic(auto, using(crate::proofs::RunBack::whole_replies, crate::proofs::RunBack::whole_ends))]
-pub fn resumed_runs_go_on_as_the_whole()
+pub fn resumed_runs_continue_the_whole()
     ensures answers { (opening : Opening) (earlier later : List Request) → let there = progress_at_end opening earlier in
         replies opening start (earlier ++ Request.Fold there.held ∷ later)
         ≡ replies opening start earlier ++ fold_reply there.held ∷ replies opening (resumed_progress there.history) later }
@@ -65,11 +65,11 @@ pub fn resumed_runs_go_on_as_the_whole()
 ///
 /// The function does nothing: its contract is the law (this project's own).
 pub fn runs_are_clean()
-    ensures whole { (most : ℕ) (rows : List Row) (end : RunEnd) → most ≤ 2 ^ 32 → fault_of most rows ≡ None → end_of most rows ≡ Some end
-        → text_finding (records_of (history_text most rows)) ≡ Ok (Clean end.events) }
-    ensures up_to_fault { (most : ℕ) (row : Row) (rows : List Row) (opening : Opening) → 0 < most → most ≤ 2 ^ 32 → opening_of row ≡ Ok opening
-        → text_finding (records_of (history_text most (row ∷ rows)))
-        ≡ Ok (Clean (length (progress_at_end opening (requests_of (version_of row) (before_fault (version_of row) most 2 rows))).history)) }
+    ensures whole { (max_records : ℕ) (rows : List Row) (end : RunEnd) → max_records ≤ 2 ^ 32 → fault_of max_records rows ≡ None → end_of max_records rows ≡ Some end
+        → text_finding (records_of (history_text max_records rows)) ≡ Ok (Clean end.events) }
+    ensures up_to_fault { (max_records : ℕ) (row : Row) (rows : List Row) (opening : Opening) → 0 < max_records → max_records ≤ 2 ^ 32 → opening_of row ≡ Ok opening
+        → text_finding (records_of (history_text max_records (row ∷ rows)))
+        ≡ Ok (Clean (length (progress_at_end opening (requests_of (version_of row) (before_fault (version_of row) max_records 2 rows))).history)) }
 {
     all_is_held();
     clean_is_legal();
@@ -83,12 +83,12 @@ pub fn runs_are_clean()
 ///
 /// The function does nothing: its contract is the law (this project's own).
 pub fn resumed_runs_are_clean()
-    ensures whole { (most : ℕ) (rows : List Row) (opening : Opening) (past : List Event) (end : RunEnd) → most ≤ 2 ^ 32 → Resumes rows opening past
-        → All (λ event. CommandFits event.command) past → resumed_fault most rows ≡ None → resumed_end most past rows ≡ Some end
-        → IsFound (resumed_text most past rows) opening past (Clean end.events) }
-    ensures up_to_fault { (most : ℕ) (rows : List Row) (opening : Opening) (past : List Event) (begun : Preamble) → most ≤ 2 ^ 32
-        → Resumes rows opening past → All (λ event. CommandFits event.command) past → resumed_within most rows ≡ Ok begun
-        → IsFound (resumed_text most past rows) opening past (Clean (length (progress_resumed most past begun).history)) }
+    ensures whole { (max_records : ℕ) (rows : List Row) (opening : Opening) (past : List Event) (end : RunEnd) → max_records ≤ 2 ^ 32 → Resumes rows opening past
+        → All (λ event. CommandFits event.command) past → resumed_fault max_records rows ≡ None → resumed_end max_records past rows ≡ Some end
+        → IsFound (resumed_text max_records past rows) opening past (Clean end.events) }
+    ensures up_to_fault { (max_records : ℕ) (rows : List Row) (opening : Opening) (past : List Event) (begun : Preamble) → max_records ≤ 2 ^ 32
+        → Resumes rows opening past → All (λ event. CommandFits event.command) past → resumed_within max_records rows ≡ Ok begun
+        → IsFound (resumed_text max_records past rows) opening past (Clean (length (progress_resumed max_records past begun).history)) }
 {
     all_is_held();
     preambles_are_written_again();
@@ -139,8 +139,8 @@ pub fn migrating_again_changes_nothing()
 /// It does nothing: its contract is the law (this project's own).
 #[tactic(auto, using(crate::proofs::MigrateFacts::run_migrated))]
 pub fn migrated_runs_are_runs_of_version_two()
-    ensures { (most : ℕ) (row : Row) (rows : List Row) → most ≤ 2 ^ 32
-        → migrated_text (2 ^ 32) (records_of (history_text most (row ∷ rows))) ≡ history_text most (first_in_two row ∷ rows) }
+    ensures { (max_records : ℕ) (row : Row) (rows : List Row) → max_records ≤ 2 ^ 32
+        → migrated_text (2 ^ 32) (records_of (history_text max_records (row ∷ rows))) ≡ history_text max_records (first_in_two row ∷ rows) }
 {
     all_is_held();
     profile_one_is_always_active();

@@ -31,7 +31,7 @@ pub use law::{
     history_texts_are_read_back, lost_records_are_faults_of_excerpts,
     migrated_histories_are_read_back, migrated_runs_are_runs_of_version_two,
     migrating_again_changes_nothing, migration_keeps_the_finding, resumed_runs_are_clean,
-    resumed_runs_go_on_as_the_whole, runs_are_clean,
+    resumed_runs_continue_the_whole, runs_are_clean,
 };
 pub use migration::migrate;
 pub use pie_book::Opening;

@@ -19,7 +19,7 @@ pub fn opening_for(packets: u32, elements: Elements, params: Params) -> Opening
     let limits = Limits {
         packets,
         tail: packets,
-        events: Limits::MOST_EVENTS,
+        events: Limits::MAX_EVENTS,
     };
     let choices = Choices {
         mode: Mode::Rolling,

@@ -1,7 +1,7 @@
 use Rattle.pie_c.specs.{Arrive}
 use Rattle.pie_c.proofs.Names.{◌≡◌, ◌==◌, ◌∙◌, ap, arith, nat_tests, Ecn, ArrivingPacket, arrived, verdict, PieState, verdict_number, arrival_of}
 use Rattle.pie_c.proofs.Names.{arrival_refusal, held_in, with_arrival}
-use Rattle.pie_c.proofs.Packets.{arrived-state, given_calls, kept-later, makes, place-later, verdict-later}
+use Rattle.pie_c.proofs.Packets.{arrived-state, given_calls, kept-later, makes, name-later, verdict-later}
 use Rattle.pie_c.proofs.calls.arrive.Goals as goal
 use Rattle.pie_c.proofs.calls.arrive.Goals.{After-of_verdict}
 
@@ -21,11 +21,11 @@ module _ (c : After-of_verdict) where
 
   left : c.keep_arrived.new.self ≡ with_arrival state (arrived (held_in state) arrival c.args.moment)
   left = c.keep_arrived.ensures ∙ kept-later state _ _ _ c.args.moment _ _ c.reach.ensures c.raw_with-held.ensures.held
-      c.arrive_with_place-verdict.ensures.after
+      c.arrive_with_name-verdict.ensures.after
       (ap with_ecn c.in-Some.ensures.value)
 
-  decided : c.arrive_with_place-verdict.result.0 ≡ verdict (held_in state) arrival
-  decided = verdict-later state _ _ _ c.args.moment _ _ c.reach.ensures c.raw_with-held.ensures.held c.arrive_with_place-verdict.ensures.verdict
+  decided : c.arrive_with_name-verdict.result.0 ≡ verdict (held_in state) arrival
+  decided = verdict-later state _ _ _ c.args.moment _ _ c.reach.ensures c.raw_with-held.ensures.held c.arrive_with_name-verdict.ensures.verdict
       (ap with_ecn c.in-Some.ensures.value)
 
 pub returns-clause-arrives : goal.returns-clause-arrives
@@ -37,7 +37,7 @@ returns-clause-arrives c = let a = c.args in record {
       (rw (taken c) (left c ∙ arrived-state (state c) (arrival c) a.moment sound)) (given_calls a.moment _);
 }
 
-pub returns-clause-place : goal.returns-clause-place
-returns-clause-place c = λ _ packets.
-    place-later (state c) _ _ _ c.args.moment packets _ _ c.reach.ensures c.raw_with-held.ensures.held c.arrive_with_place-verdict.ensures.place
+pub returns-clause-name : goal.returns-clause-name
+returns-clause-name c = λ _ packets.
+    name-later (state c) _ _ _ c.args.moment packets _ _ c.reach.ensures c.raw_with-held.ensures.held c.arrive_with_name-verdict.ensures.name
     (ap (with_ecn c) c.in-Some.ensures.value)

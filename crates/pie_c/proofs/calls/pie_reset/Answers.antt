@@ -1,4 +1,4 @@
-use Rattle.pie_c.proofs.Names.{◌∙◌, ap, rules, Held, reset_refusal, with_registers}
+use Rattle.pie_c.proofs.Names.{◌∙◌, ap, rules, ControllerState, reset_refusal, with_registers}
 use Rattle.pie_aqm.specs.Steps.{reset}
 use Rattle.pie_c.proofs.Packets.{resets}
 use Rattle.pie_c.proofs.calls.pie_reset.Goals as goal
@@ -8,4 +8,4 @@ unfolding reset_refusal
 returns-clause-made c =
     let a = c.args in
     resets c.laws.ensures.keeps c.laws.ensures.looks a.state.now _ a.moment (search rules)
-    (c.keep_registers.ensures ∙ ap (λ (h : Held). with_registers a.state.now h) (c.reset.ensures ∙ ap (λ (h : Held). reset h a.moment) c.raw-held.ensures))
+    (c.keep_registers.ensures ∙ ap (λ (h : ControllerState). with_registers a.state.now h) (c.reset.ensures ∙ ap (λ (h : ControllerState). reset h a.moment) c.raw-held.ensures))

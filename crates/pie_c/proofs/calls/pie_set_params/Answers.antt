@@ -1,5 +1,5 @@
 use Rattle.pie_c.specs.{params_refusal}
-use Rattle.pie_c.proofs.Names.{◌∙◌, ap, rules, Held, with_rate}
+use Rattle.pie_c.proofs.Names.{◌∙◌, ap, rules, ControllerState, with_rate}
 use Rattle.pie_aqm.specs.Steps.{changed}
 use Rattle.pie_c.proofs.Packets.{changes}
 use Rattle.pie_c.proofs.calls.pie_set_params.Goals as goal
@@ -10,4 +10,4 @@ returns-clause-made c =
     let a = c.args in
     changes c.laws.ensures.keeps c.laws.ensures.looks a.state.now _ a.params.now a.moment (search rules)
     (c.keep_departed.ensures ∙ ap (with_rate (record a.state.now { params = a.params.now })) c.set_params.ensures
-    ∙ ap (λ (h : Held). with_rate (record a.state.now { params = a.params.now }) (changed h a.params.now a.moment)) c.raw-held.ensures)
+    ∙ ap (λ (h : ControllerState). with_rate (record a.state.now { params = a.params.now }) (changed h a.params.now a.moment)) c.raw-held.ensures)

@@ -1,5 +1,5 @@
 use Rattle.pie_c.specs.{updated_with}
-use Rattle.pie_c.proofs.Names.{◌≡◌, ◌∙◌, true, ap, arith, rules, subst, sym, Held, IsSound, updated, update_refusal, held_in, is_sound, state_of}
+use Rattle.pie_c.proofs.Names.{◌≡◌, ◌∙◌, true, ap, arith, rules, subst, sym, ControllerState, IsSound, updated, update_refusal, held_in, is_sound, state_of}
 use Rattle.pie_aqm.specs.Calls.{Update}
 use Rattle.pie_c.proofs.Packets.{makes}
 use Rattle.pie_c.proofs.Sound.{held-sound}
@@ -19,7 +19,7 @@ too_soon c = search rules
 pub returns-then-is_too_soon-clause-answer : goal.returns-then-is_too_soon-clause-answer
 unfolding held_in
 returns-then-is_too_soon-clause-answer c =
-    rw (too_soon c, c.made.ensures) (ap (λ (h : Held). updated_with 103 h.control.old_delay h) c.raw-held.ensures)
+    rw (too_soon c, c.made.ensures) (ap (λ (h : ControllerState). updated_with 103 h.control.old_delay h) c.raw-held.ensures)
 
 pub update-delay-requires-clause-sound : goal.update-delay-requires-clause-sound
 update-delay-requires-clause-sound c = rw c.raw-held.ensures (held-sound c.args.state.now (sym c.is_sound.ensures ∙ c.if-not-is_sound.false))
@@ -27,7 +27,7 @@ update-delay-requires-clause-sound c = rw c.raw-held.ensures (held-sound c.args.
 pub made-requires-2 : goal.made-requires-2
 made-requires-2 c =
     let a = c.args in
-    subst IsSound (sym (c.update-delay.ensures.after ∙ ap (λ (h : Held). updated h a.queued a.moment) c.raw-held.ensures))
+    subst IsSound (sym (c.update-delay.ensures.after ∙ ap (λ (h : ControllerState). updated h a.queued a.moment) c.raw-held.ensures))
     (c.laws.ensures.keeps (held_in a.state.now) (held-sound a.state.now (sym c.is_sound.ensures ∙ c.if-not-is_sound.false)) (Update a.queued a.moment)
     (omega arith))
 
@@ -36,7 +36,7 @@ unfolding held_in update_refusal
 taken c = search rules
 
 after : (c : After-made-2) → c.update-delay.new.self ≡ updated (held_in c.args.state.now) c.args.queued c.args.moment
-after c = c.update-delay.ensures.after ∙ ap (λ (h : Held). updated h c.args.queued c.args.moment) c.raw-held.ensures
+after c = c.update-delay.ensures.after ∙ ap (λ (h : ControllerState). updated h c.args.queued c.args.moment) c.raw-held.ensures
 
 pub returns-clause-made : goal.returns-clause-made
 returns-clause-made c =

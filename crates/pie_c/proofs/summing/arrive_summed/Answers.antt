@@ -1,6 +1,6 @@
-use Rattle.pie_c.proofs.Names.{◌≡◌, ◌∙◌, ℕ, ap, subst, sym, verdict_number, name_of, place_of_cause, cause, verdict, arrival_of, arrival_refusal}
+use Rattle.pie_c.proofs.Names.{◌≡◌, ◌∙◌, ℕ, ap, subst, sym, verdict_number, name_of, cause, verdict, arrival_of, arrival_refusal}
 use Rattle.pie_c.proofs.Names.{unless_refused, held_in}
-use Rattle.pie_summary.specs.Sums.{cause_place}
+use Rattle.std.specs.Prelude.{Some, option_map}
 use Rattle.pie_c.proofs.SummedFacts.{adds_call, arrival-decides, arrival-few, arrival-place}
 use Rattle.pie_c.proofs.summing.arrive_summed.Goals as goal
 
@@ -20,5 +20,5 @@ returns-clause-summed c = λ packets.
     (λ one free explains met said. c.arrived-noted.ensures.adds one decided met said
     (c.min.ensures ∙ arrival-place _ answer decided is free)
     (subst (λ (bits : ℕ). c.arrive-answer.result.1
-    ≡ place_of_cause (name_of (cause held (arrival_of queued event.size c.args.room bits event.word) packets))) c.from-bits.ensures
-    (c.arrive-answer.ensures.place (arrival-few _ answer decided is free) packets) ∙ sym (ap cause_place explains.cause)))
+    ≡ Some (name_of (cause held (arrival_of queued event.size c.args.room bits event.word) packets))) c.from-bits.ensures
+    (c.arrive-answer.ensures.name (arrival-few _ answer decided is free) packets) ∙ sym (ap (option_map name_of) explains.cause)))

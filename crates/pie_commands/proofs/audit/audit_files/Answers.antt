@@ -19,12 +19,12 @@ loop-place-preserved g c =
     let works = g.H.NamedFiles.works in
     let more = audits-more works joined input files (take c.loop-place.place names) c.loop-place.unfound c.loop-place.broken c.loop-place.end end before
     (g.W.Write.contents c.loop-place.output) now name c.in-Ok.outcome c.loop-place.invariant.audits
-    (outcome-given works joined g.R.Read.remaining c.args.input c.loop-place.given files (take c.loop-place.place names) name c.loop-place.end c.in-Ok.outcome
+    (outcome-given works joined g.R.Read.remaining c.args.input c.loop-place.stdin files (take c.loop-place.place names) name c.loop-place.end c.in-Ok.outcome
     end c.loop-place.invariant.left c.in-Ok.ensures.writes_line)
     c.in-Ok.ensures.written in
     record {
       left = left-taken c.args.input names c.loop-place.place name c.audit_named.new.input named c.name_at-name.ensures
-          (left-on c.args.input (take c.loop-place.place names) name c.loop-place.given c.audit_named.new.input c.loop-place.invariant.left
+          (left-on c.args.input (take c.loop-place.place names) name c.loop-place.stdin c.audit_named.new.input c.loop-place.invariant.left
           c.audit_named.ensures.input);
       audits = rw (c.is_err-unfound.ensures.value, unfound-is, c.is_broken-broken.ensures)
           (audits-taken works joined input files names c.loop-place.place name _ _ end before now named c.name_at-name.ensures more);

@@ -1,16 +1,23 @@
-use Rattle.pie_early.proofs.Names.{◌∙◌, ap, sym, name_of, place_of_cause, fate_of}
-use Rattle.pie_event.specs.declared.cause.Cause.{Cause}
-use Rattle.pie_early.proofs.Laws.{cause-considered, cause-picked, place-picked}
+use Rattle.pie_early.proofs.Names.{◌≡◌, ◌∙◌, ap, sym, refl, true, arith, nat_tests, is_considered}
+use Rattle.pie_event.specs.Cause.{verdict_named}
+use Rattle.pie_event.specs.CauseName.{name_of}
+use Rattle.pie_early.proofs.Laws.{cause_considered, cause_verdict}
 use Rattle.pie_early.proofs.decision.decide.Goals as goal
 
-pub returns-clause-place : goal.returns-clause-place
-returns-clause-place c =
+pub returns-in-Some-clause-verdict : goal.returns-in-Some-clause-verdict
+returns-in-Some-clause-verdict c =
     let a = c.args in
-    let fate = fate_of a.params.now a.control.now.prob a.offered.ecn in
-    let considered = cause-considered a.elements a.params.now a.control.now a.offered a.accu
-    (sym c.is_considered.ensures ∙ c.if-not-is_considered.false) in
-    let prob = c.counted_as-prob.result in
-    place-picked _ a.accu prob a.offered.word fate c.picked_place.result c.fate_place.result c.picked_place.ensures
-    (c.fate_place.ensures.place a.accu prob a.offered.word)
-    ∙ sym (ap (λ (x : Cause). place_of_cause (name_of x)) (rw c.counted_as-prob.ensures.value considered
-    ∙ cause-picked a.elements.picking prob a.accu fate a.offered.word (sym c.is_picked.ensures ∙ c.if-not-is_picked.false)))
+    ap verdict_named (c.unconsidered.ensures.named c.in-Some.name a.elements a.offered a.accu c.in-Some.is refl)
+    ∙ cause_verdict a.elements a.params.now a.control.now a.offered a.accu
+
+pub returns-clause-name : goal.returns-clause-name
+returns-clause-name c =
+    let a = c.args in
+    let considered : is_considered a.params.now a.control.now a.offered.bytes ≡ true =
+    grind (arith, nat_tests, c.unconsidered.ensures.considered, c.in_default.is) in
+    rw c.counted_as-prob.ensures.value at c.decide_considered.ensures.name
+    ∙ sym (ap name_of (cause_considered a.elements a.params.now a.control.now a.offered a.accu considered))
+
+pub returns-clause-verdict : goal.returns-clause-verdict
+returns-clause-verdict c =
+    ap verdict_named (returns-clause-name c) ∙ cause_verdict c.args.elements c.args.params.now c.args.control.now c.args.offered c.args.accu

@@ -1,10 +1,10 @@
-use Rattle.pie_guarantees.proofs.Names.{AtEachEvent, ◌≡◌, ◌∙◌, refl, subst, sym, ap, Command, Held, after_call, call_of, held_after, waiting_after}
-use Rattle.pie_guarantees.proofs.BurstFacts.{calm-whole, reset-whole, wakes-whole}
+use Rattle.pie_guarantees.proofs.Names.{AtEachEvent, ◌≡◌, ◌∙◌, refl, subst, sym, ap, Command, ControllerState, after_call, call_of, held_after, waiting_after}
+use Rattle.pie_guarantees.proofs.BurstFacts.{calm-whole, reset-whole, activated-whole}
 use Rattle.pie_guarantees.proofs.LawfulFacts.{first-held, step_at}
 use Rattle.pie_guarantees.proofs.bursts.allowances_begin_whole.Goals as goal
 
 -- the allowance is whole
-abbrev Whole : Held → Type 0
+abbrev Whole : ControllerState → Type 0
 Whole h = h.control.burst ≡ h.params.max_burst
 
 pub returns : goal.returns
@@ -19,11 +19,11 @@ returns c = record {
   turned_on = λ opening before event later lawful off on.
       let step = step_at opening before event later lawful in
       subst Whole (sym step.held)
-      (wakes-whole (held_after opening before) (waiting_after opening before) opening.limits.packets event.command off
-      (sym (ap (λ (g : Held). g.active) step.held) ∙ on));
+      (activated-whole (held_after opening before) (waiting_after opening before) opening.limits.packets event.command off
+      (sym (ap (λ (g : ControllerState). g.active) step.held) ∙ on));
   calm = λ opening before event later lawful calm.
       let step = step_at opening before event later lawful in
       subst Whole (sym step.held)
       (calm-whole (held_after opening before) (waiting_after opening before) opening.limits.packets event.command event.answer calm.update.update
-      calm.update.active calm.delay calm.old_delay (sym (ap (λ (g : Held). g.control.prob) step.held) ∙ calm.prob));
+      calm.update.active calm.delay calm.old_delay (sym (ap (λ (g : ControllerState). g.control.prob) step.held) ∙ calm.prob));
 }

@@ -6,7 +6,7 @@ pub returns-then-differs-clause-explains : goal.returns-then-differs-clause-expl
 returns-then-differs-clause-explains g c = λ start origin lines before out was explanation_texts.
     let some : is_some c.feed_of.new.self.auditor.differs ≡ true = search rules in
     let follows = c.feed_of.ensures.follows start origin lines was.follows in
-    explains-silent c.args.line.now was follows (given-none start c.args.self.now.choice lines c.args.line.now
+    explains-silent c.args.line.now was follows (given-none start c.args.self.now.selection lines c.args.line.now
     was.follows.since follows.audits some)
 
 pub returns-clause-explains : goal.returns-clause-explains
@@ -14,10 +14,10 @@ returns-clause-explains g c = λ start origin lines before out was explanation_t
     let agree : is_some c.feed_of.new.self.auditor.differs ≡ false = search rules in
     let follows = c.feed_of.ensures.follows start origin lines was.follows in
     let agreed = was.follows.audits.agrees c.requires.agree in
-    let explanation = reported-represents origin c.core.result.now (events_of lines) c.args.number c.args.event.now c.args.kept.now.follower.set_by
+    let explanation = reported-represents origin c.core.result.now (events_of lines) c.args.number c.args.event.now c.args.state.now.replay.set_by
     c.clock-clock.result c.begin-explained.result.explanation c.begin-explained.ensures.after c.begin-explained.ensures.in_state (rw c.core.ensures agreed.shows) in
     let explanation = rw (c.clock-clock.ensures, agreed.clock) at explanation in
-    let given = given-reported c.args.self.now.choice c.args.line.now (Some c.begin-explained.result.explanation) was.follows follows.audits agree
+    let given = given-reported c.args.self.now.selection c.args.line.now (Some c.begin-explained.result.explanation) was.follows follows.audits agree
     (ap Some explanation ∙ explanation_texts) in
     let later = follows.audits.agrees (none_of c.feed_of.new.self.auditor.differs agree) in
     let same = c.begin-explained.ensures.clock ∙ c.clock-clock.ensures ∙ agreed.clock

@@ -1,9 +1,8 @@
-use Rattle.pie_link.proofs.Names.{List, map, subst, sym, Reply, always, arrive, AnswersAll, TriesToAnswerAll}
+use Rattle.pie_link.proofs.Names.{TriesToAnswerAll}
 use Rattle.pie_link.proofs.link.Link.try_arrive_all.Goals as goal
 
 pub returns-in-Ok-clause-answered : goal.returns-in-Ok-clause-answered
 unfolding TriesToAnswerAll
 returns-in-Ok-clause-answered c =
     let has_result = c.in-Ok.ensures.answered c.in-Ok.after c.args.answers.now.items (λ i. (c.replace-replies.ensures.value i).items) in
-    subst (λ (replies : List Reply). AnswersAll always c.args.self.now c.args.caller.now (map arrive c.args.arrivals.now) c.args.answers.now.items
-    replies c.try_answer_all.new.caller) (sym has_result.1) has_result.2
+    rw has_result.1 has_result.2

@@ -1,6 +1,6 @@
-use Rattle.pie_lock.proofs.Names.{rules, ◌∷◌, Some, ap, sym, ◌∙◌, rest}
+use Rattle.pie_lock.proofs.Names.{rules, Some}
 use Rattle.pie_lock.proofs.lock.RuledLock.take_from_slot.Goals as goal
 
 pub exchange-requires : goal.exchange-requires
 exchange-requires g c =
-    let t = c.requires.slot in (search rules, (Some t.0, t.1 ∙ ap (λ l. (0, Some t.0) ∷ rest l) (sym t.1)))
+    let t = c.requires.slot in (search rules, (Some t.0, cc (t.1)))

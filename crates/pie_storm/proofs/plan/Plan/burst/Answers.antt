@@ -1,4 +1,4 @@
-use Rattle.pie_storm.proofs.Names.{◌≡◌, ◌∙◌, ◌-◌, ℕ, List, Some, drop, length, slice_get, take, ap, refl, subst, arith, rules, Arrival, calls_of}
+use Rattle.pie_storm.proofs.Names.{◌≡◌, ◌-◌, length, refl, arith, rules, calls_of}
 use Rattle.std.proofs.lemmas.Option.{slice_get_read}
 use Rattle.pie_storm.proofs.PlanFacts.{part_of, sender_has}
 use Rattle.pie_storm.proofs.plan.Plan.burst.Goals as goal
@@ -10,6 +10,4 @@ returns-clause-value c =
     let at = slice_get_read lists (length lists) (c.from.result - 1) c.index.result.now refl
     (omega (arith, place, c.requires.sender.0, c.requires.sender.1)) c.index.ensures in
     part_of c.args.k c.args.count c.index.result.now.items c.part.result.now (calls_of c.args.self.now c.args.caller)
-    (sender_has c.args.self.now c.args.caller c.index.result.now c.requires.sender.0 c.requires.sender.1
-    (subst (λ (n : ℕ). slice_get lists (n - 1) ≡ Some c.index.result.now) place at))
-    (c.part.ensures ∙ ap (λ (l : List Arrival). take c.args.count (drop c.args.k l)) c.as_slice.ensures.value)
+    (sender_has c.args.self.now c.args.caller c.index.result.now c.requires.sender.0 c.requires.sender.1 (rw (← place) at)) (cc (c.part.ensures, c.as_slice.ensures.value))

@@ -1,22 +1,22 @@
-use Rattle.pie_summary.proofs.Names.{[], if◌then◌else◌, ◌∙◌, flow_header, begins, last_events}
+use Rattle.pie_summary.proofs.Names.{[], if◌then◌else◌, ◌∙◌, flow_header, ends_interval, last_events}
 use Rattle.pie_summary.specs.ByFlow.{text_by_flow}
 use Rattle.pie_summary.specs.FlowWords.{flows_text}
-use Rattle.pie_summary.specs.Period.{at_end}
-use Rattle.pie_summary.proofs.PeriodFacts.{written-push}
+use Rattle.pie_summary.specs.Interval.{at_end}
+use Rattle.pie_summary.proofs.IntervalFacts.{written-push}
 use Rattle.pie_summary.proofs.by_flow.ByFlowReport.report_event.Goals as goal
 
 pub returns : goal.returns
 returns c = λ all kept.
     let by_flow = c.args.self.now in
     let flows = c.flows_of.ensures (last_events by_flow.every all) kept.kept.flows in
-    let ends = c.begins-ends.ensures ∙ (λ i. begins (kept.last i) (c.period_of.ensures i)) in
+    let ends = c.ends_interval-ends.ensures ∙ (λ i. ends_interval (kept.last i) (c.interval_of.ensures i)) in
     let summary_text = flows_text by_flow.form c.args.state.now.span by_flow.most c.flows_of.result.now in (
       c.in_ok-take.ensures all kept,
       record {
-        more = if c.begins-ends.result then summary_text else [];
+        more = if c.ends_interval-ends.result then summary_text else [];
         grown = c.in_ok-push_ended.ensures;
         turned = written-push (flow_header by_flow.form) (at_end by_flow.every (text_by_flow by_flow)) all c.args.explained.now
-            (if c.begins-ends.result then summary_text else [])
+            (if c.ends_interval-ends.result then summary_text else [])
             (λ i. if ends i then flows_text by_flow.form (kept.kept.span i) by_flow.most (flows i) else []);
       },
     )

@@ -1,6 +1,6 @@
 use Rattle.pie_summary.proofs.Names.{◌≡◌, ◌-◌, ◌∷◌, [], ◌++◌, ◌∙◌, ap, map, sym, List, ℕ, filter_map, refl, slice_index, sum, unwrap_or, length}
 use Rattle.pie_summary.proofs.Names.{filter_map-append, max, greatest, last_or, places, Meter, kept, bounds_of, peak_of, total_of, late_at, meter_of}
-use Rattle.pie_summary.specs.Sums.{excess_within, moments_of}
+use Rattle.pie_summary.specs.Sums.{cause_place, excess_within, moments_of}
 use Rattle.pie_summary.proofs.CountFacts.{counted-among, counted-push}
 use Rattle.pie_summary.proofs.SpanFacts.{count-some, each-of-push, greatest-some, since-push, some-of-push}
 use Rattle.pie_summary.proofs.SumsFacts.{last-push, place_of, places-push, sum-push}
@@ -19,7 +19,7 @@ returns c = λ shown times same.
     λ i. record {
       answers = (c.count.ensures ∙ counted-push (λ one. one.answer) 9 n.answer shown n old.answers (ap (λ (m : Meter). m.answers) same) refl
           c.requires) i;
-      causes = (c.count_cause.ensures ∙ counted-among (λ one. one.cause) 15 n.cause shown n old.causes (ap (λ (m : Meter). m.causes) same) refl) i;
+      causes = (c.count_cause.ensures ∙ counted-among (λ one. cause_place one.cause) 15 (cause_place n.cause) shown n old.causes (ap (λ (m : Meter). m.causes) same) refl) i;
       first = ap (λ (m : Meter). m.first) same i;
       last = last-push (λ one. one.moment) shown n i;
       since = (c.unwrap_or-self.ensures ∙ ap (unwrap_or n.left) since-is ∙ since-push first (filter_map (λ one. one.left) shown) n.left

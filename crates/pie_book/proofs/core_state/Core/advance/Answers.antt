@@ -1,0 +1,16 @@
+use Rattle.std.proofs.lemmas.Bool.Decides.{nat_tests}
+use Rattle.std.proofs.Common.{arith}
+use Rattle.pie_book.proofs.BalanceFacts.{balanced_next}
+use Rattle.pie_book.proofs.CoreFacts.{next-shows}
+use Rattle.pie_book.proofs.core_state.Core.advance.Goals as goal
+
+pub returns-clause-represents : goal.returns-clause-represents
+returns-clause-represents c opening history shows =
+    let raw = c.self.inside.raw in
+    let controller_events = rw (← c.self.view_is) at shows in
+    let taken = rw (← c.self.view_is) at c.requires.taken in
+    rw (c.record_queue.ensures, c.decide-recorded.ensures.after, c.decide-recorded.ensures.event)
+    (next-shows opening raw history controller_events c.args.caller c.args.command c.decide-recorded.ensures.threshold taken)
+
+pub invariant_of-self : goal.invariant_of-self
+invariant_of-self c = grind (arith, nat_tests, balanced_next)

@@ -1,0 +1,108 @@
+-- The last events of a list with one more.
+use Rattle.pie_summary.proofs.Names.{◌≡◌, ◌==◌, ℕ, Bool, true, false, not, List, [], ◌∷◌, ◌++◌, map, refl, subst, sym, ap, ◌∙◌, Option, Some, None, eq-eqb}
+use Rattle.pie_summary.proofs.Names.{Err, Ok, OnOk, Result, Place, places}
+use Rattle.pie_summary.proofs.Names.{eqb-true, map_push, last_or, last_or-push, Explained, last_events, last_interval, interval_at, since, starts_interval}
+use Rattle.std.proofs.Common.{◌⊎◌, inl, inr, arith, length}
+use Rattle.std.proofs.lemmas.List.{length_push}
+use Rattle.pie_early.proofs.Laws.{after_last-push_no, after_last-push_yes}
+use Rattle.std.specs.List.{flat_map}
+use Rattle.std.proofs.lemmas.List.{flat_map_more}
+use Rattle.pie_aqm.proofs.Places.{place_of, places-push}
+use Rattle.pie_explain.specs.Report.{Grows}
+use Rattle.pie_summary.specs.Interval.{Keeps, ends_interval, is_elsewhere}
+
+-- a list is empty, or has a last element
+abbrev Ends : {X : Type 0} → List X → Type 0
+Ends {X} xs = (xs ≡ []) ⊎ ((front : List X) × (last : X) × (xs ≡ front ++ last ∷ []))
+
+ends-of : {X : Type 0} (xs : List X) → Ends xs
+ends-of [] = inl refl
+ends-of (x ∷ xs) = longer x xs (ends-of xs)
+  where
+    longer : {X : Type 0} (x : X) (xs : List X) → Ends xs → Ends (x ∷ xs)
+    longer x xs (inl none) = inr ([], x, ap (λ ys. x ∷ ys) none)
+    longer x xs (inr (front, last, is)) = inr (x ∷ front, last, ap (λ ys. x ∷ ys) is)
+
+-- the interval of the last event
+pub last_interval-push : (every : Option ℕ) (shown : List Explained) (one : Explained)
+    → last_interval every (shown ++ one ∷ []) ≡ Some (interval_at every one)
+last_interval-push every shown one =
+    ap (λ ps. last_or None ps) (map_push (λ e. Some (interval_at every e)) shown one)
+    ∙ last_or-push None (map (λ e. Some (interval_at every e)) shown) (Some (interval_at every one))
+
+-- an event is in its own interval
+in_its_own : (every : Option ℕ) (one : Explained) → is_elsewhere every (interval_at every one) one ≡ false
+in_its_own every one = ap not (eq-eqb (interval_at every one) (interval_at every one) refl)
+
+-- the last events, with one more
+pub last_events-push : (every : Option ℕ) (shown : List Explained) (one : Explained)
+    → last_events every (shown ++ one ∷ []) ≡ since every (Some (interval_at every one)) shown ++ one ∷ []
+last_events-push every shown one =
+    ap (λ p. since every p (shown ++ one ∷ [])) (last_interval-push every shown one)
+    ∙ after_last-push_no (is_elsewhere every (interval_at every one)) shown one (in_its_own every one)
+
+-- an event that does not begin an interval is in the one under way
+pub under_way : (number : Option ℕ) (interval : ℕ) → starts_interval number interval ≡ false → number ≡ Some interval
+under_way None interval same = cc
+under_way (Some before) interval same = ap Some (eqb-true before interval (twice (before == interval) same))
+  where
+    twice : (b : Bool) → not b ≡ false → b ≡ true
+    twice true e = refl
+    twice false e = sym e
+
+pub not_begun : (number : Option ℕ) (interval : ℕ) → starts_interval number interval ≡ false → ends_interval number interval ≡ false
+not_begun None interval same = cc
+not_begun (Some before) interval same = same
+
+-- within the interval under way, the last events are those of the interval
+pub since_same : (every : Option ℕ) (interval : ℕ) (shown : List Explained) (before : Option ℕ) → before ≡ last_interval every shown
+    → starts_interval before interval ≡ false → since every (Some interval) shown ≡ last_events every shown
+since_same every interval shown before is same = ap (λ p. since every p shown) (sym (under_way before interval same) ∙ is)
+
+-- a new interval has no events before its first
+pub since_begun : (every : Option ℕ) (interval : ℕ) (shown : List Explained) (before : Option ℕ) → before ≡ last_interval every shown
+    → starts_interval before interval ≡ true → since every (Some interval) shown ≡ []
+since_begun every interval shown before is begun = by_end (ends-of shown)
+  where
+    by_end : Ends shown → since every (Some interval) shown ≡ []
+    by_end (inl none) = rw none refl
+    by_end (inr (front, last, whole)) =
+        let known : before ≡ Some (interval_at every last) = is ∙ ap (last_interval every) whole ∙ last_interval-push every front last in
+        ap (λ all. since every (Some interval) all) whole
+        ∙ after_last-push_yes (is_elsewhere every interval) front last (ap (λ b. starts_interval b interval) (sym known) ∙ begun)
+
+-- the state of an interval with one more event
+pub keeps-push : (of : List Explained → Type 0) (every number : Option ℕ) (shown : List Explained) (one : Explained)
+    → number ≡ Some (interval_at every one) → of (since every (Some (interval_at every one)) shown ++ one ∷ [])
+    → Keeps of every number (shown ++ one ∷ [])
+keeps-push of every number shown one is taken = record {
+  last = is ∙ sym (last_interval-push every shown one);
+  kept = subst of (sym (last_events-push every shown one)) taken;
+}
+
+-- if the last event has an interval, there are last events
+pub some-events : (every : Option ℕ) (interval : ℕ) (shown : List Explained) → last_interval every shown ≡ Some interval → last_events every shown ≡ [] → ⊥
+unfolding last_or
+some-events every interval shown is empty = by_end (ends-of shown)
+  where
+    by_end : Ends shown → ⊥
+    by_end (inl none) = let never : None ≡ Some interval = sym (ap (last_interval every) none) ∙ is in cc
+    by_end (inr (front, last, whole)) =
+        let nothing = ap length (sym (last_events-push every front last) ∙ ap (last_events every) (sym whole) ∙ empty) in
+        omega (arith, nothing, length_push (since every (Some (interval_at every last)) front) last)
+
+-- ---- the output with one more event, and at the end
+
+pub written-push : (header : List ℕ) (at : Place Explained → List ℕ) (shown : List Explained) (one : Explained) (text : List ℕ)
+    → text ≡ at (place_of shown one)
+    → header ++ flat_map at (places (shown ++ one ∷ [])) ≡ (header ++ flat_map at (places shown)) ++ text
+written-push header at shown one text is =
+    ap (λ ps. header ++ flat_map at ps) (places-push shown one)
+    ∙ sym (flat_map_more at header (places shown) (place_of shown one))
+    ∙ ap (λ (more : List ℕ). (header ++ flat_map at (places shown)) ++ more) (sym is)
+
+pub written-end : {E : Type 0} (result : Result (Unit {0}) E) (so_far summary_text page now text : List ℕ) → text ≡ summary_text
+    → OnOk result (now ≡ page ++ text) → OnOk result (Grows so_far (so_far ++ summary_text) page now)
+written-end (Ok done) so_far summary_text page now text is wrote =
+    record { more = text; grown = wrote; turned = ap (λ (t : List ℕ). so_far ++ t) (sym is) }
+written-end (Err why) so_far summary_text page now text is wrote = tt

@@ -273,12 +273,12 @@ static PIE_WORD *latest(struct tap *tap, const struct pie_flight_layout *layout)
 }
 
 /* Writes the wall-clock time again if the clock was set. */
-static void follow_clock(const struct tap *tap, uint64_t *told) {
+static void follow_clock(const struct tap *tap, uint64_t *last_written) {
     uint64_t now = PIE_LOAD(((PIE_WORD *)tap->memory)[PIE_FLIGHT_CLOCK]);
     unsigned char out[PIE_RECORD_ROOM];
-    if (now - *told + CLOCK_STEP > 2 * CLOCK_STEP) {
+    if (now - *last_written + CLOCK_STEP > 2 * CLOCK_STEP) {
         fwrite(out, 1, pie_write_clock(0, now, out, sizeof out), stdout);
-        *told = now;
+        *last_written = now;
     }
 }
 
@@ -286,13 +286,13 @@ static int follow(struct tap *tap, struct flows *flows) {
     static struct pie_flight_follower follower;
     struct pie_flight_text text;
     PIE_WORD *snapshot;
-    uint64_t told;
+    uint64_t last_written;
     unsigned turns = 0;
     int goes_on = 1, answer;
     if (!pie_flight_follow_open(&follower, tap->memory, tap->bytes))
         fail("this is no record: ", tap->path);
     snapshot = latest(tap, &follower.layout);
-    told = PIE_LOAD(((PIE_WORD *)tap->scratch)[PIE_FLIGHT_CLOCK]);
+    last_written = PIE_LOAD(((PIE_WORD *)tap->scratch)[PIE_FLIGHT_CLOCK]);
     follower.next = PIE_LOAD(snapshot[PIE_FLIGHT_COUNT]);
     if (follower.next != 0) { /* otherwise the text begins with the opening */
         pie_flight_text_to(&text, write_out, NULL);
@@ -308,7 +308,7 @@ static int follow(struct tap *tap, struct flows *flows) {
         write_flows(flows);
         if (!goes_on)
             return 0;
-        follow_clock(tap, &told);
+        follow_clock(tap, &last_written);
         goes_on = pause_for(tap, &turns);
     }
 }

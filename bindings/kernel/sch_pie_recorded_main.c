@@ -807,35 +807,35 @@ static int pr_dump_stats(struct Qdisc *sch, struct gnet_dump *d)
 {
 	struct pr_sched *q = qdisc_priv(sch);
 	const struct pie_stats *stats = &q->flight.stats;
-	struct tc_pie_recorded_xstats told = {};
+	struct tc_pie_recorded_xstats xstats = {};
 
 	sch_tree_lock(sch);
-	told.pie.prob = mul_u64_u64_div_u64(q->pie.prob, U64_MAX, PIE_ONE);
-	told.pie.delay = min_t(u64, div_u64(q->pie.old_delay, NSEC_PER_USEC), U32_MAX);
-	told.pie.dq_rate_estimating = !(q->pie.choices & PIE_DELAY_STAMP);
+	xstats.pie.prob = mul_u64_u64_div_u64(q->pie.prob, U64_MAX, PIE_ONE);
+	xstats.pie.delay = min_t(u64, div_u64(q->pie.old_delay, NSEC_PER_USEC), U32_MAX);
+	xstats.pie.dq_rate_estimating = !(q->pie.choices & PIE_DELAY_STAMP);
 	if (q->pie.average) {
 		u64 rate = div64_u64(q->pie.params.dq_threshold * NSEC_PER_SEC, q->pie.average);
 
-		told.pie.avg_dq_rate = min_t(u64, rate, U32_MAX);
+		xstats.pie.avg_dq_rate = min_t(u64, rate, U32_MAX);
 	}
-	told.pie.packets_in = stats->enqueued + stats->marked;
-	told.pie.dropped = stats->early + stats->over_bytes + stats->over_packets + q->refused;
-	told.pie.overlimit = stats->over_bytes + stats->over_packets;
-	told.pie.maxq = q->maxq;
-	told.pie.ecn_mark = stats->marked;
-	told.burst = q->pie.burst;
-	told.early = stats->early;
-	told.over_bytes = stats->over_bytes;
-	told.over_packets = stats->over_packets;
-	told.refused = q->refused;
-	told.purged = q->purged;
-	told.updates = stats->updates;
-	told.resets = stats->resets;
-	told.changes = stats->changes;
-	told.recorded = q->flight.count;
-	told.serial = q->serial;
+	xstats.pie.packets_in = stats->enqueued + stats->marked;
+	xstats.pie.dropped = stats->early + stats->over_bytes + stats->over_packets + q->refused;
+	xstats.pie.overlimit = stats->over_bytes + stats->over_packets;
+	xstats.pie.maxq = q->maxq;
+	xstats.pie.ecn_mark = stats->marked;
+	xstats.burst = q->pie.burst;
+	xstats.early = stats->early;
+	xstats.over_bytes = stats->over_bytes;
+	xstats.over_packets = stats->over_packets;
+	xstats.refused = q->refused;
+	xstats.purged = q->purged;
+	xstats.updates = stats->updates;
+	xstats.resets = stats->resets;
+	xstats.changes = stats->changes;
+	xstats.recorded = q->flight.count;
+	xstats.serial = q->serial;
 	sch_tree_unlock(sch);
-	return gnet_stats_copy_app(d, &told, sizeof(told));
+	return gnet_stats_copy_app(d, &xstats, sizeof(xstats));
 }
 
 static struct Qdisc_ops pr_ops __read_mostly = {

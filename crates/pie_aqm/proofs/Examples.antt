@@ -3,7 +3,7 @@
 use Rattle.std.specs.Prelude.{◌≡◌, refl, ⊤, ℕ, ◌+◌, ◌^◌, List, [], ◌∷◌, ◌++◌, map, Bool, true, false, Some, None}
 use Rattle.pie_aqm.specs.{RawParams, Elements, Stamp, Two, ArrivingPacket, ControllerEvent, Estimate, Parts, Call, Arrive, Depart, Advance, Update}
 use Rattle.pie_aqm.specs.{Restart, Change, after_call, event_of_call, opened, no_estimate, delay_answered, cause, with_count}
-use Rattle.pie_aqm.specs.{count_kept_open, is_unmeasured, first_unsound, held_of, now_of, params_of, active_of, departure_inputs, update_inputs}
+use Rattle.pie_aqm.specs.{count_kept_open, is_unmeasured, first_unsound, state_of, now_of, params_of, active_of, departure_inputs, update_inputs}
 use Rattle.pie_aqm.specs.{arrival_inputs, departures_of, waited_of, waited_at_end, delay_at_end, control_of, early_of, is_active, activity_events, activity_events_after}
 use Rattle.pie_aqm.specs.{places, greatest, last_or, verdict, accu_left}
 use Rattle.pie_aqm.specs.ControllerState.{ControllerState}
@@ -22,7 +22,7 @@ use Rattle.pie_event.specs.declared.cause.Cause.TheVariants.{NoRoomInBytes, NoRo
 
 -- the definitions that theorems on worked calls unfold
 unfoldable pub worked : Type 0
-unfolding held_of now_of params_of active_of departure_inputs update_inputs arrival_inputs departures_of waited_of waited_at_end delay_at_end control_of
+unfolding state_of now_of params_of active_of departure_inputs update_inputs arrival_inputs departures_of waited_of waited_at_end delay_at_end control_of
     early_of is_active activity_events activity_events_after places greatest last_or average samples begun cycles cycles_from first_position first_opening first_closing
     first_cycle delay_of probability last_delay last_moment granted_burst burst_allowance next raw_step tuning_divisor tuned_step decayed verdict
     accu_left is_considered is_picked accumulated cause early_cause considered_cause count_kept_open is_unmeasured first_unsound
@@ -51,7 +51,7 @@ both_ways elements shown h [] = []
 both_ways elements shown h (row ∷ rows) =
     let more : List ControllerEvent = shown ++ event_of_call h row.0 ∷ [] in
     let after : ControllerState = after_call h row.0 in
-    (after, held_of (record { profile = Two; elements = elements; params = small; moment = 0 }) more) ∷ both_ways elements more after rows
+    (after, state_of (record { profile = Two; elements = elements; params = small; moment = 0 }) more) ∷ both_ways elements more after rows
 
 -- both are the states of the rows
 abbrev Hold : Elements → List (Call × ControllerState) → Type 0

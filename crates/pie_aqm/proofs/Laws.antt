@@ -11,7 +11,7 @@ use Rattle.pie_aqm.specs.{arrival_inputs, early_of, early_input, events_of, is_a
 use Rattle.pie_aqm.specs.{params_of, parts_of, turns_on_by, Place, last_or, places, keeps_wait, measures, Enqueue, ArrivingPacket, considered_where}
 use Rattle.pie_aqm.specs.{verdict_input, accu_left, offered, verdict, Elements, departure, Estimate, Parts, Arrive, Call, Change, Depart}
 use Rattle.pie_aqm.specs.{HasThreshold, Advance, Restart, Update, after_call, event_of_call, RepresentsCall, Arrived, Departed, Updated, Reset, Changed, Represents}
-use Rattle.pie_aqm.specs.{estimate_of, held_of, greatest, anew, bytes_with, capped, control_updated, delay_in, departed, is_calm, judged, no_estimate}
+use Rattle.pie_aqm.specs.{estimate_of, state_of, greatest, anew, bytes_with, capped, control_updated, delay_in, departed, is_calm, judged, no_estimate}
 use Rattle.pie_aqm.specs.{opened, opens_active, advanced, renewed, stays_active, turns_on, updated, wait_of}
 use Rattle.pie_aqm.proofs.Places.{filter_map-push, from_places-push, greatest-push, last_or-one, place_of, since-push, with_one}
 use Rattle.pie_aqm.specs.ControllerState.{ControllerState}
@@ -218,7 +218,7 @@ active-update profile active calm = grind (arith, nat_tests)
 
 pub Represents_opened : (profile : Profile) (elements : Elements) (params : RawParams) (moment : ℕ) (new : ControllerState)
     → new ≡ opened profile elements params moment → Represents (record { profile = profile; elements = elements; params = params; moment = moment }) [] new
-unfolding Represents held_of now_of params_of departure_inputs departures_of waited_of waited_at_end update_inputs control_of arrival_inputs early_of activity_events
+unfolding Represents state_of now_of params_of departure_inputs departures_of waited_of waited_at_end update_inputs control_of arrival_inputs early_of activity_events
     activity_events_after places greatest last_or Control.probability Control.last_delay Control.last_moment Control.granted_burst Control.burst_allowance
     Early.accumulated
 Represents_opened profile elements params moment new is =
@@ -259,16 +259,16 @@ module _ (o : Opened) (events : List ControllerEvent) where
         (parts_of o (update_inputs o events))));
   }
 
-  held-push : (event : ControllerEvent) → held_of o (events ++ event ∷ []) ≡ next_if (turned_on o events event) event
-  unfolding held_of
-  held-push event = simp (params-push, moment-push, active-push, departures-push, waited-push, control-push, early-push)
+  state-push : (event : ControllerEvent) → state_of o (events ++ event ∷ []) ≡ next_if (turned_on o events event) event
+  unfolding state_of
+  state-push event = simp (params-push, moment-push, active-push, departures-push, waited-push, control-push, early-push)
 
-  delay-is : (queued : ℕ) → delay_at_end o (activity_events o events) queued ≡ delay_in (held_of o events) queued
-  unfolding held_of delay_at_end departure_inputs waited_of
+  delay-is : (queued : ℕ) → delay_at_end o (activity_events o events) queued ≡ delay_in (state_of o events) queued
+  unfolding state_of delay_at_end departure_inputs waited_of
   delay-is queued = rw (events-activity o events) refl
 
-  calm-is : (queued : ℕ) → is_calm_at_end o (activity_events o events) queued ≡ is_calm (held_of o events) queued
-  unfolding held_of update_inputs
+  calm-is : (queued : ℕ) → is_calm_at_end o (activity_events o events) queued ≡ is_calm (state_of o events) queued
+  unfolding state_of update_inputs
   calm-is queued = rw (delay-is queued, events-activity o events) refl
 
   -- the state of the control law after these inputs
@@ -282,13 +282,13 @@ module _ (o : Opened) (events : List ControllerEvent) where
   early-cleared : Early.accumulated (arrival_inputs o events ++ cleared ∷ []) ≡ 0
   early-cleared = sym (represents-next (arrival_inputs o events) (Early.accumulated (arrival_inputs o events)) cleared refl)
 
-  depart-next : (size left since moment : ℕ) → (held_of o events).params.dq_threshold ≤ 65536
-      → next_if false (Departed size left since moment) ≡ departed (held_of o events) size left since moment
-  unfolding held_of
+  depart-next : (size left since moment : ℕ) → (state_of o events).params.dq_threshold ≤ 65536
+      → next_if false (Departed size left since moment) ≡ departed (state_of o events) size left since moment
+  unfolding state_of
   depart-next size left since moment small =
       let rate = rated (measures (active_of o events) o.elements.delay) in
       let waited = kept (keeps_wait (active_of o events) o.elements.delay) in
-      λ i. record (advanced (held_of o events) moment) { rate = rate i; waited = waited i }
+      λ i. record (advanced (state_of o events) moment) { rate = rate i; waited = waited i }
     where
       d : Departure
       d = departure size left (max (now_of o events) moment)
@@ -306,11 +306,11 @@ module _ (o : Opened) (events : List ControllerEvent) where
           ≡ (if b then wait_of left since (max (now_of o events) moment) else waited_of o events)
       kept b = grind (arith, nat_tests)
 
-  update-next : (queued moment : ℕ) → next_if false (Updated queued moment) ≡ updated (held_of o events) queued moment
-  unfolding held_of
-  update-next queued moment = rw (calm-is queued, delay-is queued) (λ i. record (advanced (held_of o events) moment) {
-    active = active-update o.profile (active_of o events) (is_calm (held_of o events) queued) i;
-    control = by (delay_in (held_of o events) queued) (max (now_of o events) moment) (active_of o events) i;
+  update-next : (queued moment : ℕ) → next_if false (Updated queued moment) ≡ updated (state_of o events) queued moment
+  unfolding state_of
+  update-next queued moment = rw (calm-is queued, delay-is queued) (λ i. record (advanced (state_of o events) moment) {
+    active = active-update o.profile (active_of o events) (is_calm (state_of o events) queued) i;
+    control = by (delay_in (state_of o events) queued) (max (now_of o events) moment) (active_of o events) i;
   })
     where
       us : List ControlEvent
@@ -321,63 +321,64 @@ module _ (o : Opened) (events : List ControllerEvent) where
       by delay now true = sym (parts-is o _ _ (represents_updated o.params o.moment us _ _ (own us) (params_of o events) o.elements delay now refl))
       by delay now false = sym (parts-is o _ _ (represents_idled o.params o.moment us _ _ (own us) now refl))
 
-  reset-next : (moment : ℕ) → next_if false (Reset moment) ≡ after_call (held_of o events) (Restart moment)
-  unfolding held_of
+  reset-next : (moment : ℕ) → next_if false (Reset moment) ≡ after_call (state_of o events) (Restart moment)
+  unfolding state_of
   reset-next moment = simp (none-is, control-reset, early-cleared)
 
-  change-next : (params : RawParams) (moment : ℕ) → next_if false (Changed params moment) ≡ after_call (held_of o events) (Change params moment)
-  unfolding held_of
+  change-next : (params : RawParams) (moment : ℕ) → next_if false (Changed params moment) ≡ after_call (state_of o events) (Change params moment)
+  unfolding state_of
   change-next params moment = simp none-is
 
   arrive-next : (a : ArrivingPacket) (moment : ℕ) (on : Bool)
-      → next_if on (Arrived (verdict (held_of o events) a) a.size a.queued (bytes_with (verdict (held_of o events) a) a.queued a.size) moment)
-      ≡ (if on then record (anew (judged (held_of o events) a moment)) { active = true } else judged (held_of o events) a moment)
-  unfolding held_of
+      → next_if on (Arrived (verdict (state_of o events) a) a.size a.queued (bytes_with (verdict (state_of o events) a) a.queued a.size) moment)
+      ≡ (if on then record (anew (judged (state_of o events) a moment)) { active = true } else judged (state_of o events) a moment)
+  unfolding state_of
   arrive-next a moment true = simp (active-on, none-is, control-reset, early-cleared)
-  arrive-next a moment false = simp (sym (early-step (held_of o events) a (arrival_inputs o events) refl))
+  arrive-next a moment false = simp (sym (early-step (state_of o events) a (arrival_inputs o events) refl))
 
-  call-next : (call : Call) → HasThreshold (held_of o events) call
-      → next_if (turned_on o events (event_of_call (held_of o events) call)) (event_of_call (held_of o events) call) ≡ after_call (held_of o events) call
-  unfolding held_of
-  call-next (Arrive a moment) small = arrive-next a moment (turns_on (held_of o events) (bytes_with (verdict (held_of o events) a) a.queued a.size))
+  call-next : (call : Call) → HasThreshold (state_of o events) call
+      → next_if (turned_on o events (event_of_call (state_of o events) call)) (event_of_call (state_of o events) call) ≡ after_call (state_of o events) call
+  unfolding state_of
+  call-next (Arrive a moment) small = arrive-next a moment (turns_on (state_of o events) (bytes_with (verdict (state_of o events) a) a.queued a.size))
   call-next (Depart size left since moment) small = depart-next size left since moment small
   call-next (Advance moment) small = refl
   call-next (Update queued moment) small = update-next queued moment
   call-next (Restart moment) small = reset-next moment
   call-next (Change params moment) small = change-next params moment
 
-pub Represents_call : (o : Opened) (events : List ControllerEvent) (held : ControllerState) → Represents o events held → (call : Call) → HasThreshold held call
-    → Represents o (events ++ event_of_call held call ∷ []) (after_call held call)
+pub Represents_call : (o : Opened) (events : List ControllerEvent) (state : ControllerState) → Represents o events state
+    → (call : Call) → HasThreshold state call
+    → Represents o (events ++ event_of_call state call ∷ []) (after_call state call)
 unfolding Represents
-Represents_call o events held shows =
-    subst (λ (h : ControllerState). (call : Call) → HasThreshold h call → after_call h call ≡ held_of o (events ++ event_of_call h call ∷ [])) (sym shows)
-    (λ call small. sym (held-push o events (event_of_call (held_of o events) call) ∙ call-next o events call small))
+Represents_call o events state shows =
+    subst (λ (h : ControllerState). (call : Call) → HasThreshold h call → after_call h call ≡ state_of o (events ++ event_of_call h call ∷ [])) (sym shows)
+    (λ call small. sym (state-push o events (event_of_call (state_of o events) call) ∙ call-next o events call small))
 
-has_threshold : (held : ControllerState) (call : Call) → held.params.dq_threshold ≤ 65536 → HasThreshold held call
-has_threshold held (Depart size left since moment) small = small
-has_threshold held _ small = tt
+has_threshold : (state : ControllerState) (call : Call) → state.params.dq_threshold ≤ 65536 → HasThreshold state call
+has_threshold state (Depart size left since moment) small = small
+has_threshold state _ small = tt
 
 -- parameters in their ranges have a permitted threshold
-pub threshold_held : (held : ControllerState) (call : Call) → first_bad held.params ≡ None → HasThreshold held call
-threshold_held held call good = has_threshold held call (threshold-holds held.params good).1
+pub in_range_has_threshold : (state : ControllerState) (call : Call) → first_bad state.params ≡ None → HasThreshold state call
+in_range_has_threshold state call good = has_threshold state call (threshold-holds state.params good).1
 
-pub represents_called : (o : Opened) (events : List ControllerEvent) (held : ControllerState) → Represents o events held → held.params.dq_threshold ≤ 65536
-    → (call : Call) → Represents o (events ++ event_of_call held call ∷ []) (after_call held call)
-represents_called o events held shows small call = Represents_call o events held shows call (has_threshold held call small)
+pub represents_called : (o : Opened) (events : List ControllerEvent) (state : ControllerState) → Represents o events state → state.params.dq_threshold ≤ 65536
+    → (call : Call) → Represents o (events ++ event_of_call state call ∷ []) (after_call state call)
+represents_called o events state shows small call = Represents_call o events state shows call (has_threshold state call small)
 
 -- the state equals the look-back
-pub held_is : (o : Opened) (events : List ControllerEvent) (held : ControllerState) → Represents o events held → held ≡ held_of o events
+pub state_is : (o : Opened) (events : List ControllerEvent) (state : ControllerState) → Represents o events state → state ≡ state_of o events
 unfolding Represents
-held_is o events held shows = shows
+state_is o events state shows = shows
 
 -- an equal state represents the same events
-pub moved : (o : Opened) (events : List ControllerEvent) (held new : ControllerState) → new ≡ held → Represents o events held → Represents o events new
-moved o events held new e shows = subst (λ (h : ControllerState). Represents o events h) (sym e) shows
+pub moved : (o : Opened) (events : List ControllerEvent) (state new : ControllerState) → new ≡ state → Represents o events state → Represents o events new
+moved o events state new e shows = subst (λ (h : ControllerState). Represents o events h) (sym e) shows
 
 -- a call on the state
-pub represents_with : (held new : ControllerState) (call : Call) → new ≡ after_call held call → HasThreshold held call → RepresentsCall held call new
+pub represents_with : (state new : ControllerState) (call : Call) → new ≡ after_call state call → HasThreshold state call → RepresentsCall state call new
 unfolding RepresentsCall
-represents_with held new call is small opened events shows = moved opened _ _ new is (Represents_call opened events held shows call small)
+represents_with state new call is small opened events shows = moved opened _ _ new is (Represents_call opened events state shows call small)
 
 -- a departure, if the threshold is at most 65536
 pub uncapped : (h g : ControllerState) (size left since moment : ℕ) → h.params.dq_threshold ≤ 65536

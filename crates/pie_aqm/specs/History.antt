@@ -234,8 +234,8 @@ estimate_of threshold departures = record {
 }
 
 -- the state of a controller after these events
-unfoldable pub held_of : Opened → List ControllerEvent → ControllerState
-held_of opened events = record {
+unfoldable pub state_of : Opened → List ControllerEvent → ControllerState
+state_of opened events = record {
   profile = opened.profile;
   elements = opened.elements;
   params = params_of opened events;
@@ -249,4 +249,4 @@ held_of opened events = record {
 
 -- the abstraction relation: the state of a controller with this opening after these events
 unfoldable pub Represents : Opened → List ControllerEvent → ControllerState → Type 0
-Represents opened events held = held ≡ held_of opened events
+Represents opened events state = state ≡ state_of opened events

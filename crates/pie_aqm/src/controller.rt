@@ -95,7 +95,7 @@ impl Controller {
     /// Returns the state as plain numbers.
     #[inline(always)]
     pub fn raw(&self) -> RawController
-        ensures held { result ≡ self.now }
+        ensures state { result ≡ self.now }
         ensures sound { IsSound self.now }
     {
         self.raw

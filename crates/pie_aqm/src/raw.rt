@@ -97,7 +97,7 @@ impl RawController {
                 };
                 self.arrive_by(elements, arrival, moment).0
             }
-            _ => self.arrive_apart(
+            _ => self.arrive_out_of_line(
                 arrival.queued,
                 arrival.is_full,
                 arrival.size,
@@ -111,7 +111,7 @@ impl RawController {
     /// Decides on an arriving packet in a function that is not inlined. It takes the arrival's fields, because a struct
     /// would be passed through memory.
     #[inline(never)]
-    fn arrive_apart(
+    fn arrive_out_of_line(
         &mut self,
         queued: u64,
         is_full: bool,

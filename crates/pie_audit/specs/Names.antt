@@ -1,6 +1,6 @@
 -- Definitions from lower crates that this crate's definitions, code and proofs use.
 pub use Rattle.pie_audit.specs.declared.auditor.Finding.TheVariants.{Clean, Differs}
-pub use Rattle.pie_book.specs.{CallerQueue.held_after_calls, Core.CoreView, Core.Represents, Decision.IsLegal, Decision.IsLegalAt, Decision.answer_by}
+pub use Rattle.pie_book.specs.{CallerQueue.state_after_calls, Core.CoreView, Core.Represents, Decision.IsLegal, Decision.IsLegalAt, Decision.answer_by}
 pub use Rattle.pie_book.specs.{Decision.decision, Decision.refusal_by_rule, Estimates.active_after, Excerpt.Ends, Excerpt.ExcerptView}
 pub use Rattle.pie_book.specs.declared.snapshot.CoreSnapshot.{CoreSnapshot}
 pub use Rattle.pie_event.specs.{Opening.opening_refusal, Ranges.CommandFits, Ranges.ParamsFit}

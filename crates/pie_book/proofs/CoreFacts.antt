@@ -9,18 +9,18 @@ use Rattle.std.proofs.lemmas.List.Elements.{All-cons, All-head, All-nil, All-pus
 use Rattle.std.proofs.lemmas.List.Sums.{sum_by_push}
 use Rattle.pie_book.specs.{Packet, Waiting, One, ControllerState, Command, Arrive, Depart, Answer, Event, Opening, arrival_of, cause_after, CoreView}
 use Rattle.pie_book.specs.{Represents, counted, refusal_of, registers_of, with_queue, IsLegal, IsLegalAt, answer_by, decision, refusal_by_rule}
-use Rattle.pie_book.specs.{delay_after, delay_answered, held_after, admitted, bytes_after, departed_count, effective_moment, waiting_after}
+use Rattle.pie_book.specs.{delay_after, delay_answered, state_after, admitted, bytes_after, departed_count, effective_moment, waiting_after}
 use Rattle.pie_book.specs.{registers_after, event_of, opened_of, controller_events, age_of_oldest, largest_delay, largest_queue, stats_after, waited, answer_in}
 use Rattle.pie_book.specs.{call_in, waiting_next, bytes_of, HasThreshold, after_call, Place, places, greatest, Deed, deed, departure, fits, caller_moment}
 use Rattle.pie_book.specs.{deed_of, admission, departed, marked, queued, count_of, is_departure, bytes_departed, is_update, first_bad, SetParams}
 use Rattle.pie_book.specs.{IsNext, CommandFits, refusal_with, active_after, arriving_size, controller_event, oldest_since, controller_event_at, core_after}
-use Rattle.pie_book.specs.{first_core, registers_with, after_calls, call_at, calls_of, held_after_calls, Follows, cause_in, apply_in, outcome}
+use Rattle.pie_book.specs.{first_core, registers_with, after_calls, call_at, calls_of, state_after_calls, Follows, cause_in, apply_in, outcome}
 use Rattle.pie_book.specs.{core_along}
 use Rattle.pie_aqm.specs.Steps.{cause, now_at}
 use Rattle.pie_aqm.proofs.Places.{place_of, places-push, from_places-push, greatest-push, with_one}
 use Rattle.pie_aqm.specs.Calls.{event_of_call, Call}
 use Rattle.pie_aqm.specs.Places.{after}
-use Rattle.pie_aqm.proofs.Laws.{Represents_call, Represents_opened, held_is, threshold_held, one_is_active}
+use Rattle.pie_aqm.proofs.Laws.{Represents_call, Represents_opened, state_is, in_range_has_threshold, one_is_active}
 use Rattle.pie_aqm.specs.History as Controller
 use Rattle.pie_aqm.specs.Steps as Steps
 
@@ -174,35 +174,35 @@ departed-of-legal opening = legal-all opening (λ h. departed_count h ≤ length
 
 -- in profile one the controller is always active
 pub one_is_active_after : (opening : Opening) (history : List Event) → opening.choices.profile ≡ One → active_after opening history ≡ true
-unfolding held_after Controller.held_of
+unfolding state_after Controller.state_of
 one_is_active_after opening history one = one_is_active (opened_of opening) (controller_events opening history) one
 
 module _ (opening : Opening) (core : CoreView) (history : List Event) (shows : Represents opening core history) where
-  pub held-is : core.controller ≡ held_after opening history
-  unfolding held_after
-  held-is = held_is (opened_of opening) (controller_events opening history) core.controller shows.controller
+  pub state-is : core.controller ≡ state_after opening history
+  unfolding state_after
+  state-is = state_is (opened_of opening) (controller_events opening history) core.controller shows.controller
 
   pub delay_is : Steps.delay_in core.controller (bytes_of core.waiting) ≡ delay_after opening history
-  delay_is = λ i. Steps.delay_in (held-is i) (bytes_of (shows.waiting i))
+  delay_is = λ i. Steps.delay_in (state-is i) (bytes_of (shows.waiting i))
 
   answered-is : Steps.delay_answered core.controller (bytes_of core.waiting) ≡ delay_answered opening history
-  answered-is = λ i. Steps.delay_answered (held-is i) (bytes_of (shows.waiting i))
+  answered-is = λ i. Steps.delay_answered (state-is i) (bytes_of (shows.waiting i))
 
   pub registers_is : registers_of core ≡ registers_after opening history
   unfolding registers_after
-  registers_is = λ i. registers_with (shows.count i) (shows.moment i) (held-is i) (shows.waiting i)
+  registers_is = λ i. registers_with (shows.count i) (shows.moment i) (state-is i) (shows.waiting i)
 
   pub refusal_is : (command : Command) → refusal_of core command ≡ refusal_by_rule opening history command
-  refusal_is command = λ i. refusal_with (shows.moment i) (Steps.due (held-is i)) (shows.count i) (shows.events i) command
+  refusal_is command = λ i. refusal_with (shows.moment i) (Steps.due (state-is i)) (shows.count i) (shows.events i) command
 
   -- the core's answer is the decision
   pub next_decided : (command : Command) → answer_in core command ≡ decision opening history command
-  next_decided command = λ i. answer_by (held-is i) (shows.waiting i) (shows.packets i) command
+  next_decided command = λ i. answer_by (state-is i) (shows.waiting i) (shows.packets i) command
 
   pub cause_is : (moment : ℕ) (packet : Packet) (word : ℕ)
       → Some (cause core.controller (arrival_of core.waiting core.packets packet word) (length core.waiting))
       ≡ cause_after opening history (Arrive moment packet word)
-  cause_is moment packet word = grind (arith, nat_tests, held-is)
+  cause_is moment packet word = grind (arith, nat_tests, state-is)
 
 -- the cause of the core's answer is the cause after the history
 pub cause_found : (opening : Opening) (core : CoreView) (history : List Event) → Represents opening core history → (command : Command)
@@ -211,9 +211,9 @@ cause_found opening core history shows (Arrive moment packet word) = cause_is op
 cause_found opening core history shows _ = refl
 
 -- the result of a command in a book is the outcome after the history
-pub outcome_is : (opening : Opening) (core : CoreView) (history : List Event) → Represents opening core history → (held : ℕ) (command : Command)
-    → apply_in opening core held command ≡ outcome opening (record { history = history; held = held }) command
-outcome_is opening core history shows held command = grind (arith, nat_tests, refusal_is, next_decided)
+pub outcome_is : (opening : Opening) (core : CoreView) (history : List Event) → Represents opening core history → (tail_length : ℕ) (command : Command)
+    → apply_in opening core tail_length command ≡ outcome opening (record { history = history; tail_length = tail_length }) command
+outcome_is opening core history shows tail_length command = grind (arith, nat_tests, refusal_is, next_decided)
 
 -- ---- Without an event
 
@@ -305,7 +305,7 @@ pub next_shown : (opening : Opening) (core : CoreView) (history : List Event) �
     → first_bad core.controller.params ≡ None → refusal_of core command ≡ None
     → Represents opening (core_after core command) (history ++ event_of caller command (answer_in core command) ∷ [])
 next_shown opening core history shows caller command good free =
-    next-shows opening core history shows caller command (threshold_held core.controller (call_in core command) good) free
+    next-shows opening core history shows caller command (in_range_has_threshold core.controller (call_in core command) good) free
 
 -- a legal event after a history is the next event of a core that represents the history
 pub next-legal : (opening : Opening) (core : CoreView) (history : List Event) (event : Event) → Represents opening core history
@@ -369,13 +369,13 @@ unfolding after_calls
 after-push h [] call = refl
 after-push h (first ∷ calls) call = after-push (after_call h first) calls call
 
-none-called : (opening : Opening) → (first_core opening).controller ≡ held_after_calls opening []
+none-called : (opening : Opening) → (first_core opening).controller ≡ state_after_calls opening []
 unfolding calls_of places after_calls
 none-called opening = refl
 
 -- a core whose controller has the state after the calls of the history
 abbrev HoldsCalls : Opening → List Event → CoreView → Type 0
-HoldsCalls opening history core = core.controller ≡ held_after_calls opening history
+HoldsCalls opening history core = core.controller ≡ state_after_calls opening history
 
 call-next : (opening : Opening) → Stays (HoldsCalls opening) opening
 call-next opening core history event shows holds fit free = grind (arith, nat_tests, calls-push, after-push)
@@ -383,11 +383,11 @@ call-next opening core history event shows holds fit free = grind (arith, nat_te
 pub run_beside : (opening : Opening) (history : List Event) (command : Command) → first_bad opening.params ≡ None → IsLegal opening history
     → All (λ event. CommandFits event.command) history
     → refusal_by_rule opening history command ≡ None
-    → answer_by (held_after_calls opening history) (waiting_after opening history) opening.limits.packets command ≡ decision opening history command
+    → answer_by (state_after_calls opening history) (waiting_after opening history) opening.limits.packets command ≡ decision opening history command
 run_beside opening history command good legal fit free =
     let run = run_of (HoldsCalls opening) opening (call-next opening) history (none-called opening) good legal fit in
     ap (λ (h : ControllerState). answer_by h (waiting_after opening history) opening.limits.packets command)
-    (sym run.holds ∙ held-is opening run.core history run.shows)
+    (sym run.holds ∙ state-is opening run.core history run.shows)
 
 -- ---- Events that follow from a core are legal after each history that the core represents
 

@@ -18,9 +18,9 @@ use Rattle.pie_aqm.proofs.Examples.{small, worked as worked_calls}
 use Rattle.pie_book.specs.Run.{Step, applied, folded, start, without_folds, answers, answers_from, before_full, progress_after, event_of}
 use Rattle.pie_book.specs.{Packet, Command, Arrive, Depart, Update, Reset, SetParams, Answer, Enqueued, Marked, DroppedEarly, DroppedBytes}
 use Rattle.pie_book.specs.{Empty, Left, Updated, Done, Event, Mode, Bounded, Rolling, One, Opening, RawParams, Stats, caller_moment}
-use Rattle.pie_book.specs.{registers_after, largest_queue, largest_delay, stats_after, waited, held_after, effective_moment, admitted, departed_count}
+use Rattle.pie_book.specs.{registers_after, largest_queue, largest_delay, stats_after, waited, state_after, effective_moment, admitted, departed_count}
 use Rattle.pie_book.specs.{waiting_after, controller_events, deed, fits, last_events, without_last, tail_with, first_run, core_after, first_core, CoreView}
-use Rattle.pie_book.specs.{IsLegalAt, refusal_after, held_after_calls, calls_of, after_calls, resume_refusal, queue_refusal}
+use Rattle.pie_book.specs.{IsLegalAt, refusal_after, state_after_calls, calls_of, after_calls, resume_refusal, queue_refusal}
 use Rattle.pie_book.specs.{end_refusal, core_of, ResumingView, are_reached, DroppedPackets, ExcerptView, event_of_entry, MayOpen, HasLimits}
 use Rattle.pie_book.specs.{IsNotContinued, Profile, Two, Elements}
 use Rattle.pie_params.specs.declared.elements.Delay.{Delay}
@@ -33,7 +33,7 @@ use Rattle.pie_event.specs.declared.cause.Cause.TheVariants as causes
 
 -- the definitions that theorems on worked histories unfold
 unfoldable pub worked : Type 0
-unfolding worked_calls admitted effective_moment waiting_after departed_count held_after controller_events registers_after stats_after largest_queue largest_delay
+unfolding worked_calls admitted effective_moment waiting_after departed_count state_after controller_events registers_after stats_after largest_queue largest_delay
     waited progress_after answers_from calls_of after_calls are_reached are_balanced core_along cause
 worked = ⊤
 
@@ -114,8 +114,8 @@ held = (refl, refl)
 
 -- a core, and a controller with a queue, reach the same state
 by_steps : let core : CoreView = steps (first_core opening) commands in
-    (core.controller ≡ held_after opening (history 14)) × (core.waiting ≡ waiting_after opening (history 14))
-    × (core.stats ≡ stats_after opening (history 14)) × (held_after_calls opening (history 14) ≡ held_after opening (history 14))
+    (core.controller ≡ state_after opening (history 14)) × (core.waiting ≡ waiting_after opening (history 14))
+    × (core.stats ≡ stats_after opening (history 14)) × (state_after_calls opening (history 14) ≡ state_after opening (history 14))
 unfolding worked
 by_steps = (refl, refl, refl, refl)
 
@@ -159,7 +159,7 @@ entries = (refl, refl, refl)
 -- ---- A core that resumes from the snapshot after the run, and from the waiting packets: the order of refusals
 
 abbrev numbers : CoreSnapshot
-numbers = record { count = 14; controller = held_after opening (history 14); packets = 4; bytes = 3048; stats = stats_after opening (history 14) }
+numbers = record { count = 14; controller = state_after opening (history 14); packets = 4; bytes = 3048; stats = stats_after opening (history 14) }
 
 -- an accumulated probability and a statistic that are one too great
 abbrev unsound : ℕ → ℕ → CoreSnapshot
@@ -190,7 +190,7 @@ agreeing = (refl, refl)
 
 -- each register that a statistic or an element bounds
 holding : let h : ControllerState = numbers.controller in
-    (map (λ held. are_balanced (record numbers { controller = held })) (record h { waited = 1 }
+    (map (λ state. are_balanced (record numbers { controller = state })) (record h { waited = 1 }
     ∷ record h { control = record h.control { old_delay = 2000000 } } ∷ record h { control = record h.control { old_delay = 2000001 } }
     ∷ record h { elements = record usual { delay = Stamp }; waited = 1002000 } ∷ record h { elements = record usual { delay = Stamp }; waited = 1002001 }
     ∷ record h { elements = record usual { delay = Stamp }; rate = record h.rate { average = 1 } }

@@ -1,7 +1,7 @@
 -- Folds change no answer: up to the first `HistoryFull`, the answers of a run are those of the rules, with any folds.
 use Rattle.std.proofs.Common.{◌≡◌, ◌≤◌, ◌+◌, ◌==◌, ℕ, List, [], ◌∷◌, ◌++◌, Bool, true, false, cond, take, refl, sym, ap, ◌∙◌, arith, min, Option}
 use Rattle.std.proofs.Common.{Some, None, Result, Ok, Err, one-add, not, take-take}
-use Rattle.pie_book.specs.Run.{Step, applied, folded, Progress, CallerCommand, event_of, refused_or, recorded, held_after_fold, answers_from, answers}
+use Rattle.pie_book.specs.Run.{Step, applied, folded, Progress, CallerCommand, event_of, refused_or, recorded, tail_length_after_fold, answers_from, answers}
 use Rattle.pie_book.specs.Run.{without_folds, is_full, before_full, AreSameUntilFull}
 use Rattle.pie_event.specs.declared.refusal.Refusal.TheVariants.{HistoryFull}
 use Rattle.pie_book.specs.Types.{Command, Answer, Event, Mode, Rolling, Opening, Refusal}
@@ -28,41 +28,42 @@ all_ruled opening history (request ∷ requests) =
     ∷ all_ruled opening (extended history request.caller request.command (ruled opening history request.command)) requests
 
 abbrev at : List Event → ℕ → Progress
-at history held = record { history = history; held = held }
+at history tail_length = record { history = history; tail_length = tail_length }
 
 -- ---- A relation between the answers of a run and of the rules, if it holds for no answers, for one more equal answer,
 -- and for all answers from the first `HistoryFull` on
 
 module _ (opening : Opening) (R : List Given → List Given → Type 0) (none : R [] [])
     (same : (first : Given) (some other : List Given) → R some other → R (first ∷ some) (first ∷ other))
-    (filled : (held : ℕ) (some other : List Given) → is_refused_full opening.choices.mode (held == opening.limits.tail) ≡ true
+    (filled : (tail_length : ℕ) (some other : List Given) → is_refused_full opening.choices.mode (tail_length == opening.limits.tail) ≡ true
     → R (Err HistoryFull ∷ some) other) where
   -- one command, and the steps after it
-  one-applied : (history : List Event) (held caller : ℕ) (command : Command) (steps : List Step)
-      → ((history : List Event) (held : ℕ) → R (answers_from opening (at history held) steps) (all_ruled opening history (without_folds steps)))
-      → (why : Option Refusal) (full : Bool) (answer : Answer) → is_refused_full opening.choices.mode (held == opening.limits.tail) ≡ full
+  one-applied : (history : List Event) (tail_length caller : ℕ) (command : Command) (steps : List Step)
+      → ((history : List Event) (tail_length : ℕ) → R (answers_from opening (at history tail_length) steps) (all_ruled opening history (without_folds steps)))
+      → (why : Option Refusal) (full : Bool) (answer : Answer) → is_refused_full opening.choices.mode (tail_length == opening.limits.tail) ≡ full
       → R (refused_or (or_full why full) answer ∷ answers_from opening
-      (recorded opening (at history held) caller command (refused_or (or_full why full) answer)) steps)
+      (recorded opening (at history tail_length) caller command (refused_or (or_full why full) answer)) steps)
       (refused_or why answer ∷ all_ruled opening (extended history caller command (refused_or why answer)) (without_folds steps))
-  one-applied history held caller command steps later (Some why) full answer is = same (Err why) _ _ (later history held)
-  one-applied history held caller command steps later None true answer is = filled held _ _ is
-  one-applied history held caller command steps later None false answer is = same (Ok answer) _ _ (later _ _)
+  one-applied history tail_length caller command steps later (Some why) full answer is = same (Err why) _ _ (later history tail_length)
+  one-applied history tail_length caller command steps later None true answer is = filled tail_length _ _ is
+  one-applied history tail_length caller command steps later None false answer is = same (Ok answer) _ _ (later _ _)
 
-  all-applied : (history : List Event) (held : ℕ) (steps : List Step)
-      → R (answers_from opening (at history held) steps) (all_ruled opening history (without_folds steps))
+  all-applied : (history : List Event) (tail_length : ℕ) (steps : List Step)
+      → R (answers_from opening (at history tail_length) steps) (all_ruled opening history (without_folds steps))
   unfolding all_ruled answers_from without_folds
-  all-applied history held [] = none
-  all-applied history held (folded n ∷ steps) = all-applied history (held_after_fold held n) steps
-  all-applied history held (applied caller command ∷ steps) =
-      one-applied history held caller command steps (λ history held. all-applied history held steps) (refusal_by_rule opening history command)
-      (is_refused_full opening.choices.mode (held == opening.limits.tail)) (decision opening history command) refl
+  all-applied history tail_length [] = none
+  all-applied history tail_length (folded n ∷ steps) = all-applied history (tail_length_after_fold tail_length n) steps
+  all-applied history tail_length (applied caller command ∷ steps) =
+      one-applied history tail_length caller command steps (λ history tail_length. all-applied history tail_length steps)
+      (refusal_by_rule opening history command)
+      (is_refused_full opening.choices.mode (tail_length == opening.limits.tail)) (decision opening history command) refl
 
 -- a rolling book answers as the rules do, because its tail refuses nothing
 rolling-ruled : (opening : Opening) (steps : List Step) → opening.choices.mode ≡ Rolling
     → answers_from opening (at [] 0) steps ≡ all_ruled opening [] (without_folds steps)
 rolling-ruled opening steps is =
     all-applied opening (λ some other. some ≡ other) refl (λ first some other e. ap (◌∷◌ first) e)
-    (λ held some other full. let none = rolls opening.choices.mode (held == opening.limits.tail) is in cc) [] 0 steps
+    (λ tail_length some other full. let none = rolls opening.choices.mode (tail_length == opening.limits.tail) is in cc) [] 0 steps
   where
     rolls : (mode : Mode) (full : Bool) → mode ≡ Rolling → is_refused_full mode full ≡ false
     rolls mode full is = grind (arith, nat_tests)
@@ -73,7 +74,7 @@ SameUntilFull some other = take (before_full some) some ≡ take (before_full so
 
 until_full-ruled : (opening : Opening) (steps : List Step)
     → SameUntilFull (answers_from opening (at [] 0) steps) (all_ruled opening [] (without_folds steps))
-until_full-ruled opening steps = all-applied opening SameUntilFull refl same-cons (λ held some other full. refl) [] 0 steps
+until_full-ruled opening steps = all-applied opening SameUntilFull refl same-cons (λ tail_length some other full. refl) [] 0 steps
   where
     same-cons : (first : Given) (some other : List Given) → SameUntilFull some other → SameUntilFull (first ∷ some) (first ∷ other)
     same-cons first some other same = by (is_full first)

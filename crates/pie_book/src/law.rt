@@ -2,7 +2,7 @@
 ghost use Rattle.std.specs.Prelude.{◌≡◌, List, true, ◌++◌, ◌∷◌, [], ℕ, All, None, nat_lt};
 ghost use Rattle.pie_book.specs.{One, Event, Rolling, Opening, CoreView, Represents, registers_of, registers_after, active_after, answers, without_folds};
 ghost use Rattle.pie_book.specs.{AreSameUntilFull, RawParams, Command, IsLegal, decision, refusal_by_rule, event_of, stats_after, Update, first_core};
-ghost use Rattle.pie_book.specs.{core_after, held_after_calls, opened_by, call_of, refusal_of, answer_by, is_too_soon, waiting_after, first_bad};
+ghost use Rattle.pie_book.specs.{core_after, state_after_calls, opened_by, call_of, refusal_of, answer_by, is_too_soon, waiting_after, first_bad};
 ghost use Rattle.pie_book.specs.{answer_in, apply_in, cause_after, cause_in, core_along, outcome, Follows};
 ghost use Rattle.pie_book.specs.{fits, opening_refusal, AnswerFits, CommandFits, ParamsFit, RegistersFit, StatsFit, after_call};
 ghost use Rattle.pie_book.specs.Run.{Step};
@@ -56,8 +56,8 @@ pub fn steps_look_back()
     ensures cause { (opening : Opening) (core : CoreView) (history : List Event) → Represents opening core history
         → (command : Command) → cause_in core command ≡ cause_after opening history command }
     ensures outcome { (opening : Opening) (core : CoreView) (history : List Event) → Represents opening core history
-        → (held : ℕ) (command : Command)
-        → apply_in opening core held command ≡ outcome opening (record { history = history; held = held }) command }
+        → (tail_length : ℕ) (command : Command)
+        → apply_in opening core tail_length command ≡ outcome opening (record { history = history; tail_length = tail_length }) command }
     ensures after { (opening : Opening) (core : CoreView) (history : List Event) → Represents opening core history
         → (caller : ℕ) (command : Command) → first_bad core.controller.params ≡ None → refusal_of core command ≡ None
         → Represents opening (core_after core command) (history ++ event_of caller command (answer_in core command) ∷ []) }
@@ -71,8 +71,8 @@ pub fn steps_look_back()
 /// project's own).
 ///
 /// The body is empty: the contract is the law, for readers of histories without a book.
-#[tactic(auto, using(crate::proofs::RangeFacts::params_are_held, crate::proofs::RangeFacts::registers_are_held, crate::proofs::RangeFacts::stats_are_held, crate::proofs::RangeFacts::answers_are_held, crate::proofs::CoreFacts::answer_fits, crate::proofs::RangeFacts::legal_at_first, crate::proofs::RangeFacts::legal_with_one_more))]
-pub fn all_numbers_are_held()
+#[tactic(auto, using(crate::proofs::RangeFacts::all_params_fit, crate::proofs::RangeFacts::all_registers_fit, crate::proofs::RangeFacts::all_stats_fit, crate::proofs::RangeFacts::all_answers_fit, crate::proofs::CoreFacts::answer_fits, crate::proofs::RangeFacts::legal_at_first, crate::proofs::RangeFacts::legal_with_one_more))]
+pub fn all_numbers_fit()
     ensures params { (params : RawParams) → first_bad params ≡ None → ParamsFit params }
     ensures registers { (opening : Opening) (history : List Event) → opening_refusal opening.limits opening.moment ≡ None → ParamsFit opening.params
         → IsLegal opening history
@@ -127,6 +127,6 @@ pub fn runs_decide_as_a_core()
     ensures { (opening : Opening) (history : List Event) (command : Command) → first_bad opening.params ≡ None → IsLegal opening history
         → All (λ event. CommandFits event.command) history
         → refusal_by_rule opening history command ≡ None
-        → answer_by (held_after_calls opening history) (waiting_after opening history) opening.limits.packets command
+        → answer_by (state_after_calls opening history) (waiting_after opening history) opening.limits.packets command
         ≡ decision opening history command }
 {}

@@ -17,7 +17,7 @@
 //!   snapshot and then takes the waiting packets one by one. `Book::resume` opens a book that continues from a core.
 //!   The core has the numbers of the snapshot (`core_of`), so it represents each history that the snapshot represents.
 //! - `Book::excerpt` copies the last events with the state before them (`Ends`).
-//! - Laws: `folds_change_no_answer` for runs; `all_numbers_are_held` for the ranges of registers, statistics and
+//! - Laws: `folds_change_no_answer` for runs; `all_numbers_fit` for the ranges of registers, statistics and
 //!   answers after a legal history; `packets_that_waited_are_taken` and `excerpts_are_legal_after_any_history` for
 //!   excerpts.
 #![tactic(auto)]
@@ -37,8 +37,8 @@ pub use book::{Book, ContinueRefusal};
 pub use core_state::Core;
 pub use excerpt::Excerpt;
 pub use law::{
-    all_numbers_are_held, folds_change_no_answer, parts_decide_as_a_core,
-    profile_one_is_always_active, registers_look_back, runs_decide_as_a_core, steps_look_back,
+    all_numbers_fit, folds_change_no_answer, parts_decide_as_a_core, profile_one_is_always_active,
+    registers_look_back, runs_decide_as_a_core, steps_look_back,
 };
 pub use pie_aqm::{Cause, Fate};
 pub use pie_event::{

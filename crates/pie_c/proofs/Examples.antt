@@ -1,7 +1,7 @@
 -- Examples of the definitions: each theorem computes.
 use Rattle.pie_c.proofs.Names.{◌≡◌, ◌^◌, true, false, refl, default_profile, PieState, usual, Half, Stamp, Random, Uncapped, Scaled, One, accu_left}
 use Rattle.pie_c.proofs.Names.{arrived, capped, departed, opened, verdict, arrival_of, packet_refusal, waited_refusal, departure_refusal}
-use Rattle.pie_c.proofs.Names.{update_refusal, choices_of, elements_of, are_in_range, held_in, is_activity_sound, is_rate_sound}
+use Rattle.pie_c.proofs.Names.{update_refusal, choices_of, elements_of, are_in_range, controller_state, is_activity_sound, is_rate_sound}
 use Rattle.pie_c.proofs.Names.{is_sound, state_of, with_arrival, with_rate}
 use Rattle.pie_early.specs.Decision.{is_considered, is_picked}
 
@@ -30,13 +30,13 @@ stamped = (refl, refl, refl, refl, refl, refl, refl, refl)
 abbrev odd : PieState
 odd = record start { params = record default_profile { dq_threshold = 2 ^ 17 }; measuring = 1; cycle_start = 7; cycle_count = 65535; profile = 9 }
 
-odd_states : (with_rate odd (departed (capped (held_in odd)) 1 0 0 8)
+odd_states : (with_rate odd (departed (capped (controller_state odd)) 1 0 0 8)
     ≡ record odd { moment = 8; average = 1; measuring = 0; cycle_start = 0; cycle_count = 0 })
-    × (with_arrival odd (arrived (held_in odd) (arrival_of 0 1500 1 0 0) 8) ≡ record odd { moment = 8 })
-unfolding held_in state_of verdict accu_left is_considered is_picked elements_of choices_of
+    × (with_arrival odd (arrived (controller_state odd) (arrival_of 0 1500 1 0 0) 8) ≡ record odd { moment = 8 })
+unfolding controller_state state_of verdict accu_left is_considered is_picked elements_of choices_of
 odd_states = (refl, refl)
 
 too_soon : (update_refusal start 0 14_999_999 ≡ 103) × (update_refusal start 0 15_000_000 ≡ 0)
     × (update_refusal (record start { moment = 15_000_000 }) 0 3 ≡ 0)
-unfolding state_of held_in update_refusal is_sound is_rate_sound is_activity_sound are_in_range choices_of elements_of
+unfolding state_of controller_state update_refusal is_sound is_rate_sound is_activity_sound are_in_range choices_of elements_of
 too_soon = (refl, refl, refl)

@@ -2,10 +2,10 @@
 pub use Rattle.pie_c.specs.Names.{Opening}
 pub use Rattle.pie_c.specs.{last_moment, profile_number, profile_of, opening_in, opening_of, is_bad_size, verdict_number, PieOpening, RawParams}
 pub use Rattle.pie_c.specs.{Depart, ControllerState, IsSound, arrived, capped, departed, opened, updated, arrival_of, departure_refusal, if_taken}
-pub use Rattle.pie_c.specs.{unless_refused, waited_refusal, held_by_opening, takes_stamps, with_arrival, with_departure, with_rate, with_registers}
+pub use Rattle.pie_c.specs.{unless_refused, waited_refusal, opening_state, takes_stamps, with_arrival, with_departure, with_rate, with_registers}
 pub use Rattle.pie_c.specs.{PieState, Event, first_bad, default_profile, Ecn}
 unfoldable pub use Rattle.pie_c.specs.{choices_of, elements_of, opening_refusal, are_in_range, cause, verdict, arrival_refusal, moment_refusal}
-unfoldable pub use Rattle.pie_c.specs.{packet_refusal, reset_refusal, update_refusal, held_in, is_activity_sound, is_rate_sound, is_sound, state_of}
+unfoldable pub use Rattle.pie_c.specs.{packet_refusal, reset_refusal, update_refusal, controller_state, is_activity_sound, is_rate_sound, is_sound, state_of}
 pub use Rattle.std.proofs.Common.{Bool, List, None, Some, [], ap, arith, false, if◌then◌else◌, min, nat_le, nat_lt, refl, rules, subst, suc, sym}
 pub use Rattle.std.proofs.Common.{true, ℕ, ◌++◌, ◌<◌, ◌==◌, ◌^◌, ◌∙◌, ◌∷◌, ◌≡◌, ◌≤◌}
 pub use Rattle.std.proofs.lemmas.Bool.{eqb-true}

@@ -6,13 +6,13 @@ use Rattle.pie_c.proofs.Names.{reset_refusal, ◌≡◌, ℕ, ◌≤◌, ◌<◌
 use Rattle.pie_c.proofs.Names.{arith, refl, ◌∙◌, eqb-true, nat_tests, ArrivingPacket, Verdict, Depart, RawParams, first_bad, ControllerState, accu_left}
 use Rattle.pie_c.proofs.Names.{arrived, capped, count_kept_open, departed, is_unmeasured, cause, opened, advanced, verdict, with_count, name_of}
 use Rattle.pie_c.proofs.Names.{CauseName, RawParams, PieState, is_bad_size, departure_refusal, waited_refusal, moment_refusal, if_taken}
-use Rattle.pie_c.proofs.Names.{packet_refusal, unless_refused, PieOpening, Opening, opening_of, opening_refusal, held_by_opening}
-use Rattle.pie_c.proofs.Names.{elements_of, last_moment, held_in, is_sound, state_of, takes_stamps, are_in_range, with_arrival, with_departure}
+use Rattle.pie_c.proofs.Names.{packet_refusal, unless_refused, PieOpening, Opening, opening_of, opening_refusal, opening_state}
+use Rattle.pie_c.proofs.Names.{elements_of, last_moment, controller_state, is_sound, state_of, takes_stamps, are_in_range, with_arrival, with_departure}
 use Rattle.pie_c.proofs.Names.{with_rate, with_registers, ap}
 use Rattle.std.proofs.Common.{max, Ok}
 use Rattle.pie_params.specs.Range.{is_dq_threshold}
 use Rattle.pie_aqm.specs.Steps.{changed, reset}
-use Rattle.pie_c.proofs.Sound.{choices-back, held-sound, held-state, params-from, state-held, state-sound}
+use Rattle.pie_c.proofs.Sound.{choices-back, controller-sound, controller-of-state, params-from, state-of-controller, state-sound}
 
 -- ---- A call that is accepted
 
@@ -30,9 +30,9 @@ threshold-in params good =
     let power : IsTrue (is_dq_threshold params.dq_threshold) = grind (arith, nat_tests) in
     grind (arith, nat_tests, power)
 
-pub threshold-held : (s : PieState) → is_sound s ≡ true → (held_in s).params.dq_threshold ≤ 65536
-unfolding held_in
-threshold-held s sound = threshold-in s.params (held-sound s sound).params
+pub threshold-small : (s : PieState) → is_sound s ≡ true → (controller_state s).params.dq_threshold ≤ 65536
+unfolding controller_state
+threshold-small s sound = threshold-in s.params (controller-sound s sound).params
 
 -- ---- A sound state after a call stays sound and represents the call
 
@@ -45,22 +45,22 @@ unfolding packet_refusal
 departed-moment size left moment rest free = grind (arith, nat_tests)
 
 module _ (s t : PieState) (call : Call) (refusal : ℕ) (keeps : KeepsSound) (looks : LooksBack) (sound : is_sound s ≡ true)
-    (left : t ≡ if_taken refusal s (state_of (after_call (held_in s) call))) where
+    (left : t ≡ if_taken refusal s (state_of (after_call (controller_state s) call))) where
   pub stays-sound : (refusal ≡ 0 → IsTaken call) → is_sound t ≡ true
   stays-sound taken = rw left (by (refusal == 0) (λ is. taken (eqb-true refusal 0 is)))
     where
-      by : (free : Bool) → (free ≡ true → IsTaken call) → is_sound (if free then state_of (after_call (held_in s) call) else s) ≡ true
-      by true taken = state-sound _ (keeps (held_in s) (held-sound s sound) call (taken refl))
+      by : (free : Bool) → (free ≡ true → IsTaken call) → is_sound (if free then state_of (after_call (controller_state s) call) else s) ≡ true
+      by true taken = state-sound _ (keeps (controller_state s) (controller-sound s sound) call (taken refl))
       by false taken = sound
 
-  pub represents-call : (o : Opened) (events : List ControllerEvent) → refusal ≡ 0 → Represents o events (held_in s)
-      → Represents o (events ++ event_of_call (held_in s) call ∷ []) (held_in t)
+  pub represents-call : (o : Opened) (events : List ControllerEvent) → refusal ≡ 0 → Represents o events (controller_state s)
+      → Represents o (events ++ event_of_call (controller_state s) call ∷ []) (controller_state t)
   represents-call o events free shows =
-      rw (left, free, held-state (after_call (held_in s) call)) (looks o events (held_in s) shows (threshold-held s sound) call)
+      rw (left, free, controller-of-state (after_call (controller_state s) call)) (looks o events (controller_state s) shows (threshold-small s sound) call)
 
 -- all three facts
 pub makes : KeepsSound → LooksBack → (s t : PieState) (call : Call) (refusal : ℕ) → is_sound s ≡ true
-    → t ≡ if_taken refusal s (state_of (after_call (held_in s) call)) → (refusal ≡ 0 → IsTaken call) → Makes s call refusal t
+    → t ≡ if_taken refusal s (state_of (after_call (controller_state s) call)) → (refusal ≡ 0 → IsTaken call) → Makes s call refusal t
 makes keeps looks s t call refusal sound left taken = record {
   after = left;
   sound = λ _. stays-sound s t call refusal keeps looks sound left taken;
@@ -77,82 +77,83 @@ unmade s call refusal some = record {
 
 -- a refused arrival leaves the state unchanged
 pub untouched : (s : PieState) (a : ArrivingPacket) (refusal moment code : ℕ) → code ≡ refusal → (refusal == 0) ≡ false → Arrives s a refusal moment code s
-untouched s a refusal moment code is some = record { answer = rw (is, some) refl; fields = rw some refl; held = λ _. unmade s (Arrive a moment) refusal some }
+untouched s a refusal moment code is some = record { answer = rw (is, some) refl; fields = rw some refl; if_sound = λ _. unmade s (Arrive a moment) refusal some }
 
 -- ---- The state after a call
 
 pub arrived-state : (s : PieState) (a : ArrivingPacket) (moment : ℕ) → is_sound s ≡ true
-    → with_arrival s (arrived (held_in s) a moment) ≡ state_of (arrived (held_in s) a moment)
-unfolding held_in state_of
-arrived-state s a moment sound = let back = state-held s sound in grind (arith, nat_tests)
+    → with_arrival s (arrived (controller_state s) a moment) ≡ state_of (arrived (controller_state s) a moment)
+unfolding controller_state state_of
+arrived-state s a moment sound = let back = state-of-controller s sound in grind (arith, nat_tests)
 
 -- if delays come from the rate, the packet's arrival is irrelevant
 pub by-rate : (s : PieState) (size left since moment : ℕ) → takes_stamps s ≡ false
-    → with_rate s (departed (capped (held_in s)) size left 0 moment) ≡ with_departure s (departed (capped (held_in s)) size left since moment)
-unfolding held_in elements_of
+    → with_rate s (departed (capped (controller_state s)) size left 0 moment) ≡ with_departure s (departed (capped (controller_state s)) size left since moment)
+unfolding controller_state elements_of
 by-rate s size left since moment is = rw is refl
 
 -- each field after a departure, for either source of delays
 left-in : (s t : PieState) (size left since moment refusal : ℕ) → is_sound s ≡ true
-    → t ≡ if_taken refusal s (with_departure s (departed (capped (held_in s)) size left since moment))
-    → t ≡ if_taken refusal s (state_of (departed (held_in s) size left since moment))
-unfolding held_in state_of elements_of
+    → t ≡ if_taken refusal s (with_departure s (departed (capped (controller_state s)) size left since moment))
+    → t ≡ if_taken refusal s (state_of (departed (controller_state s) size left since moment))
+unfolding controller_state state_of elements_of
 left-in s t size left since moment refusal sound is =
-    let back = state-held s sound in
-    let few = threshold-held s sound in
+    let back = state-of-controller s sound in
+    let few = threshold-small s sound in
     grind (arith, nat_tests)
 
 left-by : KeepsSound → LooksBack → (s t : PieState) (size left since moment rest : ℕ) → let refusal = unless_refused (packet_refusal size left moment) rest in
-    t ≡ if_taken refusal s (with_departure s (departed (capped (held_in s)) size left since moment)) → Leaves s (Depart size left since moment) refusal t
+    t ≡ if_taken refusal s (with_departure s (departed (capped (controller_state s)) size left since moment))
+    → Leaves s (Depart size left since moment) refusal t
 left-by keeps looks s t size left since moment rest is sound =
     makes keeps looks s t (Depart size left since moment) (unless_refused (packet_refusal size left moment) rest) sound
     (left-in s t size left since moment _ sound is) (departed-moment size left moment rest)
 
 pub departs : KeepsSound → LooksBack → (s t : PieState) (size left since moment : ℕ)
-    → t ≡ if_taken (waited_refusal s size left since moment) s (with_departure s (departed (capped (held_in s)) size left since moment))
+    → t ≡ if_taken (waited_refusal s size left since moment) s (with_departure s (departed (capped (controller_state s)) size left since moment))
     → Departs s size left since moment t
-departs keeps looks s t size left since moment is = record { fields = is; held = left-by keeps looks s t size left since moment _ is }
+departs keeps looks s t size left since moment is = record { fields = is; if_sound = left-by keeps looks s t size left since moment _ is }
 
 -- each field after a departure that is refused if delays come from time stamps
 pub departs_by_rate : KeepsSound → LooksBack → (s t : PieState) (size left moment : ℕ)
-    → t ≡ if_taken (departure_refusal s size left moment) s (with_rate s (departed (capped (held_in s)) size left 0 moment))
-    → Steps s (Depart size left 0 moment) (departure_refusal s size left moment) (with_rate s (departed (capped (held_in s)) size left 0 moment)) t
+    → t ≡ if_taken (departure_refusal s size left moment) s (with_rate s (departed (capped (controller_state s)) size left 0 moment))
+    → Steps s (Depart size left 0 moment) (departure_refusal s size left moment) (with_rate s (departed (capped (controller_state s)) size left 0 moment)) t
 departs_by_rate keeps looks s t size left moment is = record {
   fields = is;
-  held = left-by keeps looks s t size left 0 moment _ (grind (arith, nat_tests, by-rate s size left 0 moment));
+  if_sound = left-by keeps looks s t size left 0 moment _ (grind (arith, nat_tests, by-rate s size left 0 moment));
 }
 
 -- a departure that leaves the open cycle open is accepted, and changes only the count and the moment
-pub counted-taken : (s : PieState) (h : ControllerState) (size left moment count : ℕ) → h ≡ held_in s → count_kept_open h size ≡ Some count
+pub counted-taken : (s : PieState) (h : ControllerState) (size left moment count : ℕ) → h ≡ controller_state s → count_kept_open h size ≡ Some count
     → moment ≤ last_moment → left ≤ 2 ^ 30 → 0 < size → departure_refusal s size left moment ≡ 0
-unfolding held_in count_kept_open elements_of packet_refusal
+unfolding controller_state count_kept_open elements_of packet_refusal
 counted-taken s h size left moment count is kept m few some = grind (arith, nat_tests)
 
-pub counted-state : (s : PieState) (h : ControllerState) (size left moment count : ℕ) → h ≡ held_in s → count_kept_open h size ≡ Some count
+pub counted-state : (s : PieState) (h : ControllerState) (size left moment count : ℕ) → h ≡ controller_state s → count_kept_open h size ≡ Some count
     → departed (capped h) size left 0 moment ≡ with_count (capped h) count moment
-    → record s { moment = max s.moment moment; cycle_count = count } ≡ with_rate s (departed (capped (held_in s)) size left 0 moment)
-unfolding held_in count_kept_open elements_of
+    → record s { moment = max s.moment moment; cycle_count = count } ≡ with_rate s (departed (capped (controller_state s)) size left 0 moment)
+unfolding controller_state count_kept_open elements_of
 counted-state s h size left moment count is kept alone = grind (arith, nat_tests)
 
 -- a departure that meets no open cycle and opens none is accepted, and changes only the moment
-pub unmeasured-taken : (s : PieState) (h : ControllerState) (size left moment : ℕ) → h ≡ held_in s → is_unmeasured h left ≡ true → moment ≤ last_moment
+pub unmeasured-taken : (s : PieState) (h : ControllerState) (size left moment : ℕ) → h ≡ controller_state s → is_unmeasured h left ≡ true → moment ≤ last_moment
     → is_bad_size size ≡ false → departure_refusal s size left moment ≡ 0
-unfolding held_in is_unmeasured elements_of packet_refusal
+unfolding controller_state is_unmeasured elements_of packet_refusal
 unmeasured-taken s h size left moment is none m good = grind (arith, nat_tests)
 
-pub unmeasured-state : (s : PieState) (h : ControllerState) (size left moment : ℕ) → h ≡ held_in s → is_unmeasured h left ≡ true
+pub unmeasured-state : (s : PieState) (h : ControllerState) (size left moment : ℕ) → h ≡ controller_state s → is_unmeasured h left ≡ true
     → departed (capped h) size left 0 moment ≡ advanced (capped h) moment
     → record s { moment = max s.moment moment; measuring = 0; cycle_start = 0; cycle_count = 0 }
-    ≡ with_rate s (departed (capped (held_in s)) size left 0 moment)
-unfolding held_in is_unmeasured elements_of
+    ≡ with_rate s (departed (capped (controller_state s)) size left 0 moment)
+unfolding controller_state is_unmeasured elements_of
 unmeasured-state s h size left moment is none alone = grind (arith, nat_tests)
 
 pub passes : KeepsSound → LooksBack → (s t : PieState) (moment : ℕ)
     → t ≡ if_taken (moment_refusal moment) s (record s { moment = max s.moment moment }) → Advances s moment t
-unfolding moment_refusal held_in state_of
+unfolding moment_refusal controller_state state_of
 passes keeps looks s t moment is = record {
   fields = is;
-  held = λ sound. let back = state-held s sound in
+  if_sound = λ sound. let back = state-of-controller s sound in
       makes keeps looks s t (Advance moment) (moment_refusal moment) sound (grind (arith, nat_tests)) (given_calls moment _);
 }
 
@@ -160,26 +161,29 @@ passes keeps looks s t moment is = record {
 abbrev pub at_later : PieState → ℕ → PieState
 at_later s moment = record s { moment = max s.moment moment }
 
-pub kept-later : (s t : PieState) (a b : ArrivingPacket) (moment : ℕ) (h g : ControllerState) → t ≡ at_later s moment → h ≡ held_in t → g ≡ arrived h a t.moment → a ≡ b
-    → with_arrival t g ≡ with_arrival s (arrived (held_in s) b moment)
-unfolding held_in accu_left verdict
+pub kept-later : (s t : PieState) (a b : ArrivingPacket) (moment : ℕ) (h g : ControllerState) → t ≡ at_later s moment
+    → h ≡ controller_state t → g ≡ arrived h a t.moment → a ≡ b
+    → with_arrival t g ≡ with_arrival s (arrived (controller_state s) b moment)
+unfolding controller_state accu_left verdict
 kept-later s t a b moment h g at held after same = grind (arith, nat_tests)
 
-pub moment-later : (t : PieState) (a : ArrivingPacket) (h g : ControllerState) → h ≡ held_in t → g ≡ arrived h a t.moment → g.moment ≡ t.moment
-unfolding held_in
+pub moment-later : (t : PieState) (a : ArrivingPacket) (h g : ControllerState) → h ≡ controller_state t → g ≡ arrived h a t.moment → g.moment ≡ t.moment
+unfolding controller_state
 moment-later t a h g held after = grind (arith, nat_tests)
 
-pub verdict-later : (s t : PieState) (a b : ArrivingPacket) (moment : ℕ) (h : ControllerState) (v : Verdict) → t ≡ at_later s moment → h ≡ held_in t → v ≡ verdict h a
+pub verdict-later : (s t : PieState) (a b : ArrivingPacket) (moment : ℕ) (h : ControllerState) (v : Verdict) → t ≡ at_later s moment
+    → h ≡ controller_state t → v ≡ verdict h a
     → a ≡ b
-    → v ≡ verdict (held_in s) b
-unfolding held_in verdict
+    → v ≡ verdict (controller_state s) b
+unfolding controller_state verdict
 verdict-later s t a b moment h v at held is same = rw (is, held, same, at) refl
 
 -- the name of its cause, which does not depend on the moment
-pub name-later : (s t : PieState) (a b : ArrivingPacket) (moment packets : ℕ) (h : ControllerState) (name : CauseName) → t ≡ at_later s moment → h ≡ held_in t
+pub name-later : (s t : PieState) (a b : ArrivingPacket) (moment packets : ℕ) (h : ControllerState) (name : CauseName) → t ≡ at_later s moment
+    → h ≡ controller_state t
     → ((n : ℕ) → name ≡ name_of (cause h a n)) → a ≡ b
-    → Some name ≡ Some (name_of (cause (held_in s) b packets))
-unfolding held_in cause
+    → Some name ≡ Some (name_of (cause (controller_state s) b packets))
+unfolding controller_state cause
 name-later s t a b moment packets h name at held is same = ap Some (is packets ∙ rw (held, same, at) refl)
 
 -- ---- The state after the other calls
@@ -188,10 +192,10 @@ reset-taken : (s : PieState) (moment : ℕ) → reset_refusal s moment ≡ 0 →
 unfolding reset_refusal
 reset-taken s moment free = (grind (arith, nat_tests), grind (arith, nat_tests))
 
-pub resets : KeepsSound → LooksBack → (s t : PieState) (moment : ℕ) → reset_refusal s moment ≡ 0 → t ≡ with_registers s (reset (held_in s) moment)
+pub resets : KeepsSound → LooksBack → (s t : PieState) (moment : ℕ) → reset_refusal s moment ≡ 0 → t ≡ with_registers s (reset (controller_state s) moment)
     → Makes s (Restart moment) (reset_refusal s moment) t
-unfolding held_in state_of
-resets keeps looks s t moment free is = let taken = reset-taken s moment free in let back = state-held s taken.0 in
+unfolding controller_state state_of
+resets keeps looks s t moment free is = let taken = reset-taken s moment free in let back = state-of-controller s taken.0 in
     makes keeps looks s t (Restart moment) (reset_refusal s moment) taken.0 (grind (arith, nat_tests)) (λ _. taken.1)
 
 change-taken : (s : PieState) (params : RawParams) (moment : ℕ) → params_refusal s params moment ≡ 0
@@ -200,15 +204,15 @@ unfolding params_refusal
 change-taken s params moment free = (grind (arith, nat_tests), grind (arith, nat_tests), grind (arith, nat_tests))
 
 pub changes : KeepsSound → LooksBack → (s t : PieState) (params : RawParams) (moment : ℕ) → params_refusal s params moment ≡ 0
-    → t ≡ with_rate (record s { params = params }) (changed (held_in s) params moment)
+    → t ≡ with_rate (record s { params = params }) (changed (controller_state s) params moment)
     → Makes s (Change params moment) (params_refusal s params moment) t
-unfolding held_in state_of
-changes keeps looks s t params moment free is = let taken = change-taken s params moment free in let back = state-held s taken.0 in
+unfolding controller_state state_of
+changes keeps looks s t params moment free is = let taken = change-taken s params moment free in let back = state-of-controller s taken.0 in
     makes keeps looks s t (Change params moment) (params_refusal s params moment) taken.0 (grind (arith, nat_tests))
     (λ _. (taken.2, params-from params taken.1))
 
 pub opened-state : (s : PieState) (o : PieOpening) (it : Opening) (raw : RawParams) (h : ControllerState) → opening_of o ≡ Ok it → raw ≡ it.params
     → h ≡ opened it.choices.profile it.choices.elements raw it.moment
-    → with_registers (record s { params = o.params; profile = o.profile; choices = o.choices }) h ≡ state_of (held_by_opening o)
+    → with_registers (record s { params = o.params; profile = o.profile; choices = o.choices }) h ≡ state_of (opening_state o)
 unfolding opening_refusal state_of
 opened-state s o it raw h says same is = let back = choices-back o.choices in grind (arith, nat_tests)

@@ -1,7 +1,7 @@
 -- A state contains a controller's state, and is sound if that is.
 use Rattle.pie_c.specs.{Begun, count_of, flag, flag_of, start_of}
 use Rattle.pie_c.proofs.Names.{RawParams, ◌≡◌, ◌<◌, ◌^◌, ◌≤◌, ◌==◌, if◌then◌else◌, ℕ, suc, Bool, true, None, arith, refl, ap, nat_tests}
-use Rattle.pie_c.proofs.Names.{first_bad, One, ControllerState, IsSound, PieState, are_in_range, held_in, is_activity_sound, is_rate_sound}
+use Rattle.pie_c.proofs.Names.{first_bad, One, ControllerState, IsSound, PieState, are_in_range, controller_state, is_activity_sound, is_rate_sound}
 use Rattle.pie_c.proofs.Names.{is_sound, profile_number, profile_of, Stamp, state_of, choices_of, elements_of, usual}
 use Rattle.std.proofs.Common.{Option, is_none, zero}
 use Rattle.pie_event.specs.declared.profile.Profile.{Profile}
@@ -31,9 +31,9 @@ nearly_usual (suc (suc n)) h = absurd (omega (arith, h))
 
 -- ---- The controller's state of the state of a controller is the same
 
-pub held-state : (h : ControllerState) → held_in (state_of h) ≡ h
-unfolding held_in state_of
-held-state h = let back = elements-back h.elements in grind (arith, nat_tests)
+pub controller-of-state : (h : ControllerState) → controller_state (state_of h) ≡ h
+unfolding controller_state state_of
+controller-of-state h = let back = elements-back h.elements in grind (arith, nat_tests)
 
 -- ---- Soundness
 
@@ -50,17 +50,17 @@ fits : (s : PieState) → is_sound s ≡ true → (is_rate_sound s ≡ true) × 
 unfolding is_sound
 fits s sound = (grind (arith, nat_tests), grind (arith, nat_tests), grind (arith, nat_tests))
 
-within : (s : PieState) → is_rate_sound s ≡ true → (s.average < 2 ^ 60) × IsWithin s.params.dq_threshold s.moment (held_in s).rate.begun
-unfolding is_rate_sound held_in
+within : (s : PieState) → is_rate_sound s ≡ true → (s.average < 2 ^ 60) × IsWithin s.params.dq_threshold s.moment (controller_state s).rate.begun
+unfolding is_rate_sound controller_state
 within s h = (grind (arith, nat_tests), grind (arith, nat_tests))
 
 one-at : (s : PieState) → is_activity_sound s ≡ true → profile_of s.profile ≡ One → (s.active == 1) ≡ true
 unfolding is_activity_sound
 one-at s h one = grind (arith, nat_tests)
 
-pub held-sound : (s : PieState) → is_sound s ≡ true → IsSound (held_in s)
-unfolding held_in is_sound
-held-sound s h = record {
+pub controller-sound : (s : PieState) → is_sound s ≡ true → IsSound (controller_state s)
+unfolding controller_state is_sound
+controller-sound s h = record {
   params = params-from s.params (grind (arith, nat_tests));
   moment = grind (arith, nat_tests);
   prob = grind (arith, nat_tests);
@@ -95,16 +95,16 @@ state-sound h sound =
 
 -- ---- A sound state is the state of its controller, so a call may write only the changed fields
 
-pub state-held : (s : PieState) → is_sound s ≡ true → state_of (held_in s) ≡ s
-unfolding held_in state_of is_rate_sound is_activity_sound
-state-held s sound =
+pub state-of-controller : (s : PieState) → is_sound s ≡ true → state_of (controller_state s) ≡ s
+unfolding controller_state state_of is_rate_sound is_activity_sound
+state-of-controller s sound =
     let fit = (fits s sound).0 in
     let known = (fits s sound).1 in
     let back = choices-back s.choices (fits s sound).2 in
     grind (arith, nat_tests)
 
 pub kept_updated : (s : PieState) (h : ControllerState) → is_sound s ≡ true
-    → h ≡ record (held_in s) { moment = h.moment; active = h.active; control = h.control }
+    → h ≡ record (controller_state s) { moment = h.moment; active = h.active; control = h.control }
     → record s {
       moment = h.moment;
       prob = h.control.prob;
@@ -113,5 +113,5 @@ pub kept_updated : (s : PieState) (h : ControllerState) → is_sound s ≡ true
       last = h.control.last;
       active = flag h.active;
     } ≡ state_of h
-unfolding held_in state_of
-kept_updated s h sound is = let back = state-held s sound in grind (arith, nat_tests)
+unfolding controller_state state_of
+kept_updated s h sound is = let back = state-of-controller s sound in grind (arith, nat_tests)

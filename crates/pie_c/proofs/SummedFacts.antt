@@ -1,19 +1,19 @@
 -- Facts about the events that the summing calls add to an interval's sums.
 use Rattle.std.specs.Prelude.{Option}
 use Rattle.pie_c.specs.{Cause, answer_of, Clock, Explained, LiveInterval, Conditions, Holds, IsSet, HasConditions, clock_of, meter_input_of, updated_by, Adds, ExplainsCall}
-use Rattle.pie_c.specs.{conditions_of, cause_after, held_after, wait_of, deed_of, Setter, explanation, moment_of, with_after}
+use Rattle.pie_c.specs.{conditions_of, cause_after, state_after, wait_of, deed_of, Setter, explanation, moment_of, with_after}
 use Rattle.pie_c.proofs.Names.{◌≡◌, ◌≤◌, min, ◌==◌, arith, ℕ, Bool, true, false, nat_le, List, [], ◌∷◌, ◌++◌, refl, sym, ap, subst, nat_tests}
 use Rattle.pie_c.proofs.Names.{Event, Verdict, verdict_number, PieState, arrival_refusal, if_taken, moment_refusal, unless_refused, update_refusal}
-use Rattle.pie_c.proofs.Names.{held_in, with_departure, ControllerState, waiting_after, Opening}
+use Rattle.pie_c.proofs.Names.{controller_state, with_departure, ControllerState, waiting_after, Opening}
 use Rattle.pie_summary.specs.declared.meter_input.MeterInput.{MeterInput}
 use Rattle.pie_summary.specs.Sums.{answer_place, size_by, size_in}
 use Rattle.std.specs.Bool.{Decides}
 use Rattle.pie_book.specs.Registers.{registers_after}
 
 -- a departure does not change its conditions
-pub unmoved : (before after : PieState) (refusal : ℕ) (held : ControllerState) → after ≡ if_taken refusal before (with_departure before held)
+pub unmoved : (before after : PieState) (refusal : ℕ) (state : ControllerState) → after ≡ if_taken refusal before (with_departure before state)
     → conditions_of (after.active == 1) after.params.target after.last after ≡ conditions_of (before.active == 1) before.params.target before.last after
-unmoved before after refusal held is = grind (arith, nat_tests)
+unmoved before after refusal state is = grind (arith, nat_tests)
 
 -- a call adds its event as `Adds` states, if its flag is true exactly without a refusal, and the event is recorded as
 -- `noted` if the fields for its kind are
@@ -69,11 +69,11 @@ update-decides state queued moment answer is = (λ so. grind (arith, nat_tests),
 -- ---- The added event is the explained one
 
 pub explained : (opening : Opening) (history : List Event) (made : Event) (before after : PieState) (number : ℕ) (set_by : Setter) (day : Option Clock)
-    → held_in before ≡ held_after opening history → held_in after ≡ held_after opening (history ++ made ∷ [])
+    → controller_state before ≡ state_after opening history → controller_state after ≡ state_after opening (history ++ made ∷ [])
     → after.moment ≡ moment_of opening history made
     → ExplainsCall before after day made (cause_after opening history made.command) (wait_of (deed_of made) after.moment (waiting_after opening history))
     (with_after opening (history ++ made ∷ []) (explanation opening history number made set_by day))
-unfolding explanation held_in registers_after
+unfolding explanation controller_state registers_after
 explained opening history made before after number set_by day held left moment = record {
   event = refl;
   cause = refl;

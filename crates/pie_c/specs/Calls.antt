@@ -4,18 +4,18 @@ use Rattle.pie_c.specs.Names.{Arrive, Call, Depart, IsTaken, Advance, after_call
 use Rattle.pie_c.specs.Names.{capped, delay_answered, departed, due, is_too_soon, updated, verdict, RawParams, ecn_at, is_bad_size, verdict_number}
 use Rattle.pie_c.specs.Names.{PieState, PieUpdated, last_moment, are_in_range}
 use Rattle.pie_aqm.specs.declared.verdict.ArrivingPacket.{ArrivingPacket}
-use Rattle.pie_c.specs.State.{held_in, is_sound, state_of, takes_stamps, with_arrival, with_departure}
+use Rattle.pie_c.specs.State.{controller_state, is_sound, state_of, takes_stamps, with_arrival, with_departure}
 
 -- ---- The laws of pie_aqm for each call, for any controller
 
 -- a sound state stays sound
 abbrev pub KeepsSound : Type 0
-KeepsSound = (held : ControllerState) → IsSound held → (call : Call) → IsTaken call → IsSound (after_call held call)
+KeepsSound = (state : ControllerState) → IsSound state → (call : Call) → IsTaken call → IsSound (after_call state call)
 
 -- the state represents the call
 abbrev pub LooksBack : Type 0
-LooksBack = (opened : Opened) (events : List ControllerEvent) (held : ControllerState) → Represents opened events held → held.params.dq_threshold ≤ 65536
-    → (call : Call) → Represents opened (events ++ event_of_call held call ∷ []) (after_call held call)
+LooksBack = (opened : Opened) (events : List ControllerEvent) (state : ControllerState) → Represents opened events state → state.params.dq_threshold ≤ 65536
+    → (call : Call) → Represents opened (events ++ event_of_call state call ∷ []) (after_call state call)
 
 -- ---- Return value and state of a call
 
@@ -50,10 +50,10 @@ arrival_of queued size room bits word = record { queued = queued; is_full = room
 -- the state after a call that checks the whole state, with this refusal: in every field the controller's state. A sound
 -- state stays sound and, if it represented the events before, represents the call too
 pub record Makes (before : PieState) (call : Call) (refusal : ℕ) (left : PieState) : Type 0 where
-  pub after : left ≡ if_taken refusal before (state_of (after_call (held_in before) call))
+  pub after : left ≡ if_taken refusal before (state_of (after_call (controller_state before) call))
   pub sound : is_sound before ≡ true → is_sound left ≡ true
-  pub shows : (opened : Opened) (events : List ControllerEvent) → refusal ≡ 0 → Represents opened events (held_in before)
-      → Represents opened (events ++ event_of_call (held_in before) call ∷ []) (held_in left)
+  pub shows : (opened : Opened) (events : List ControllerEvent) → refusal ≡ 0 → Represents opened events (controller_state before)
+      → Represents opened (events ++ event_of_call (controller_state before) call ∷ []) (controller_state left)
 
 -- the state after a call for a packet, if it was sound
 abbrev pub Leaves : PieState → Call → ℕ → PieState → Type 0
@@ -62,14 +62,14 @@ Leaves before call refusal left = is_sound before ≡ true → Makes before call
 -- each field of any state after a call, if it is not refused
 pub record Steps (before : PieState) (call : Call) (refusal : ℕ) (after left : PieState) : Type 0 where
   pub fields : left ≡ if_taken refusal before after
-  pub held : Leaves before call refusal left
+  pub if_sound : Leaves before call refusal left
 
 -- the return value and the state after an arrival with this refusal: each field of any state, and the controller's
 -- state if it was sound
 pub record Arrives (before : PieState) (arrival : ArrivingPacket) (refusal moment code : ℕ) (left : PieState) : Type 0 where
-  pub answer : code ≡ unless_refused refusal (verdict_number (verdict (held_in before) arrival))
-  pub fields : left ≡ if_taken refusal before (with_arrival before (arrived (held_in before) arrival moment))
-  pub held : Leaves before (Arrive arrival moment) refusal left
+  pub answer : code ≡ unless_refused refusal (verdict_number (verdict (controller_state before) arrival))
+  pub fields : left ≡ if_taken refusal before (with_arrival before (arrived (controller_state before) arrival moment))
+  pub if_sound : Leaves before (Arrive arrival moment) refusal left
 
 -- the code of the refusal of a departure by its arguments; 0 if it is accepted
 unfoldable pub packet_refusal : ℕ → ℕ → ℕ → ℕ
@@ -92,7 +92,7 @@ waited_refusal state size left arrived moment =
 abbrev pub Departs : PieState → ℕ → ℕ → ℕ → ℕ → PieState → Type 0
 Departs before size left arrived moment after =
     Steps before (Depart size left arrived moment) (waited_refusal before size left arrived moment)
-    (with_departure before (departed (capped (held_in before)) size left arrived moment)) after
+    (with_departure before (departed (capped (controller_state before)) size left arrived moment)) after
 
 -- the code of the refusal of a departure that found no packet; 0 if it is accepted
 unfoldable pub moment_refusal : ℕ → ℕ
@@ -116,17 +116,17 @@ update_refusal state queued moment =
     if not (is_sound state) then 110
     else if nat_lt last_moment moment then 101
     else if nat_lt (2 ^ 30) queued then 112
-    else if is_too_soon (held_in state) moment then 103
+    else if is_too_soon (controller_state state) moment then 103
     else 0
 
 -- the result of an update with this code and this delay, from the state after it
 abbrev pub updated_with : ℕ → ℕ → ControllerState → PieUpdated
-updated_with code delay held = record {
+updated_with code delay state = record {
   code = code;
-  due = due held;
+  due = due state;
   delay = delay;
-  prob = held.control.prob;
-  burst = held.control.burst;
+  prob = state.control.prob;
+  burst = state.control.burst;
 }
 
 -- the result of an update that is refused for its arguments or its state
@@ -137,8 +137,8 @@ nothing_updated code = record { code = code; due = 0; delay = 0; prob = 0; burst
 -- update and the unchanged state
 abbrev pub updated_by : PieState → ℕ → ℕ → PieUpdated
 updated_by state queued moment =
-    if update_refusal state queued moment == 0 then updated_with 0 (delay_answered (held_in state) queued) (updated (held_in state) queued moment)
-    else if update_refusal state queued moment == 103 then updated_with 103 state.old_delay (held_in state)
+    if update_refusal state queued moment == 0 then updated_with 0 (delay_answered (controller_state state) queued) (updated (controller_state state) queued moment)
+    else if update_refusal state queued moment == 103 then updated_with 103 state.old_delay (controller_state state)
     else nothing_updated (update_refusal state queued moment)
 
 -- the code of the refusal of new parameters; 0 if they are accepted

@@ -40,8 +40,8 @@ controller_in s = record {
   accu = s.accu;
 }
 
-unfoldable pub held_in : PieState → ControllerState
-held_in s = controller_in s
+unfoldable pub controller_state : PieState → ControllerState
+controller_state s = controller_in s
 
 -- the state that contains a controller's state
 unfoldable pub state_of : ControllerState → PieState
@@ -136,8 +136,8 @@ default_opening rate = record {
 }
 
 -- the state and the opening of a controller with this opening
-abbrev pub held_by_opening : PieOpening → ControllerState
-held_by_opening o = opened (profile_of o.profile) (elements_of o.choices) o.params o.moment
+abbrev pub opening_state : PieOpening → ControllerState
+opening_state o = opened (profile_of o.profile) (elements_of o.choices) o.params o.moment
 
 abbrev pub opened_by : PieOpening → Opened
 opened_by o = record { profile = profile_of o.profile; elements = elements_of o.choices; params = o.params; moment = o.moment }

@@ -4,7 +4,7 @@ use Rattle.pie_c.specs.Names.{Cause, Event, Clock, Explained, LiveInterval, Cond
 use Rattle.pie_c.specs.Names.{PieEvent, PieState}
 use Rattle.pie_c.specs.Calls.{arrival_of, arrival_refusal}
 use Rattle.pie_c.specs.Events.{arrival_with}
-use Rattle.pie_c.specs.State.{held_in}
+use Rattle.pie_c.specs.State.{controller_state}
 
 -- the conditions of an event that left this state: the activity before it, the target, and the moment of the last
 -- update
@@ -40,8 +40,8 @@ pub record Adds (refusal : ℕ) (before after : LiveInterval) (explains : Explai
 abbrev pub AddsArrival : PieState → ℕ → ℕ → PieEvent → LiveInterval → PieState → PieEvent → LiveInterval → Type 0
 AddsArrival before queued room e period after filled left = let arrival = arrival_of queued e.size room e.ecn e.word in
     (packets : ℕ) → Adds (arrival_refusal queued e.size e.ecn e.moment) period left
-    (ExplainsCall before after (clock_of period) (arrival_with filled (ecn_at e.ecn) (verdict (held_in before) arrival))
-    (Some (cause (held_in before) arrival packets)) 0)
+    (ExplainsCall before after (clock_of period) (arrival_with filled (ecn_at e.ecn) (verdict (controller_state before) arrival))
+    (Some (cause (controller_state before) arrival packets)) 0)
 
 -- the code of the refusal of a length of intervals; 0 if it is accepted
 abbrev pub every_refusal : ℕ → ℕ

@@ -2,7 +2,7 @@
 //! refuse an unsound state. Each call refuses arguments out of range, executes the step of the controller, and writes
 //! the changed numbers back.
 ghost use Rattle.std.specs.Prelude.{◌≡◌, ◌<◌, ◌+◌, ◌-◌, ◌^◌, ◌≤◌, ℕ, if◌then◌else◌, min, true, Some};
-ghost use Rattle.pie_c.specs.{Change, Depart, Restart, arrived, capped, cause, departed, verdict, elements_of, held_in, is_sound};
+ghost use Rattle.pie_c.specs.{Change, Depart, Restart, arrived, capped, cause, departed, verdict, elements_of, controller_state, is_sound};
 ghost use Rattle.pie_c.specs.{takes_stamps, with_departure, with_rate, KeepsSound, LooksBack, Arrives, Departs, Makes, Advances, Steps, Takes};
 ghost use Rattle.pie_c.specs.{arrival_of, arrival_refusal, departure_refusal, moment_refusal, params_refusal, reset_refusal, state_refusal};
 ghost use Rattle.pie_c.specs.{update_refusal, updated_by, waited_refusal};
@@ -61,7 +61,7 @@ pub extern "C" fn pie_arrive(
         let elements = usual_but_delay(state.choices);
         arrive(state, elements, queued, size, room, bits, word, moment).0
     } else {
-        arrive_apart(state, queued, size, room, bits, word, moment)
+        arrive_out_of_line(state, queued, size, room, bits, word, moment)
     }
 }
 
@@ -83,7 +83,7 @@ pub(crate) fn arrive(
     requires { elements ≡ elements_of state.old.choices }
     ensures arrives { Arrives state.old (arrival_of queued size room bits word) (arrival_refusal queued size bits moment) moment result.0 state.new }
     ensures name { result.0 ≤ 4 → (packets : ℕ)
-        → result.1 ≡ Some (name_of (cause (held_in state.old) (arrival_of queued size room bits word) packets)) }
+        → result.1 ≡ Some (name_of (cause (controller_state state.old) (arrival_of queued size room bits word) packets)) }
 {
     if moment > MAX_NANOS {
         return (BAD_MOMENT, None);
@@ -105,9 +105,9 @@ pub(crate) fn arrive(
         word,
     };
     state.reach(moment);
-    let mut held = raw_with(state, elements);
-    let (verdict, name) = held.arrive_with_name(arrival, state.moment);
-    state.keep_arrived(&held);
+    let mut controller = raw_with(state, elements);
+    let (verdict, name) = controller.arrive_with_name(arrival, state.moment);
+    state.keep_arrived(&controller);
     laws();
     (of_verdict(verdict), Some(name))
 }
@@ -115,7 +115,7 @@ pub(crate) fn arrive(
 /// Decides on an arriving packet in a function that is not inlined, so that the processor registers for activation cost
 /// an active controller nothing.
 #[inline(never)]
-fn arrive_apart(
+fn arrive_out_of_line(
     state: &mut PieState,
     queued: u64,
     size: u32,
@@ -138,7 +138,7 @@ fn arrive_apart(
 pub extern "C" fn pie_depart(state: &mut PieState, size: u32, left: u64, moment: u64) -> u32
     ensures answer { result ≡ departure_refusal state.old size left moment }
     ensures steps { Steps state.old (Depart size left 0 moment) (departure_refusal state.old size left moment)
-        (with_rate state.old (departed (capped (held_in state.old)) size left 0 moment)) state.new }
+        (with_rate state.old (departed (capped (controller_state state.old)) size left 0 moment)) state.new }
 {
     laws();
     if depart_counted(state, size, left, moment) {
@@ -152,7 +152,7 @@ pub extern "C" fn pie_depart(state: &mut PieState, size: u32, left: u64, moment:
 #[inline(always)]
 fn depart_counted(state: &mut PieState, size: u32, left: u64, moment: u64) -> bool
     ensures taken { result ≡ true → departure_refusal state.old size left moment ≡ 0 }
-    ensures after { state.new ≡ (if result then with_rate state.old (departed (capped (held_in state.old)) size left 0 moment) else state.old) }
+    ensures after { state.new ≡ (if result then with_rate state.old (departed (capped (controller_state state.old)) size left 0 moment) else state.old) }
 {
     if left <= MAX_QUEUED && moment <= MAX_NANOS && size != 0 {
         if let Some(count) = raw(state).counted(size) {
@@ -168,7 +168,7 @@ fn depart_counted(state: &mut PieState, size: u32, left: u64, moment: u64) -> bo
 #[inline(never)]
 fn depart_otherwise(state: &mut PieState, moment: u64, size: u32, left: u64) -> u32
     ensures { Takes state.old (departure_refusal state.old size left moment)
-        (with_rate state.old (departed (capped (held_in state.old)) size left 0 moment)) result state.new }
+        (with_rate state.old (departed (capped (controller_state state.old)) size left 0 moment)) result state.new }
 {
     if depart_unmeasured(state, size, left, moment) {
         return DONE;
@@ -181,7 +181,7 @@ fn depart_otherwise(state: &mut PieState, moment: u64, size: u32, left: u64) -> 
 #[inline(always)]
 fn depart_unmeasured(state: &mut PieState, size: u32, left: u64, moment: u64) -> bool
     ensures taken { result ≡ true → departure_refusal state.old size left moment ≡ 0 }
-    ensures after { state.new ≡ (if result then with_rate state.old (departed (capped (held_in state.old)) size left 0 moment) else state.old) }
+    ensures after { state.new ≡ (if result then with_rate state.old (departed (capped (controller_state state.old)) size left 0 moment) else state.old) }
 {
     if moment > MAX_NANOS || is_bad_size(size) || !raw(state).is_unmeasured(left) {
         return false;
@@ -195,7 +195,7 @@ fn depart_unmeasured(state: &mut PieState, size: u32, left: u64, moment: u64) ->
 #[tactic(auto, unfolding(crate::specs::Calls::packet_refusal))]
 fn depart(state: &mut PieState, size: u32, left: u64, moment: u64) -> u32
     ensures { Takes state.old (departure_refusal state.old size left moment)
-        (with_rate state.old (departed (capped (held_in state.old)) size left 0 moment)) result state.new }
+        (with_rate state.old (departed (capped (controller_state state.old)) size left 0 moment)) result state.new }
 {
     if moment > MAX_NANOS {
         return BAD_MOMENT;
@@ -209,9 +209,9 @@ fn depart(state: &mut PieState, size: u32, left: u64, moment: u64) -> u32
     if takes_stamps(state) {
         return NOT_WAITED;
     }
-    let mut held = raw(state);
-    held.depart(size, left, 0, moment);
-    state.keep_departed(&held);
+    let mut controller = raw(state);
+    controller.depart(size, left, 0, moment);
+    state.keep_departed(&controller);
     DONE
 }
 
@@ -245,7 +245,7 @@ pub extern "C" fn pie_depart_waited(
 fn depart_stamped(state: &mut PieState, size: u32, left: u64, arrived: u64, moment: u64) -> u32
     requires { takes_stamps state.old ≡ true }
     ensures { Takes state.old (waited_refusal state.old size left arrived moment)
-        (with_departure state.old (departed (capped (held_in state.old)) size left arrived moment)) result state.new }
+        (with_departure state.old (departed (capped (controller_state state.old)) size left arrived moment)) result state.new }
 {
     if moment > MAX_NANOS {
         return BAD_MOMENT;
@@ -259,10 +259,10 @@ fn depart_stamped(state: &mut PieState, size: u32, left: u64, arrived: u64, mome
     if arrived > state.moment {
         return BAD_ARRIVED;
     }
-    let mut held = raw(state);
-    held.depart(size, left, arrived, moment);
-    state.moment = held.moment;
-    state.waited = held.waited;
+    let mut controller = raw(state);
+    controller.depart(size, left, arrived, moment);
+    state.moment = controller.moment;
+    state.waited = controller.waited;
     DONE
 }
 
@@ -305,13 +305,13 @@ pub extern "C" fn pie_update(state: &mut PieState, queued: u64, moment: u64) -> 
         return PieUpdated::refused(BAD_QUEUE);
     }
     laws();
-    let mut held = raw(state);
-    if held.is_too_soon(moment) {
-        return PieUpdated::made(TOO_SOON, held.control.old_delay, &held);
+    let mut controller = raw(state);
+    if controller.is_too_soon(moment) {
+        return PieUpdated::made(TOO_SOON, controller.control.old_delay, &controller);
     }
-    let delay = held.update(queued, moment);
-    state.keep_updated(&held);
-    PieUpdated::made(DONE, delay, &held)
+    let delay = controller.update(queued, moment);
+    state.keep_updated(&controller);
+    PieUpdated::made(DONE, delay, &controller)
 }
 
 /// Returns the due moment of the next update. If the sum is above `2^64 - 1`, which is possible for unsound states
@@ -338,9 +338,9 @@ pub extern "C" fn pie_reset(state: &mut PieState, moment: u64) -> u32
     if moment > MAX_NANOS {
         return BAD_MOMENT;
     }
-    let mut held = raw(state);
-    held.reset(moment);
-    state.keep_registers(&held);
+    let mut controller = raw(state);
+    controller.reset(moment);
+    state.keep_registers(&controller);
     laws();
     DONE
 }
@@ -364,10 +364,10 @@ pub extern "C" fn pie_set_params(state: &mut PieState, params: &RawParams, momen
     if moment > MAX_NANOS {
         return BAD_MOMENT;
     }
-    let mut held = raw(state);
-    held.set_params(*params, moment);
+    let mut controller = raw(state);
+    controller.set_params(*params, moment);
     state.params = *params;
-    state.keep_departed(&held);
+    state.keep_departed(&controller);
     laws();
     DONE
 }

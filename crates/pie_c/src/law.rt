@@ -1,10 +1,10 @@
 //! Laws: the text that a sequence of writing calls produces is one that the laws of the readers apply to.
 ghost use Rattle.std.specs.Prelude.{◌≡◌, ◌++◌, ◌∷◌, [], ℕ, All, List, Option, Some, map, true};
 ghost use Rattle.pie_c.specs.Names.{Opening};
-ghost use Rattle.pie_c.specs.{flat_map, Event, cause_after, held_after, wait_of, deed_of, Setter, explanation, moment_of, with_after, Clock};
+ghost use Rattle.pie_c.specs.{flat_map, Event, cause_after, state_after, wait_of, deed_of, Setter, explanation, moment_of, with_after, Clock};
 ghost use Rattle.pie_c.specs.{rows_text, event_row, written_rows, resumed_rows, PieOpening, PieStats, PieState, WrittenEvent, opening_text, event_of_written};
 ghost use Rattle.pie_c.specs.{written_text, opening_in, opening_of, opening_refusal, CanWait, is_snapshot, resume_of, resume_text, set_by_of};
-ghost use Rattle.pie_c.specs.{snapshot_in, waiting_text, held_in, is_sound, ExplainsCall};
+ghost use Rattle.pie_c.specs.{snapshot_in, waiting_text, controller_state, is_sound, ExplainsCall};
 ghost use Rattle.pie_book.specs.History.{waiting_after};
 
 /// States that the writing calls produce the records of a history (this project's own).
@@ -35,7 +35,7 @@ pub fn written_calls_are_records()
 /// The body is empty: the contract is the law.
 pub fn summed_calls_are_explained()
     ensures { (opening : Opening) (history : List Event) (made : Event) (before after : PieState) (number : ℕ) (set_by : Setter) (day : Option Clock)
-        → held_in before ≡ held_after opening history → held_in after ≡ held_after opening (history ++ made ∷ [])
+        → controller_state before ≡ state_after opening history → controller_state after ≡ state_after opening (history ++ made ∷ [])
         → after.moment ≡ moment_of opening history made
         → ExplainsCall before after day made (cause_after opening history made.command)
         (wait_of (deed_of made) after.moment (waiting_after opening history))

@@ -1,5 +1,5 @@
 ghost use Rattle.std.specs.Prelude.{◌≡◌, max, true};
-ghost use Rattle.pie_c.specs.{held_in, is_sound, state_of, with_arrival, with_rate, with_registers, IsSound, nothing_updated, updated_with};
+ghost use Rattle.pie_c.specs.{controller_state, is_sound, state_of, with_arrival, with_rate, with_registers, IsSound, nothing_updated, updated_with};
 
 use pie_aqm::RawController;
 use pie_params::RawParams;
@@ -59,37 +59,37 @@ impl PieState {
     /// Writes the changes of an arrival except the moment, which the state already has: the accumulated probability,
     /// and all numbers if the arrival activated the controller.
     #[inline(always)]
-    pub(crate) fn keep_arrived(&mut self, held: &RawController)
-        requires { held.now.moment ≡ self.old.moment }
-        ensures { self.new ≡ with_arrival self.old held.now }
+    pub(crate) fn keep_arrived(&mut self, controller: &RawController)
+        requires { controller.now.moment ≡ self.old.moment }
+        ensures { self.new ≡ with_arrival self.old controller.now }
     {
-        if held.active && self.active != 1 {
-            self.keep_registers(held);
+        if controller.active && self.active != 1 {
+            self.keep_registers(controller);
             return;
         }
-        self.accu = held.accu;
+        self.accu = controller.accu;
     }
 
     /// Writes all numbers of the rules, and the activity.
-    pub(crate) fn keep_registers(&mut self, held: &RawController)
-        ensures { self.new ≡ with_registers self.old held.now }
+    pub(crate) fn keep_registers(&mut self, controller: &RawController)
+        ensures { self.new ≡ with_registers self.old controller.now }
     {
-        self.keep_departed(held);
-        self.keep_control(held);
-        self.accu = held.accu;
-        self.active = u64::from(held.active);
-        self.waited = held.waited;
+        self.keep_departed(controller);
+        self.keep_control(controller);
+        self.accu = controller.accu;
+        self.active = u64::from(controller.active);
+        self.waited = controller.waited;
     }
 
     /// Writes the changes of a departure, and those of new parameters except the parameters: the moment and the
     /// estimate of the departure rate.
     #[inline(always)]
-    pub(crate) fn keep_departed(&mut self, held: &RawController)
-        ensures { self.new ≡ with_rate self.old held.now }
+    pub(crate) fn keep_departed(&mut self, controller: &RawController)
+        ensures { self.new ≡ with_rate self.old controller.now }
     {
-        self.moment = held.moment;
-        self.average = held.rate.average;
-        (self.measuring, self.cycle_start, self.cycle_count) = match held.rate.begun {
+        self.moment = controller.moment;
+        self.average = controller.rate.average;
+        (self.measuring, self.cycle_start, self.cycle_count) = match controller.rate.begun {
             Some(cycle) => (1, cycle.start, cycle.count),
             None => (0, 0, 0),
         };
@@ -116,31 +116,31 @@ impl PieState {
 
     /// Writes the changes of an update: the moment, the state of the control law, and the activity.
     #[inline(always)]
-    pub(crate) fn keep_updated(&mut self, held: &RawController)
+    pub(crate) fn keep_updated(&mut self, controller: &RawController)
         requires sound { is_sound self.old ≡ true }
-        requires same { held.now ≡ record (held_in self.old)
-            { moment = held.now.moment; active = held.now.active; control = held.now.control } }
-        ensures { self.new ≡ state_of held.now }
+        requires same { controller.now ≡ record (controller_state self.old)
+            { moment = controller.now.moment; active = controller.now.active; control = controller.now.control } }
+        ensures { self.new ≡ state_of controller.now }
     {
-        self.moment = held.moment;
-        self.keep_control(held);
-        self.active = u64::from(held.active);
+        self.moment = controller.moment;
+        self.keep_control(controller);
+        self.active = u64::from(controller.active);
     }
 
     /// Writes the state of the control law.
     #[inline(always)]
-    fn keep_control(&mut self, held: &RawController)
+    fn keep_control(&mut self, controller: &RawController)
         ensures { self.new ≡ record self.old {
-          prob = held.now.control.prob;
-          old_delay = held.now.control.old_delay;
-          burst = held.now.control.burst;
-          last = held.now.control.last;
+          prob = controller.now.control.prob;
+          old_delay = controller.now.control.old_delay;
+          burst = controller.now.control.burst;
+          last = controller.now.control.last;
         } }
     {
-        self.prob = held.control.prob;
-        self.old_delay = held.control.old_delay;
-        self.burst = held.control.burst;
-        self.last = held.control.last;
+        self.prob = controller.control.prob;
+        self.old_delay = controller.control.old_delay;
+        self.burst = controller.control.burst;
+        self.last = controller.control.last;
     }
 }
 
@@ -175,16 +175,16 @@ impl PieUpdated {
     }
 
     /// Makes the result of an update with this code and this delay, from the controller.
-    pub(crate) fn made(code: u32, delay: u64, held: &RawController) -> PieUpdated
-        requires { IsSound held.now }
-        ensures { result ≡ updated_with code delay held.now }
+    pub(crate) fn made(code: u32, delay: u64, controller: &RawController) -> PieUpdated
+        requires { IsSound controller.now }
+        ensures { result ≡ updated_with code delay controller.now }
     {
         PieUpdated {
             code: u64::from(code),
-            due: held.due(),
+            due: controller.due(),
             delay,
-            prob: held.control.prob,
-            burst: held.control.burst,
+            prob: controller.control.prob,
+            burst: controller.control.burst,
         }
     }
 }

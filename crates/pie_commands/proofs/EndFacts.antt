@@ -31,14 +31,15 @@ if-all known P Q S p q s = grind (arith, nat_tests)
 -- ---- a text that may hold more than is known
 
 -- a text that was known is unchanged
-abbrev pub IsKept : Option (List ℕ) → Option (List ℕ) → Type 0
-IsKept old new = (text : List ℕ) → old ≡ Some text → new ≡ Some text
+abbrev pub IsRetained : Option (List ℕ) → Option (List ℕ) → Type 0
+IsRetained old new = (text : List ℕ) → old ≡ Some text → new ≡ Some text
 
-pub known-kept : (old new : Option (List ℕ)) (P : List ℕ → Type 0) → IsKept old new → IfSome new P → IfSome old P
+pub known-kept : (old new : Option (List ℕ)) (P : List ℕ → Type 0) → IsRetained old new → IfSome new P → IfSome old P
 known-kept old new P keeps so = grind (arith, nat_tests)
 
 pub by-kept : {A : Type 0} (end_for : A → End) (has_result : List Fields → A → Option (List ℕ) → Option (List ℕ) → Type 0) (old new : Option (List ℕ))
-    (end : End) (before now : Option (List ℕ)) → IsKept old new → EndsBy end_for has_result new end before now → EndsBy end_for has_result old end before now
+    (end : End) (before now : Option (List ℕ)) → IsRetained old new → EndsBy end_for has_result new end before now
+    → EndsBy end_for has_result old end before now
 by-kept end_for has_result old new end before now keeps promise = grind (arith, known-kept)
 
 -- ---- a cut of the last events

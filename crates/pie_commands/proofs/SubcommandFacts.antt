@@ -19,7 +19,7 @@ use Rattle.pie_commands.specs.declared.options.subcommand.Subcommand.{Subcommand
 use Rattle.pie_commands.specs.Words.{word_of}
 use Rattle.pie_commands.specs.declared.end.End.TheVariants.{Differs}
 use Rattle.pie_commands.specs.declared.perform.Task.{Task}
-use Rattle.pie_commands.proofs.EndFacts.{IsKept, by-kept, known-kept, ends-keep, keeps-same}
+use Rattle.pie_commands.proofs.EndFacts.{IsRetained, by-kept, known-kept, ends-keep, keeps-same}
 use Rattle.pie_commands.proofs.WordFacts.{name-found, options-in, same-word}
 
 -- a subcommand that could not begin wrote nothing
@@ -38,7 +38,7 @@ EndsTo-unable subcommand options works input fresh files before now same = grind
 -- ---- A promise about files that keep their texts also holds of the old files
 
 given-kept : (input : Option (List ℕ)) (old new : Held) (file : Option Text) → Keeps old new
-    → IsKept (text_given input old file) (text_given input new file)
+    → IsRetained (text_given input old file) (text_given input new file)
 given-kept input old new file keeps = grind (arith, nat_tests)
 
 -- if a file can be opened, it can also be opened with more known files

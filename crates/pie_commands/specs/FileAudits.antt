@@ -61,16 +61,16 @@ is_different (finding.Differs event) = true
 is_different (finding.Clean events) = false
 
 -- true if events are missing at a joint, or are in both files, or something else differs
-abbrev pub is_apart : Option Joint → Bool
-is_apart None = false
-is_apart (Some Follows) = false
-is_apart (Some (Gap last first)) = true
-is_apart (Some (Unlike last)) = true
+abbrev pub is_discontinuous : Option Joint → Bool
+is_discontinuous None = false
+is_discontinuous (Some Follows) = false
+is_discontinuous (Some (Gap last first)) = true
+is_discontinuous (Some (Unlike last)) = true
 
 -- true if an event of the file differs, or the file does not continue at the end of the file before it
 abbrev pub is_broken : Result Joined Unaudited → Bool
 is_broken (Err why) = false
-is_broken (Ok joined) = is_different joined.finding || is_apart joined.joint
+is_broken (Ok joined) = is_different joined.finding || is_discontinuous joined.joint
 
 -- the worst end: `Failed` if a file could not be audited, otherwise `Differs` if an event differs
 abbrev pub worst : Bool → Bool → End

@@ -24,11 +24,11 @@ pub fn records_are_read_back()
 /// It does nothing: its contract is the law.
 pub fn preambles_are_written_again()
     ensures again { (row : Row) (rows : List Row) (begun : Preamble) → resumed_of (row ∷ rows) ≡ Ok begun
-        → take begun.read (row ∷ rows) ≡ row ∷ map queued_row begun.core.waiting }
+        → take begun.records_read (row ∷ rows) ≡ row ∷ map queued_row begun.core.waiting }
     ensures alone { (rows more : List Row) (begun : Preamble) → resumed_of rows ≡ Ok begun
-        → resumed_of (take begun.read rows ++ more) ≡ Ok (record begun { left = more }) }
+        → resumed_of (take begun.records_read rows ++ more) ≡ Ok (record begun { left = more }) }
     ensures text { (rows more : List Row) (begun : Preamble) → resumed_of rows ≡ Ok begun → All HasField more
-        → records_of (rows_text (take begun.read rows ++ more)) ≡ take begun.read rows ++ more }
+        → records_of (rows_text (take begun.records_read rows ++ more)) ≡ take begun.records_read rows ++ more }
     ensures opens { (rows : List Row) (begun : Preamble) → resumed_of rows ≡ Ok begun → HasPreamble rows begun }
 {
     openings_are_checked();

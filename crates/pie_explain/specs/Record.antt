@@ -89,13 +89,13 @@ packet_fields packet = number_field (option_map (λ p. p.tag) packet) ∷ number
 abbrev pub steady_fields : ℕ → ℕ → ℕ → List (List ℕ)
 steady_fields prob accu burst = decimal prob ∷ decimal accu ∷ decimal burst ∷ []
 
-abbrev pub held_fields : Registers → ℕ → List (List ℕ)
-held_fields held delay =
-    decimal held.bytes ∷ decimal held.packets ∷ decimal delay ∷ steady_fields held.prob held.accu held.burst
+abbrev pub register_fields : Registers → ℕ → List (List ℕ)
+register_fields registers delay =
+    decimal registers.bytes ∷ decimal registers.packets ∷ decimal delay ∷ steady_fields registers.prob registers.accu registers.burst
 
 -- the verdict of the event, its cause, and the numbers before it
 abbrev pub condition_fields : Explanation → List (List ℕ)
-condition_fields explanation = verdict_word explanation.event.answer ∷ cause_word explanation.cause ∷ held_fields explanation.before explanation.delay
+condition_fields explanation = verdict_word explanation.event.answer ∷ cause_word explanation.cause ∷ register_fields explanation.before explanation.delay
 
 -- the other fields of the event and of the controller before it
 abbrev pub more_fields : Explanation → List (List ℕ)
@@ -107,7 +107,7 @@ more_fields explanation =
 abbrev pub most_fields : Explained → List (List ℕ)
 most_fields all =
     head_fields all.explanation ++ packet_fields (packet_of all.explanation.event) ++ condition_fields all.explanation ++ more_fields all.explanation
-    ++ held_fields all.after all.delay
+    ++ register_fields all.after all.delay
 
 abbrev pub record_of : Explained → List (List ℕ)
 record_of all = most_fields all ++ active_field all.after.active ∷ []

@@ -78,14 +78,14 @@ impl Selection {
     {
         match (self.which, self.from, self.to) {
             (EventChoice::All, None, None) => true,
-            _ => self.picks_apart(number, moment, auditor, event),
+            _ => self.picks_out_of_line(number, moment, auditor, event),
         }
     }
 
     /// Returns the result of `picks` for any selection.
     #[cold]
     #[inline(never)]
-    fn picks_apart(&self, number: u64, moment: u64, auditor: &Auditor, event: &Event) -> bool
+    fn picks_out_of_line(&self, number: u64, moment: u64, auditor: &Auditor, event: &Event) -> bool
         ensures { result ≡ picks self.now number moment auditor.now.clock event.now }
     {
         let time = time_of(auditor.clock(), moment);

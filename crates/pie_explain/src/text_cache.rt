@@ -1,6 +1,6 @@
 //! The text of a controller's numbers, which often stay as they are from one event to the next: what did not change is not written a second time.
 ghost use Rattle.std.specs.Prelude.{◌≡◌, ◌≤◌, ◌-◌, [], drop, length};
-ghost use Rattle.pie_explain.specs.Record.{held_fields, onto, steady_fields};
+ghost use Rattle.pie_explain.specs.Record.{register_fields, onto, steady_fields};
 ghost use Rattle.std.specs.Prelude.{true};
 
 use pie_book::Registers;
@@ -16,30 +16,30 @@ struct Steady {
     len: usize,
 }
 
-/// Leaves in `text` only the probabilities and the burst allowance of `held`. The text ends with those of `steady`, which stay where they did not
+/// Leaves in `text` only the probabilities and the burst allowance of `numbers`. The text ends with those of `steady`, which stay where they did not
 /// change.
 #[inline(always)]
-fn begin(text: &mut Row, steady: &mut Steady, held: &Registers)
+fn begin(text: &mut Row, steady: &mut Steady, numbers: &Registers)
     requires ends { drop (length text.old - steady.old.len) text.old ≡ onto (steady_fields steady.old.prob steady.old.accu steady.old.burst) [] }
     requires within { steady.old.len ≤ length text.old }
     requires few { steady.old.len ≤ 63 }
     requires long { steady.old.len ≡ length (onto (steady_fields steady.old.prob steady.old.accu steady.old.burst) []) }
-    ensures text { text.new ≡ onto (steady_fields held.now.prob held.now.accu held.now.burst) [] }
+    ensures text { text.new ≡ onto (steady_fields numbers.now.prob numbers.now.accu numbers.now.burst) [] }
     ensures numbers { text.new ≡ onto (steady_fields steady.new.prob steady.new.accu steady.new.burst) [] }
     ensures long { steady.new.len ≡ length text.new }
     ensures few { steady.new.len ≤ 63 }
 {
-    if steady.prob == held.prob && steady.accu == held.accu && steady.burst == held.burst {
+    if steady.prob == numbers.prob && steady.accu == numbers.accu && steady.burst == numbers.burst {
         text.keep_last(steady.len);
         return;
     }
     text.clear();
-    text.number(held.burst);
-    text.number(held.accu);
-    text.number(held.prob);
-    steady.prob = held.prob;
-    steady.accu = held.accu;
-    steady.burst = held.burst;
+    text.number(numbers.burst);
+    text.number(numbers.accu);
+    text.number(numbers.prob);
+    steady.prob = numbers.prob;
+    steady.accu = numbers.accu;
+    steady.burst = numbers.burst;
     steady.len = text.len();
 }
 
@@ -60,13 +60,13 @@ impl Model for Held {
 
     ghost Value = { List ℕ };
 
-    ghost view = { λ held. held.text };
+    ghost view = { λ cache. cache.text };
 
-    ghost invariant = { λ held.
-        (held.text ≡ onto (decimal held.bytes ∷ decimal held.packets ∷ decimal held.delay ∷ [])
-        (onto (steady_fields held.steady.prob held.steady.accu held.steady.burst) []))
-        × (held.steady.len ≡ length (onto (steady_fields held.steady.prob held.steady.accu held.steady.burst) []))
-        × (held.steady.len ≤ 63) × (length held.text ≤ 126) };
+    ghost invariant = { λ cache.
+        (cache.text ≡ onto (decimal cache.bytes ∷ decimal cache.packets ∷ decimal cache.delay ∷ [])
+        (onto (steady_fields cache.steady.prob cache.steady.accu cache.steady.burst) []))
+        × (cache.steady.len ≡ length (onto (steady_fields cache.steady.prob cache.steady.accu cache.steady.burst) []))
+        × (cache.steady.len ≤ 63) × (length cache.text ≤ 126) };
 }
 
 impl Held {
@@ -96,32 +96,32 @@ impl Held {
 
     /// Returns true if the numbers are those that were put last.
     #[inline(always)]
-    fn has(&self, held: &Registers, delay: u64) -> bool
-        ensures { result ≡ true → self.now ≡ onto (held_fields held.now delay) [] }
+    fn has(&self, registers: &Registers, delay: u64) -> bool
+        ensures { result ≡ true → self.now ≡ onto (register_fields registers.now delay) [] }
     {
         let steady = &self.steady;
-        self.bytes == held.bytes
-            && self.packets == held.packets
+        self.bytes == registers.bytes
+            && self.packets == registers.packets
             && self.delay == delay
-            && steady.prob == held.prob
-            && steady.accu == held.accu
-            && steady.burst == held.burst
+            && steady.prob == registers.prob
+            && steady.accu == registers.accu
+            && steady.burst == registers.burst
     }
 
     /// Takes these numbers in place of the earlier ones.
     #[inline(always)]
-    pub(crate) fn take(&mut self, held: &Registers, delay: u64)
-        ensures { self.new ≡ onto (held_fields held.now delay) [] }
+    pub(crate) fn take(&mut self, registers: &Registers, delay: u64)
+        ensures { self.new ≡ onto (register_fields registers.now delay) [] }
     {
-        if self.has(held, delay) {
+        if self.has(registers, delay) {
             return;
         }
-        begin(&mut self.text, &mut self.steady, held);
+        begin(&mut self.text, &mut self.steady, registers);
         self.text.number(delay);
-        self.text.number(held.packets);
-        self.text.number(held.bytes);
-        self.bytes = held.bytes;
-        self.packets = held.packets;
+        self.text.number(registers.packets);
+        self.text.number(registers.bytes);
+        self.bytes = registers.bytes;
+        self.packets = registers.packets;
         self.delay = delay;
     }
 

@@ -1,12 +1,12 @@
 -- The decrease of the burst allowance from update to update, the distance of updates, and the moments before which they are refused.
 use Rattle.pie_guarantees.proofs.Names.{◌≡◌, ◌≤◌, ◌+◌, ◌*◌, ℕ, List, [], ◌∷◌, ◌++◌, true, false, sym, arith, subst, max, All, append_assoc}
 use Rattle.pie_guarantees.proofs.Names.{deed, is_update, after_call, ControllerState, Waiting, Command, Update, Answer, Event, Opening, call_of, is_too_soon}
-use Rattle.pie_guarantees.proofs.Names.{held_after, params_after, parts_after, effective_moment, waiting_after, AllAllow, Allows, IsAllowed}
+use Rattle.pie_guarantees.proofs.Names.{state_after, params_after, parts_after, effective_moment, waiting_after, AllAllow, Allows, IsAllowed}
 use Rattle.pie_guarantees.proofs.Names.{KeepsParams, SetsAllow, nat_tests, burst_left, updates_in, IsLawful, IsEarly, ◌<◌, bytes_of}
 use Rattle.pie_guarantees.proofs.Names.{Some, ◌∙◌, AtEachEvent, deed_of, caller_moment, refusal_with, refusal_by_rule, in-range, length}
 use Rattle.pie_guarantees.proofs.Names.{effective_moment-push, refl, Reset}
 use Rattle.pie_aqm.specs.Steps as Steps
-use Rattle.pie_guarantees.proofs.LawfulFacts.{IsStep, all_along, along, along_updates, counted_with, first-held, sound_at, step_at}
+use Rattle.pie_guarantees.proofs.LawfulFacts.{IsStep, all_along, along, along_updates, counted_with, first-state, sound_at, step_at}
 use Rattle.pie_guarantees.proofs.EarlyFacts.{early_at}
 use Rattle.pie_event.specs.declared.refusal.Refusal.TheVariants.{TooSoon}
 
@@ -35,16 +35,16 @@ module _ (burst least most : ℕ) (opening : Opening) (before between : List Eve
   -- n updates after these events
   abbrev HoldsAfter : ℕ → List Event → Type 0
   HoldsAfter n history =
-      Holds burst least most (effective_moment opening before) (held_after opening before).control.last n (held_after opening history)
+      Holds burst least most (effective_moment opening before) (state_after opening before).control.last n (state_after opening history)
 
   holds-next : (n : ℕ) (earlier : List Event) (event : Event) → IsStep opening earlier event → SetsAllow burst least most event.command
       → HoldsAfter n earlier → HoldsAfter (counted_with event.command n) (earlier ++ event ∷ [])
   holds-next n earlier event step set old =
-      let h = held_after opening earlier in
+      let h = state_after opening earlier in
       let due : is_too_soon h.moment (Steps.due h) event.command ≡ false =
       subst (λ (m : ℕ). is_too_soon m (Steps.due h) event.command ≡ false) (sym step.same_moment) step.free.in_time in
-      subst (Holds burst least most (effective_moment opening before) (held_after opening before).control.last (counted_with event.command n))
-      (sym step.held) (call-holds burst least most (effective_moment opening before) (held_after opening before).control.last n h
+      subst (Holds burst least most (effective_moment opening before) (state_after opening before).control.last (counted_with event.command n))
+      (sym step.state) (call-holds burst least most (effective_moment opening before) (state_after opening before).control.last n h
       (waiting_after opening earlier) opening.limits.packets event.command old set due)
 
   holds-between : (later : List Event) → IsLawful opening (before ++ between ++ later) → burst ≤ burst_left opening before
@@ -68,7 +68,7 @@ module _ (burst least most : ℕ) (opening : Opening) (before between later : Li
       let s = holds-between burst least most opening before between later lawful left allow in
       omega (arith, s.apart, s.sound, s.later, (sound_at opening (before ++ between) later lawful).1)
 
-  updates-since : (held_after opening before).control.last + updates_in between * least ≤ effective_moment opening (before ++ between)
+  updates-since : (state_after opening before).control.last + updates_in between * least ≤ effective_moment opening (before ++ between)
   updates-since =
       let s = holds-between burst least most opening before between later lawful left allow in
       omega (arith, s.since, s.sound, (sound_at opening (before ++ between) later lawful).1)
@@ -127,10 +127,10 @@ within-next h waiting packets command old keep = grind (arith, nat_tests)
 pub allowed_where_kept : (opening : Opening) (before : List Event) (later : List Event) → IsLawful opening (before ++ later)
     → All (λ event. KeepsParams event.command) before → IsAllowed opening before
 allowed_where_kept opening before later lawful keep =
-    along (λ earlier left. Within (held_after opening earlier)) (λ earlier event. KeepsParams event.command) opening
-    (λ earlier event left step kept old. subst Within (sym step.held)
-    (within-next (held_after opening earlier) (waiting_after opening earlier) opening.limits.packets event.command old kept)) [] before later
-    lawful (all_along (λ (event : Event). KeepsParams event.command) [] before keep) (subst Within (first-held opening) (omega arith))
+    along (λ earlier left. Within (state_after opening earlier)) (λ earlier event. KeepsParams event.command) opening
+    (λ earlier event left step kept old. subst Within (sym step.state)
+    (within-next (state_after opening earlier) (waiting_after opening earlier) opening.limits.packets event.command old kept)) [] before later
+    lawful (all_along (λ (event : Event). KeepsParams event.command) [] before keep) (subst Within (first-state opening) (omega arith))
 
 -- ---- moments with a whole allowance
 
@@ -187,9 +187,9 @@ pub refused_after : AtEachEvent (λ opening before event. is_update (deed_of eve
 unfolding AtEachEvent
 refused_after opening before event later lawful is moment within early =
     let step = step_at opening before event later lawful in
-    let h = held_after opening before in
-    let g = held_after opening (before ++ event ∷ []) in
-    let left = subst (λ (k : ControllerState). (k.control.last ≡ k.moment) × (k.params ≡ h.params)) (sym step.held)
+    let h = state_after opening before in
+    let g = state_after opening (before ++ event ∷ []) in
+    let left = subst (λ (k : ControllerState). (k.control.last ≡ k.moment) × (k.params ≡ h.params)) (sym step.state)
     (last-is h (waiting_after opening before) opening.limits.packets event.command event.answer is) in
     let due : g.control.last + g.params.t_update ≡ effective_moment opening (before ++ event ∷ []) + h.params.t_update =
     λ i. (left.0 ∙ step.next_moment) i + (left.1 i).t_update in

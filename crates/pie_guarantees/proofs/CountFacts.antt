@@ -3,7 +3,7 @@ use Rattle.pie_guarantees.proofs.Names.{◌≡◌, ◌≤◌, ◌+◌, ◌*◌, 
 use Rattle.pie_guarantees.proofs.Names.{AtEachHistory, BetweenAny, if◌then◌else◌, inl, length, arith, subst, All, Some, Option, sum_by, append-nil}
 use Rattle.pie_guarantees.proofs.Names.{append_assoc, length-map, map-append, filter_map-append, sum_by_push, sum_by-cons, bytes_of, Deed, deed}
 use Rattle.pie_guarantees.proofs.Names.{deed_of, departure, answer_of, after_call, ControllerState, filter_map-push, with_one, Packet, Waiting, Verdict, Command}
-use Rattle.pie_guarantees.proofs.Names.{Arrive, Depart, Answer, Event, Opening, arrival_of, call_of, answer_by, held_after, params_after, bytes_after}
+use Rattle.pie_guarantees.proofs.Names.{Arrive, Depart, Answer, Event, Opening, arrival_of, call_of, answer_by, state_after, params_after, bytes_after}
 use Rattle.pie_guarantees.proofs.Names.{effective_moment, waiting_after, count_of, is_dropped_bytes, is_dropped_early, is_dropped_packets, is_marked}
 use Rattle.pie_guarantees.proofs.Names.{is_queued, waiting_next, first_shows, IsLawful, nat_tests, take, take-append_seam}
 use Rattle.std.proofs.lemmas.List.{append_cancel_left, length_push}
@@ -12,7 +12,7 @@ use Rattle.pie_guarantees.specs.{Carries, SetsLimit, bytes_departed, is_packet_a
 use Rattle.pie_guarantees.specs.{packets_queued, packets_waiting, time_of}
 use Rattle.pie_event.specs.Verdict as Verdicts
 use Rattle.pie_aqm.specs.Steps as Steps
-use Rattle.pie_guarantees.proofs.LawfulFacts.{IsStep, all_along, along, beginning, first-held, step_at, throughout}
+use Rattle.pie_guarantees.proofs.LawfulFacts.{IsStep, all_along, along, beginning, first-state, step_at, throughout}
 
 -- ---- counts
 
@@ -26,7 +26,7 @@ count-push test before event = sum_by_push (λ (e : Event). cond (test (deed_of 
 
 -- the effect of the event, by the state before it
 deed-is : (opening : Opening) (before : List Event) (event : Event) → IsStep opening before event
-    → deed_of event ≡ deed event.command (answer_by (held_after opening before) (waiting_after opening before) opening.limits.packets event.command)
+    → deed_of event ≡ deed event.command (answer_by (state_after opening before) (waiting_after opening before) opening.limits.packets event.command)
 deed-is opening before event step = ap (λ (a : Answer). deed event.command a) step.here.answered
 
 -- the number of ways in which a deed counts
@@ -108,11 +108,11 @@ bounded h waiting packets _ now =
     record { ring = grind (arith, nat_tests); or = grind (arith, nat_tests); queue = λ packet is. grind (arith, nat_tests) }
 
 bounded-at : (opening : Opening) (before : List Event) (event : Event) → IsStep opening before event
-    → Bounded (held_after opening before).params.limit_bytes opening.limits.packets (waiting_after opening before)
+    → Bounded (state_after opening before).params.limit_bytes opening.limits.packets (waiting_after opening before)
     (waiting_after opening (before ++ event ∷ [])) (packet_queued (deed_of event))
 bounded-at opening before event step =
     rw (step.waiting, deed-is opening before event step)
-    (bounded (held_after opening before) (waiting_after opening before) opening.limits.packets event.command
+    (bounded (state_after opening before) (waiting_after opening before) opening.limits.packets event.command
     (effective_moment opening (before ++ event ∷ [])))
 
 pub in_the_ring : AtEachHistory (λ opening history. length (waiting_after opening history) ≤ opening.limits.packets)
@@ -139,8 +139,8 @@ record Below (most : ℕ) (opening : Opening) (history : List Event) : Type 0 wh
 below-next : (most : ℕ) (opening : Opening) (before : List Event) (event : Event) → IsStep opening before event → SetsLimit most event.command
     → Below most opening before → Below most opening (before ++ event ∷ [])
 below-next most opening before event step set old = record {
-  limit = subst (λ (h : ControllerState). h.params.limit_bytes ≤ most) (sym step.held)
-      (limit-next most (held_after opening before) (waiting_after opening before) opening.limits.packets event.command old.limit set);
+  limit = subst (λ (h : ControllerState). h.params.limit_bytes ≤ most) (sym step.state)
+      (limit-next most (state_after opening before) (waiting_after opening before) opening.limits.packets event.command old.limit set);
   bytes = let or = (bounded-at opening before event step).or in grind arith;
 }
 
@@ -151,7 +151,7 @@ bytes_below most opening history lawful low set =
     (along (λ before left. Below most opening before) (λ before event. SetsLimit most event.command) opening
     (λ before event left step set old. below-next most opening before event step set old) [] history []
     (rw (append-nil history) lawful) (all_along (λ (event : Event). SetsLimit most event.command) [] history set) (record {
-      limit = subst (λ (g : ControllerState). g.params.limit_bytes ≤ most) (first-held opening) low;
+      limit = subst (λ (g : ControllerState). g.params.limit_bytes ≤ most) (first-state opening) low;
       bytes = rw none-waits (omega arith);
     })).bytes
 

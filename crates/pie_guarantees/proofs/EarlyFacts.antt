@@ -2,7 +2,7 @@
 use Rattle.pie_guarantees.proofs.Names.{◌≡◌, ◌≤◌, ◌<◌, ◌+◌, ◌*◌, ◌⊎◌, ℕ, List, ◌∷◌, ◌++◌, true, false, refl, sym, ap, ◌∙◌, arith, nat_tests}
 use Rattle.pie_guarantees.proofs.Names.{is_capable, bytes_of, counted, is_considered, is_picked, picked_choice, ControllerState, chosen, offered, verdict}
 use Rattle.pie_guarantees.proofs.Names.{answer_of, Packet, Waiting, ArrivingPacket, Arrive, Answer, DroppedEarly, Marked, Command}
-use Rattle.pie_guarantees.proofs.Names.{Event, Opening, arrival_of, answer_by, held_after, waiting_after, IsLawful, IsArrivalOf, is_early, RawParams}
+use Rattle.pie_guarantees.proofs.Names.{Event, Opening, arrival_of, answer_by, state_after, waiting_after, IsLawful, IsArrivalOf, is_early, RawParams}
 use Rattle.pie_guarantees.proofs.Names.{AtEachEvent, MarksOnlyCapable, OnlyMarks, SparesCapable, active_after, parts_after, bytes_after, params_after, effective_moment, deed, waiting_next, sum_by_push, Verdict, Empty, []}
 use Rattle.pie_queue.specs.declared.ecn.Ecn.{Ecn}
 use Rattle.pie_guarantees.proofs.LawfulFacts.{IsStep, step_at}
@@ -45,18 +45,18 @@ early-arrival h waiting packets _ e = absurd (grind (arith, nat_tests))
 -- ---- an event of a lawful history
 
 pub early_arrival : (opening : Opening) (before : List Event) (event : Event) → IsStep opening before event → is_early event.answer ≡ true
-    → IsEarlyArrival (held_after opening before) (waiting_after opening before) opening.limits.packets event.command
+    → IsEarlyArrival (state_after opening before) (waiting_after opening before) opening.limits.packets event.command
 early_arrival opening before event step e = grind (arith, nat_tests, early-arrival)
 
 pub early_at : (opening : Opening) (before : List Event) (event : Event) → IsStep opening before event → is_early event.answer ≡ true
-    → IsPicked (held_after opening before) (bytes_of (waiting_after opening before))
+    → IsPicked (state_after opening before) (bytes_of (waiting_after opening before))
 early_at opening before event step e = (early_arrival opening before event step e).chosen.picked
 
 unless : (answer : Answer) → (is_early answer ≡ true → ⊥) → is_early answer ≡ false
 unless answer never = grind (arith, nat_tests)
 
 picked : (opening : Opening) (before : List Event) (event : Event) (later : List Event) → IsLawful opening (before ++ event ∷ later)
-    → is_early event.answer ≡ true → IsPicked (held_after opening before) (bytes_after opening before)
+    → is_early event.answer ≡ true → IsPicked (state_after opening before) (bytes_after opening before)
 picked opening before event later lawful = early_at opening before event (step_at opening before event later lawful)
 
 pub in_a_burst : AtEachEvent (λ opening before event. 0 < (parts_after opening before).burst → is_early event.answer ≡ false)
@@ -102,7 +102,7 @@ empty-queue h waiting packets command e = grind (arith, nat_tests, finds-none)
 pub empty_if_none : AtEachEvent (λ opening before event. event.answer ≡ Empty → waiting_after opening before ≡ [])
 unfolding AtEachEvent
 empty_if_none opening before event later lawful e =
-    empty-queue (held_after opening before) (waiting_after opening before) opening.limits.packets event.command
+    empty-queue (state_after opening before) (waiting_after opening before) opening.limits.packets event.command
     (sym (step_at opening before event later lawful).here.answered ∙ e)
 
 -- ---- marks and drops of a packet
@@ -117,9 +117,9 @@ fate-marked params prob ecn other marked = grind (arith, nat_tests)
 
 arrival-chosen : (opening : Opening) (before : List Event) (event : Event) (packet : Packet) → IsStep opening before event
     → IsArrivalOf event packet → is_early event.answer ≡ true
-    → event.answer ≡ answer_of (chosen (picked_choice (held_after opening before).params (held_after opening before).control.prob packet.ecn))
+    → event.answer ≡ answer_of (chosen (picked_choice (state_after opening before).params (state_after opening before).control.prob packet.ecn))
 arrival-chosen opening before event packet step arrival e =
-    let h = held_after opening before in
+    let h = state_after opening before in
     let w = waiting_after opening before in
     let a : ArrivingPacket = arrival_of w opening.limits.packets packet arrival.1 in
     let is : event.answer ≡ answer_of (verdict h a) =
@@ -129,13 +129,13 @@ arrival-chosen opening before event packet step arrival e =
 pub only_capable_marked : AtEachEvent (λ opening before event. MarksOnlyCapable event)
 unfolding AtEachEvent
 only_capable_marked opening before event later lawful packet arrival other marked =
-    let h = held_after opening before in
+    let h = state_after opening before in
     let is = arrival-chosen opening before event packet (step_at opening before event later lawful) arrival (ap (λ (x : Answer). is_early x) marked) in
     fate-marked h.params h.control.prob packet.ecn other (sym is ∙ marked)
 
 pub capable_spared : AtEachEvent (λ opening before event. OnlyMarks opening before → SparesCapable event)
 unfolding AtEachEvent
 capable_spared opening before event later lawful below packet arrival capable dropped =
-    let h = held_after opening before in
+    let h = state_after opening before in
     let is = arrival-chosen opening before event packet (step_at opening before event later lawful) arrival (ap (λ (x : Answer). is_early x) dropped) in
     fate-early h.params h.control.prob packet.ecn below capable (sym is ∙ dropped)

@@ -2,8 +2,8 @@
 use Rattle.pie_guarantees.proofs.Names.{◌≡◌, ◌≤◌, ◌<◌, ◌+◌, ℕ, List, [], ◌∷◌, ◌++◌, false, sym, subst, ap, ◌∙◌, arith, ⊤, All, None, length, ◌^◌}
 use Rattle.pie_guarantees.proofs.Names.{append-nil, append_assoc, All-head, All-tail, first_bad, deed_of, caller_moment, IsTaken, after_call, ControllerState}
 use Rattle.pie_guarantees.proofs.Names.{IsSound, places, place_of, Waiting, Command, Event, Opening, call_of, IsLegalAt, has_bad_size, is_too_soon}
-use Rattle.pie_guarantees.proofs.Names.{refusal_by_rule, due_after, held_after, effective_moment, waiting_after, after_command, call_in, waiting_next}
-use Rattle.pie_guarantees.proofs.Names.{at_place, departed-of-legal, held-is, first_shows, first_core, next-core, next-legal, AllAlong, IsLawful}
+use Rattle.pie_guarantees.proofs.Names.{refusal_by_rule, due_after, state_after, effective_moment, waiting_after, after_command, call_in, waiting_next}
+use Rattle.pie_guarantees.proofs.Names.{at_place, departed-of-legal, state-is, first_shows, first_core, next-core, next-legal, AllAlong, IsLawful}
 use Rattle.pie_guarantees.proofs.Names.{SetsInRange, nat_tests, map, drop, All-nil, Place, decision, Answer, answer_by, Sound_call}
 use Rattle.pie_guarantees.proofs.Names.{Sound_opened, cond, is_update, sum_by-cons, updates_in, drop-append_seam, take-append_seam, Update, deed}
 use Rattle.pie_guarantees.proofs.Names.{effective_moment-push, waiting_after-push}
@@ -59,20 +59,20 @@ steady-next opening before event old here fit =
 pub record IsStep (opening : Opening) (before : List Event) (event : Event) : Type 0 where
   pub here : IsLegalAt opening (place_of before event)
   pub free : IsFree opening before event.command
-  pub sound : IsSound (held_after opening before)
-  pub held : held_after opening (before ++ event ∷ [])
-      ≡ after_call (held_after opening before) (call_of (waiting_after opening before) opening.limits.packets event.command)
+  pub sound : IsSound (state_after opening before)
+  pub state : state_after opening (before ++ event ∷ [])
+      ≡ after_call (state_after opening before) (call_of (waiting_after opening before) opening.limits.packets event.command)
   pub waiting : waiting_after opening (before ++ event ∷ [])
       ≡ waiting_next (waiting_after opening before) (effective_moment opening (before ++ event ∷ [])) (deed_of event)
-  pub same_moment : (held_after opening before).moment ≡ effective_moment opening before
-  pub next_moment : (held_after opening (before ++ event ∷ [])).moment ≡ effective_moment opening (before ++ event ∷ [])
+  pub same_moment : (state_after opening before).moment ≡ effective_moment opening before
+  pub next_moment : (state_after opening (before ++ event ∷ [])).moment ≡ effective_moment opening (before ++ event ∷ [])
 
 -- a property of the answer to a command, and of the state after it, holds at the step
 pub at-step : (opening : Opening) (before : List Event) (event : Event) → IsStep opening before event → (P : Answer → ControllerState → Type 0)
-    → P (answer_by (held_after opening before) (waiting_after opening before) opening.limits.packets event.command)
-    (after_call (held_after opening before) (call_of (waiting_after opening before) opening.limits.packets event.command))
-    → P event.answer (held_after opening (before ++ event ∷ []))
-at-step opening before event step P so = rw (step.held, step.here.answered) so
+    → P (answer_by (state_after opening before) (waiting_after opening before) opening.limits.packets event.command)
+    (after_call (state_after opening before) (call_of (waiting_after opening before) opening.limits.packets event.command))
+    → P event.answer (state_after opening (before ++ event ∷ []))
+at-step opening before event step P so = rw (step.state, step.here.answered) so
 
 step-of : (opening : Opening) (before : List Event) (event : Event) → IsSteadyAt opening before → IsLegalAt opening (place_of before event)
     → SetsInRange event.command → IsStep opening before event
@@ -80,19 +80,19 @@ unfolding steady-next
 step-of opening before event old here fit =
     let next = steady-next opening before event old here fit in
     let core = old.core in
-    let is : core.controller ≡ held_after opening before = held-is opening core before old.shows in
+    let is : core.controller ≡ state_after opening before = state-is opening core before old.shows in
     record {
       here = here;
       free = is_free opening before event.command here.taken;
       sound = subst (λ (h : ControllerState). IsSound h) is old.sound;
-      held = sym (held-is opening next.core (before ++ event ∷ []) next.shows)
+      state = sym (state-is opening next.core (before ++ event ∷ []) next.shows)
           ∙ ap (λ (h : ControllerState). after_call h (call_of core.waiting core.packets event.command)) is
-          ∙ ap (λ (w : List Waiting). after_call (held_after opening before) (call_of w core.packets event.command)) old.shows.waiting
-          ∙ ap (λ (n : ℕ). after_call (held_after opening before) (call_of (waiting_after opening before) n event.command)) old.shows.packets;
+          ∙ ap (λ (w : List Waiting). after_call (state_after opening before) (call_of w core.packets event.command)) old.shows.waiting
+          ∙ ap (λ (n : ℕ). after_call (state_after opening before) (call_of (waiting_after opening before) n event.command)) old.shows.packets;
       waiting = waiting_after-push opening before event (departed-of-legal opening before old.shows.legal)
           ∙ ap (λ (m : ℕ). waiting_next (waiting_after opening before) m (deed_of event)) (sym (effective_moment-push opening before event));
       same_moment = sym (ap (λ (h : ControllerState). h.moment) is) ∙ old.shows.moment;
-      next_moment = sym (ap (λ (h : ControllerState). h.moment) (held-is opening next.core (before ++ event ∷ []) next.shows)) ∙ next.shows.moment;
+      next_moment = sym (ap (λ (h : ControllerState). h.moment) (state-is opening next.core (before ++ event ∷ []) next.shows)) ∙ next.shows.moment;
     }
 
 -- ---- a whole history
@@ -154,8 +154,8 @@ throughout P opening first stays history lawful =
     (rw (append-nil history) lawful) (all_along (λ event. ⊤) [] history (λ k d within. tt)) first
 
 -- the controller's numbers at the opening
-pub first-held : (opening : Opening) → (first_core opening).controller ≡ held_after opening []
-first-held opening = held-is opening (first_core opening) [] (first_shows opening)
+pub first-state : (opening : Opening) → (first_core opening).controller ≡ state_after opening []
+first-state opening = state-is opening (first_core opening) [] (first_shows opening)
 
 -- the updates of events, the first of which is known
 pub counted-cons : (event : Event) (later : List Event) → updates_in (event ∷ later) ≡ cond (is_update (deed_of event)) 1 0 + updates_in later
@@ -195,10 +195,10 @@ along_updates P Q opening next before between later lawful all first =
 
 -- the controller's numbers there are sound, and their moment is the effective one
 pub sound_at : (opening : Opening) (before later : List Event) → IsLawful opening (before ++ later)
-    → IsSound (held_after opening before) × ((held_after opening before).moment ≡ effective_moment opening before)
+    → IsSound (state_after opening before) × ((state_after opening before).moment ≡ effective_moment opening before)
 sound_at opening before later lawful =
     let it = steady_at opening before later lawful in
-    let is : it.core.controller ≡ held_after opening before = held-is opening it.core before it.shows in
+    let is : it.core.controller ≡ state_after opening before = state-is opening it.core before it.shows in
     (subst (λ (h : ControllerState). IsSound h) is it.sound, sym (ap (λ (h : ControllerState). h.moment) is) ∙ it.shows.moment)
 
 -- the beginning of a lawful history is lawful

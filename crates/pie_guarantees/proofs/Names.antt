@@ -14,11 +14,11 @@ pub use Rattle.pie_aqm.proofs.Sounds.{in-range, threshold-holds, Sound_call, Sou
 pub use Rattle.pie_aqm.proofs.Places.{filter_map-push, place_of, with_one}
 pub use Rattle.pie_aqm.specs.Calls.{IsTaken, after_call}
 pub use Rattle.pie_aqm.specs.ControllerState.{ControllerState, IsSound}
-unfoldable pub use Rattle.pie_aqm.specs.History.{held_of}
+unfoldable pub use Rattle.pie_aqm.specs.History.{state_of}
 pub use Rattle.pie_aqm.specs.Places.{Place, places}
 pub use Rattle.pie_aqm.specs.Steps.{chosen, offered}
 unfoldable pub use Rattle.pie_aqm.specs.Steps.{verdict}
-pub use Rattle.pie_book.proofs.CoreFacts.{at_place, departed-of-legal, first_shows, held-is, next-core, next-legal, effective_moment-push}
+pub use Rattle.pie_book.proofs.CoreFacts.{at_place, departed-of-legal, first_shows, state-is, next-core, next-legal, effective_moment-push}
 pub use Rattle.pie_book.proofs.CoreFacts.{waiting_after-push}
 unfoldable pub use Rattle.pie_book.proofs.Examples.{worked}
 pub use Rattle.pie_book.specs.Decision.{arrival_of, call_of, IsLegal, IsLegalAt, answer_by, decision, has_bad_size, is_too_soon, refusal_by_rule}
@@ -32,7 +32,7 @@ pub use Rattle.pie_guarantees.specs.{IsArrivalOf, IsEarly, MarksOnlyCapable, Onl
 pub use Rattle.pie_guarantees.specs.{burst_continues, burst_opening, first_drop, lowered, lowered_opening, IsBetween, samples_after, flows_in_turn}
 pub use Rattle.pie_guarantees.specs.{flows_opening, half_is_reached, last_update}
 pub use Rattle.pie_book.specs.Estimates.{average_after, due_after}
-unfoldable pub use Rattle.pie_book.specs.Estimates.{held_after}
+unfoldable pub use Rattle.pie_book.specs.Estimates.{state_after}
 pub use Rattle.pie_book.specs.Statistics.{is_dropped_early, is_marked, is_queued}
 pub use Rattle.pie_book.specs.Core.{after_command, call_in, first_core, waiting_next}
 pub use Rattle.pie_book.specs.Types.{ArrivingPacket, Empty, Reset, Verdict}

@@ -2,8 +2,9 @@
 use Rattle.pie_guarantees.proofs.Names.{◌≡◌, ◌≤◌, ◌<◌, ◌+◌, ◌*◌, ◌-◌, ◌^◌, ◌⊎◌, ℕ, zero, suc, List, [], ◌∷◌, ◌++◌, Bool, true, false, refl}
 use Rattle.pie_guarantees.proofs.Names.{BetweenAny, nat_tests, sym, ap, ◌∙◌, cond, if◌then◌else◌, arith, subst, mul-le, le_of_mul-le-mul_right}
 use Rattle.pie_guarantees.proofs.Names.{pow-suc, usual, default_profile, Elements, bytes_of, decayed, decays, next, raw_step, tuned_step}
-use Rattle.pie_guarantees.proofs.Names.{tuning_divisor, deed, deed_of, is_update, after_call, ControllerState, held_of, Waiting, Command, Answer, Event, Opening}
-use Rattle.pie_guarantees.proofs.Names.{call_of, delay_after, held_after, params_after, waiting_after, is_reset, KeepsParams, updates_in, AllAlong}
+use Rattle.pie_guarantees.proofs.Names.{tuning_divisor, deed, deed_of, is_update, after_call, ControllerState, state_of}
+use Rattle.pie_guarantees.proofs.Names.{Waiting, Command, Answer, Event, Opening}
+use Rattle.pie_guarantees.proofs.Names.{call_of, delay_after, state_after, params_after, waiting_after, is_reset, KeepsParams, updates_in, AllAlong}
 use Rattle.pie_guarantees.proofs.Names.{IsActiveUpdate, IsSteady, after_updates, old_delay_after, probability_after, RawParams, AtEachHistory, ◌/◌}
 use Rattle.pie_guarantees.proofs.Names.{length, All, fold, All-head, All-tail, le-div, div-le_of_le-mul, average_of, averaged, IsBetween, min}
 use Rattle.pie_guarantees.proofs.Names.{delay_of, append-nil, bytes_after, average_after, samples_after, threshold-holds, average}
@@ -13,8 +14,8 @@ use Rattle.pie_guarantees.proofs.NextFacts.{decays_low, next_decays, after_both,
 use Rattle.pie_params.specs.declared.elements.Delay.{Delay}
 use Rattle.pie_params.specs.declared.elements.Delay.TheVariants.{Rate}
 
-pub elements-is : (opening : Opening) (history : List Event) → (held_after opening history).elements ≡ opening.choices.elements
-unfolding held_after held_of
+pub elements-is : (opening : Opening) (history : List Event) → (state_after opening history).elements ≡ opening.choices.elements
+unfolding state_after state_of
 elements-is opening history = refl
 
 -- ---- an update of an active controller
@@ -76,11 +77,11 @@ steadily delay opening before between later lawful steady =
     stays : (earlier : List Event) (event : Event) (left : List Event) → IsStep opening earlier event → IsSteady delay opening earlier event
         → Comes earlier (event ∷ left) → Comes (earlier ++ event ∷ []) left
     stays earlier event left step here so =
-        let h = held_after opening earlier in
-        let moved : Next delay opening.choices.elements h (held_after opening (earlier ++ event ∷ [])) (is_update (deed_of event)) =
-        subst (λ (e : Elements). Next delay e h (held_after opening (earlier ++ event ∷ [])) (is_update (deed_of event)))
+        let h = state_after opening earlier in
+        let moved : Next delay opening.choices.elements h (state_after opening (earlier ++ event ∷ [])) (is_update (deed_of event)) =
+        subst (λ (e : Elements). Next delay e h (state_after opening (earlier ++ event ∷ [])) (is_update (deed_of event)))
         (elements-is opening earlier)
-        (subst (λ (g : ControllerState). Next delay h.elements h g (is_update (deed_of event))) (sym step.held)
+        (subst (λ (g : ControllerState). Next delay h.elements h g (is_update (deed_of event))) (sym step.state)
         (same-next delay h (waiting_after opening earlier) opening.limits.packets event.command event.answer here.keeps here.unreset here.active
         here.delay_now here.delay_old)) in
         rw (
@@ -197,14 +198,14 @@ delay-between bytes average threshold least most some between = grind (arith, na
 
 pub average_between : (least most : ℕ) → AtEachHistory (λ opening history. 0 < length (samples_after opening history)
     → All (IsBetween least most) (samples_after opening history) → IsBetween least most (average_after opening history))
-unfolding AtEachHistory held_after held_of average
+unfolding AtEachHistory state_after state_of average
 average_between least most opening history lawful some all =
     let sound = (sound_at opening history [] (rw (append-nil history) lawful)).0 in
     between-all (params_after opening history).dq_threshold least most (samples_after opening history)
     (threshold-holds (params_after opening history) sound.params).1 some all
 
 pub no_average : AtEachHistory (λ opening history. length (samples_after opening history) ≡ 0 → average_after opening history ≡ 0)
-unfolding AtEachHistory held_after held_of average
+unfolding AtEachHistory state_after state_of average
 no_average opening history lawful none = none-sampled (params_after opening history).dq_threshold (samples_after opening history) none
 
 pub estimate_between : (least most : ℕ) → AtEachHistory (λ opening history. opening.choices.elements.delay ≡ Rate → 0 < length (samples_after opening history) → All (IsBetween least most) (samples_after opening history)
@@ -212,7 +213,7 @@ pub estimate_between : (least most : ℕ) → AtEachHistory (λ opening history.
     (bytes_after opening history * most / (params_after opening history).dq_threshold) (delay_after opening history))
 unfolding AtEachHistory
 estimate_between least most opening history lawful rate some all =
-    let h = held_after opening history in
+    let h = state_after opening history in
     let sound = (sound_at opening history [] (rw (append-nil history) lawful)).0 in
     let threshold = (threshold-holds h.params sound.params).0 in
     let by : h.elements.delay ≡ Rate = ap (λ (e : Elements). e.delay) (elements-is opening history) ∙ rate in

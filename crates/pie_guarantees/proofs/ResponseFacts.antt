@@ -2,7 +2,7 @@
 use Rattle.pie_guarantees.proofs.Names.{◌≡◌, ◌≤◌, ◌<◌, ◌+◌, ◌*◌, ◌-◌, ◌/◌, ◌^◌, ℕ, zero, suc, List, [], ◌∷◌, ◌++◌, true, false, refl, sym, ap, ◌∙◌}
 use Rattle.pie_guarantees.proofs.Names.{arith, subst, min, max, nat_tests, clamps, ints, BetweenAny, AllAlong, IsLawful, Elements, RawParams, decayed}
 use Rattle.pie_guarantees.proofs.Names.{decays, next, tuned_step, raw_step, tuning_divisor, next-hold, in-range, deed, is_update, after_call, call_of}
-use Rattle.pie_guarantees.proofs.Names.{ControllerState, Waiting, Command, Update, Answer, Event, Opening, bytes_of, active_after, held_after, params_after}
+use Rattle.pie_guarantees.proofs.Names.{ControllerState, Waiting, Command, Update, Answer, Event, Opening, bytes_of, active_after, state_after, params_after}
 use Rattle.pie_guarantees.proofs.Names.{waiting_after, updates_in, KeepsParams, untuned_fall, Bool, nat_lt, if◌then◌else◌, append_assoc, Empty}
 use Rattle.pie_guarantees.proofs.Names.{after_updates, usual, default_profile, deed_of, is_reset, bytes_after, burst_left, untuned_rise}
 use Rattle.pie_guarantees.proofs.Names.{updates_to_a_tenth, probability_after, is_considered, ◌&&◌}
@@ -157,11 +157,11 @@ same-update command answer = grind (arith, nat_tests)
 
 module _ (fall : ℕ) (opening : Opening) (before between : List Event) where
   falls-after : (n : ℕ) (earlier : List Event) (event : Event) → IsStep opening earlier event → FindsNoDelay opening earlier event
-      → Falls fall n (held_after opening earlier) → Falls fall (counted_with event.command n) (held_after opening (earlier ++ event ∷ []))
+      → Falls fall n (state_after opening earlier) → Falls fall (counted_with event.command n) (state_after opening (earlier ++ event ∷ []))
   falls-after n earlier event step here old =
-      let h = held_after opening earlier in
+      let h = state_after opening earlier in
       let target = (in-range h.params step.sound.params).target in
-      subst (Falls fall (counted_with event.command n)) (sym step.held)
+      subst (Falls fall (counted_with event.command n)) (sym step.state)
       (falls-next fall n h (waiting_after opening earlier) opening.limits.packets event.command (omega (arith, target.0)) step.sound.prob
       here.keeps (λ asks on. here.delay (same-update event.command event.answer ∙ asks) on) old)
 
@@ -171,7 +171,7 @@ module _ (fall : ℕ) (opening : Opening) (before between : List Event) where
   unfolding bound
   recovers later lawful n none on far free many =
       let it = sound_at opening before (between ++ later) (rw (append_assoc before between later) at lawful) in
-      let falls = along_updates (λ n history. Falls fall n (held_after opening history)) (FindsNoDelay opening) opening falls-after before between
+      let falls = along_updates (λ n history. Falls fall n (state_after opening history)) (FindsNoDelay opening) opening falls-after before between
       later lawful free (record {
         prob = it.0.prob;
         old = λ n on. absurd (omega (arith, n));
@@ -256,15 +256,15 @@ same-reset command answer = grind (arith, nat_tests)
 
 module _ (least : ℕ) (opening : Opening) (before between : List Event) where
   abbrev ClimbsTo : ℕ → List Event → Type 0
-  ClimbsTo n history = Climbs least (burst_left opening before) n (params_after opening before) (held_after opening history)
+  ClimbsTo n history = Climbs least (burst_left opening before) n (params_after opening before) (state_after opening history)
 
   climbs-along : (params_after opening before).target ≤ least → (n : ℕ) (earlier : List Event) (event : Event) → IsStep opening earlier event
       → IsLasting least opening earlier event → ClimbsTo n earlier → ClimbsTo (counted_with event.command n) (earlier ++ event ∷ [])
   climbs-along above n earlier event step here old =
-      let h = held_after opening earlier in
+      let h = state_after opening earlier in
       let target = (in-range h.params step.sound.params).target in
       let update = same-update event.command event.answer in
-      subst (Climbs least (burst_left opening before) (counted_with event.command n) (params_after opening before)) (sym step.held)
+      subst (Climbs least (burst_left opening before) (counted_with event.command n) (params_after opening before)) (sym step.state)
       (climbs-next least (burst_left opening before) n (params_after opening before) h (waiting_after opening earlier) opening.limits.packets
       event.command (omega (arith, target.0)) (subst (λ (p : RawParams). p.target ≤ least) (sym old.same) above) here.active here.keeps
       (sym (same-reset event.command event.answer) ∙ here.unreset) (λ asks. (here.delay (update ∙ asks), here.grows (update ∙ asks))) old)
@@ -307,7 +307,7 @@ pub all_considered : (least : ℕ) (opening : Opening) (before : List Event) (be
     → was_considered opening (before ++ between) event ≡ true
 unfolding BetweenAny
 all_considered least opening before between event later lawful above lasts some many on long room =
-    let h = held_after opening (before ++ between) in
+    let h = state_after opening (before ++ between) in
     let climbs = climbs-after least opening before between (event ∷ later) lawful above lasts in
     let sound = (sound_at opening (before ++ between) (event ∷ later) lawful).0 in
     let target = (in-range h.params sound.params).target in

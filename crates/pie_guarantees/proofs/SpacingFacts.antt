@@ -4,8 +4,8 @@ use Rattle.pie_guarantees.proofs.Names.{◌≡◌, ◌≤◌, ◌<◌, ◌+◌, 
 use Rattle.pie_guarantees.proofs.Names.{refl, sym, ap, ◌∙◌, if◌then◌else◌, AtEachEvent, BetweenAny, Packet, append_assoc, sum_by-cons, mul-le}
 use Rattle.pie_guarantees.proofs.Names.{arith, nat_tests, bytes_of, counted_as, is_considered, div-le_of_le-mul, RawParams}
 use Rattle.pie_guarantees.proofs.Names.{is_picked, deed, answer_of, after_call, ControllerState, Waiting, ArrivingPacket, Command}
-use Rattle.pie_guarantees.proofs.Names.{Arrive, Answer, Event, Opening, arrival_of, call_of, answer_by, held_after, waiting_after}
-use Rattle.pie_guarantees.proofs.Names.{is_dropped_bytes, is_dropped_packets, is_reset, AllAlong, IsLawful, IsEarly, is_early, held_of}
+use Rattle.pie_guarantees.proofs.Names.{Arrive, Answer, Event, Opening, arrival_of, call_of, answer_by, state_after, waiting_after}
+use Rattle.pie_guarantees.proofs.Names.{is_dropped_bytes, is_dropped_packets, is_reset, AllAlong, IsLawful, IsEarly, is_early, state_of}
 use Rattle.pie_params.specs.declared.elements.Picking.TheVariants.{Derandomized}
 use Rattle.pie_params.specs.declared.elements.Size.{Size}
 use Rattle.pie_guarantees.specs.{arriving_size, CountsAtLeast, CountsAtMost, IsUnpicked, considered_in, counted_at, counted_in, had_room, picks_in}
@@ -73,22 +73,22 @@ pub picks_clear : AtEachEvent (λ opening before event. IsEarly event → Book.a
 unfolding AtEachEvent
 picks_clear opening before event later lawful early =
     let step = step_at opening before event later lawful in
-    ap (λ (g : ControllerState). g.accu) step.held
-    ∙ left-zero (held_after opening before) (waiting_after opening before) opening.limits.packets event.command
+    ap (λ (g : ControllerState). g.accu) step.state
+    ∙ left-zero (state_after opening before) (waiting_after opening before) opening.limits.packets event.command
     (ap (λ (a : Answer). is_early a) (sym step.here.answered) ∙ early)
 
 -- ---- an event of a lawful history
 
 q-is : (opening : Opening) (before : List Event) (event : Event)
-    → q-of (held_after opening before) (arriving_size event.command) ≡ counted_at opening before event
-unfolding held_after held_of
+    → q-of (state_after opening before) (arriving_size event.command) ≡ counted_at opening before event
+unfolding state_after state_of
 q-is opening before event = refl
 
 counted-within : (size : Size) (params : RawParams) (bytes prob : ℕ) → prob ≤ 10 ^ 12 → counted_as size params bytes prob ≤ 10 ^ 12
 counted-within size params bytes prob within = grind (arith, nat_tests, div-le_of_le-mul, mul-le)
 
 adds-at : (opening : Opening) (before : List Event) (event : Event) → IsStep opening before event → opening.choices.elements.picking ≡ Derandomized
-    → Adds (held_after opening before) (held_after opening (before ++ event ∷ [])) (was_considered opening before event) (is_early event.answer)
+    → Adds (state_after opening before) (state_after opening (before ++ event ∷ [])) (was_considered opening before event) (is_early event.answer)
     (starts_anew opening before event) (counted_at opening before event)
 adds-at opening before event step spaced = grind (arith, nat_tests, elements-is, q-is, at-step, adds, counted-within)
 

@@ -1,7 +1,7 @@
 -- The link's definitions at small values, worked out by hand.
 use Rattle.std.specs.Prelude.{ℕ, ◌≡◌, [], ◌∷◌, Some, None, List, Ok, Err}
 use Rattle.pie_link.proofs.Names.{refl, PassKnowledge, Spent, Waits, HasTwo, Opening, Entry, CallerKnowledge, callers_of, Depart, Empty, Event}
-use Rattle.pie_link.proofs.Names.{Bounded, Applied, Folded, events_in, left_when_rolling, tail_in, folded_events, held_after, waiting_after, Command}
+use Rattle.pie_link.proofs.Names.{Bounded, Applied, Folded, events_in, left_when_rolling, tail_in, folded_events, state_after, waiting_after, Command}
 use Rattle.pie_link.proofs.Names.{Arrive, Answer, Reply, entries_within, replies_within, ⊤, always, burst_within, departures, has_left}
 use Rattle.pie_event.specs.declared.opening.Limits.{Limits}
 use Rattle.pie_link.specs.declared.refusal.LinkRefusal.TheVariants.{Book, NoCallers}
@@ -10,7 +10,7 @@ use Rattle.pie_params.specs.Profile.{default_profile}
 use Rattle.pie_params.specs.Elements.{usual}
 use Rattle.pie_queue.specs.declared.ecn.Ecn.TheVariants.{NotEct}
 use Rattle.pie_queue.specs.declared.packet.Packet.{Packet}
-use Rattle.pie_aqm.specs.History.{active_of, arrival_inputs, control_of, delay_at_end, departures_of, departure_inputs, early_of, held_of, is_active}
+use Rattle.pie_aqm.specs.History.{active_of, arrival_inputs, control_of, delay_at_end, departures_of, departure_inputs, early_of, state_of, is_active}
 use Rattle.pie_aqm.specs.History.{activity_events, activity_events_after, now_of, params_of, update_inputs, waited_at_end, waited_of}
 use Rattle.pie_aqm.specs.Places.{places, greatest, last_or}
 use Rattle.pie_aqm.specs.Steps.{verdict}
@@ -81,7 +81,7 @@ left_without_folds = refl
 
 -- the definitions that these bursts compute with
 unfoldable worked : Type 0
-unfolding admitted places effective_moment greatest waiting_after departed_count held_after controller_events held_of now_of params_of active_of
+unfolding admitted places effective_moment greatest waiting_after departed_count state_after controller_events state_of now_of params_of active_of
     departure_inputs update_inputs arrival_inputs departures_of waited_of waited_at_end delay_at_end control_of early_of is_active activity_events activity_events_after last_or
     verdict burst_within
 worked = ⊤

@@ -1,7 +1,8 @@
 -- The headline, from the rule of the lock.
 use Rattle.std.proofs.lemmas.Bool.Decides.{nat_tests}
 use Rattle.pie_link.proofs.Names.{◌≡◌, ℕ, suc, Option, List, [], ◌∷◌, refl, subst, ⊎_elim, arith, PassKnowledge, Opening}
-use Rattle.pie_link.proofs.Names.{Entry, number_of, events_in, KeptView, IsKept, CallerKnowledge, BeginsWith, HasCallsOf, caller_knowledge, callers_at, callers_of}
+use Rattle.pie_link.proofs.Names.{Entry, number_of, events_in, KeptView, RepresentsHistory, CallerKnowledge, BeginsWith, HasCallsOf}
+use Rattle.pie_link.proofs.Names.{caller_knowledge, callers_at, callers_of}
 use Rattle.pie_link.proofs.Names.{LockKey, LockState, LiesIn, IsOneHistory, KeepsOneHistory}
 use Rattle.std.specs.List.{All}
 use Rattle.std.proofs.lemmas.List.Elements.{All-nil, All-cons, All-append}
@@ -35,7 +36,7 @@ LookBack = (opening : Opening) (core : CoreView) (history : List Event) → Repr
 -- the rule while the lock is free
 pub while_free : LookBack → (opening : Opening) (numbers : ℕ) (lock : LockState) (history : List Entry) (holder : Option ℕ) (owner : ℕ → ℕ)
     → Agreed number_of opening numbers history holder owner lock.views
-    → WhileFree number_of (λ (kept : KeptView). kept.book.opening) IsKept opening numbers history holder lock
+    → WhileFree number_of (λ (kept : KeptView). kept.book.opening) RepresentsHistory opening numbers history holder lock
     → (book : BookView) × LiesIn lock book × ((h : List Entry) × IsOneHistory opening book (callers_of lock.views) h)
 while_free look_back opening numbers lock history holder owner agreed free =
     let follow = λ (seat : ℕ) (view : Place Entry Opening) (at : get_elem? lock.views seat ≡ some view). (agreed.seated seat view at).follows in
@@ -56,7 +57,7 @@ while_free look_back opening numbers lock history holder owner agreed free =
 
 -- the rule of the lock, at its opening
 abbrev pub ruled : LockKey → LockState → Type 0
-ruled key lock = Ruled number_of (λ (kept : KeptView). kept.book.opening) IsKept key.state.value.book.opening key.numbers lock
+ruled key lock = Ruled number_of (λ (kept : KeptView). kept.book.opening) RepresentsHistory key.state.value.book.opening key.numbers lock
 
 -- whenever the lock is free, there is one history
 pub keeps_one_history : LookBack → (link : LinkView) → KeepsOneHistory ruled link

@@ -7,7 +7,7 @@ pub use Rattle.std.proofs.lemmas.List.{append-nil, drop-append-le, drop-drop, dr
 pub use Rattle.std.specs.Prelude.{IsOk, OnErr, OnOk, if◌then◌else◌, nat_le, ⊤}
 pub use Rattle.pie_book.specs.Book.{BookView, BookRepresents, first_run, kept_of, tail_with}
 pub use Rattle.pie_book.specs.Decision.{answer_to_departure, arrival_of, decision, is_refused_full, or_full, refusal_after, refusal_by_rule}
-unfoldable pub use Rattle.pie_book.specs.Estimates.{held_after}
+unfoldable pub use Rattle.pie_book.specs.Estimates.{state_after}
 unfoldable pub use Rattle.pie_book.specs.History.{waiting_after}
 pub use Rattle.pie_book.specs.Run.{event_of, refused_or}
 pub use Rattle.pie_event.specs.declared.command.Answer.{Answer}
@@ -30,7 +30,7 @@ pub use Rattle.pie_link.specs.Entries.{events_in, folded_in, folded_events, fold
 pub use Rattle.pie_link.specs.Results.{IsExcerptOf, IsFold, IsFolded, IsFoldedInto}
 pub use Rattle.pie_link.specs.Headline.{BeginsWith, HasCallsOf, CallerKnowledge, IsOneHistory, LiesIn, LockKey, LockState, callers_at, callers_of, caller_knowledge}
 unfoldable pub use Rattle.pie_link.specs.Headline.{KeepsOneHistory}
-pub use Rattle.pie_link.specs.Kept.{IsKept, KeptView, RepresentsEntries}
+pub use Rattle.pie_link.specs.Kept.{RepresentsHistory, KeptView, RepresentsEntries}
 pub use Rattle.pie_link.specs.declared.entry.Entry.{Entry}
 pub use Rattle.pie_link.specs.declared.entry.Entry.TheVariants.{Folded, Applied}
 pub use Rattle.pie_lock.specs.declared.view.Place.TheVariants.{Holds, HasTwo, Spent, Waits}

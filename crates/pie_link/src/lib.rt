@@ -6,7 +6,7 @@
 //! of that lock: the lock, the front, and the numbers `first..limit`.
 //!
 //! The lock keeps a `KeptBook`: a book in a box, with the number of folds, which exists in contracts alone. It
-//! represents a list of entries (`IsKept`):
+//! represents a list of entries (`RepresentsHistory`):
 //!
 //! - the book represents the events;
 //! - its event log begins after the events that were folded or, in a rolling book, dropped for want of room;

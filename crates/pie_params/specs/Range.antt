@@ -44,8 +44,8 @@ pub record IsInRange (raw : RawParams) : Type 0 where
   pub dq_threshold : IsTrue (is_dq_threshold raw.dq_threshold)
 
 -- the record that checked parameters represent
-abbrev pub held_raw : Inside → RawParams
-held_raw p = record {
+abbrev pub raw_params : Inside → RawParams
+raw_params p = record {
   target = p.target;
   t_update = p.t_update;
   max_burst = p.max_burst;

@@ -28,11 +28,11 @@ impl Model for Params {
 
     ghost Value = { RawParams };
 
-    ghost use Rattle.pie_params.specs.Range.{IsInRange, held_raw};
+    ghost use Rattle.pie_params.specs.Range.{IsInRange, raw_params};
 
-    ghost view = { held_raw };
+    ghost view = { raw_params };
 
-    ghost invariant = { λ p. IsInRange (held_raw p) };
+    ghost invariant = { λ p. IsInRange (raw_params p) };
 
     ghost inverse = { λ p. record {
       target = p.target;

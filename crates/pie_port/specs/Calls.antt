@@ -12,13 +12,13 @@ abbrev pub open_refusal : Option CallerView → PieOpening → ℕ → ℕ
 open_refusal (Some caller) o callers = 127
 open_refusal None o callers = if opening_refusal o == 0 then (if callers == 0 then 124 else 0) else opening_refusal o
 
--- the port has all numbers of a new link, of which IsKept holds, and an empty front
-pub record IsOpened (IsKept : LinkView → Type 0) (o : PieOpening) (callers : ℕ) (port : Option CallerView) : Type 0 where
+-- the port has all numbers of a new link, for which `KeepsHistory` holds, and an empty front
+pub record IsOpened (KeepsHistory : LinkView → Type 0) (o : PieOpening) (callers : ℕ) (port : Option CallerView) : Type 0 where
   pub link : LinkView
   pub opened : port ≡ Some (first_pass link callers)
   pub origin : link.origin ≡ Some (opening_in o)
   pub numbers : link.numbers ≡ callers
-  pub kept : IsKept link
+  pub kept : KeepsHistory link
 
 -- ---- a call for one event
 

@@ -29,7 +29,7 @@ pub use Rattle.pie_lock.specs.Own.{is_within, own}
 pub use Rattle.pie_lock.specs.Steps.{Extends}
 pub use Rattle.pie_storm.specs.Plans.{IsFair, IsSound, arriving, changing, departing, folder, opening_of, senders, total, updater, updating}
 unfoldable pub use Rattle.pie_storm.specs.Plans.{calls_of}
-pub use Rattle.pie_storm.specs.StormPlan.{arrivals_of, held_by, planned_arrival, sender_words, words_of}
+pub use Rattle.pie_storm.specs.StormPlan.{arrivals_of, list_in, planned_arrival, sender_words, words_of}
 unfoldable pub use Rattle.pie_storm.specs.StormPlan.{words_after}
 pub use Rattle.pie_storm.specs.Storms.{AddedByAll, AreFolded, AreMade, HasNoMore, IsAt, IsCutShort, IsEndOf, IsFor, IsWell, IsWorkBelow, WereFolded}
 pub use Rattle.pie_storm.specs.Storms.{is_number}

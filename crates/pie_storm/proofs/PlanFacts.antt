@@ -1,7 +1,7 @@
 -- The lists of a storm's plan grow by one entry, the random words are taken one after another, and the calls of a sound
 -- plan's callers.
 use Rattle.pie_storm.proofs.Names.{◌≡◌, ◌+◌, ◌*◌, ◌/◌, ◌^◌, ◌≤◌, ℕ, List, [], ◌∷◌, ◌++◌, map, refl, sym, arith, Vec, range_with_len, Global}
-use Rattle.pie_storm.proofs.Names.{length, map-append, take, take-length, total, Arrival, arrivals_of, held_by, ◌-◌, ◌==◌, nat_le, Bool, true, false}
+use Rattle.pie_storm.proofs.Names.{length, map-append, take, take-length, total, Arrival, arrivals_of, list_in, ◌-◌, ◌==◌, nat_le, Bool, true, false}
 use Rattle.pie_storm.proofs.Names.{Some, slice_get, drop, subst, if◌then◌else◌, All, drop-map, take-map, nat_tests, All-nil, Call, Apply, Fold, Plan}
 use Rattle.pie_storm.proofs.Names.{IsFair, IsSound, arriving, calls_of, changing, departing, folder, senders, updater, updating, None, Option}
 use Rattle.std.proofs.Common.{add-one}
@@ -33,10 +33,10 @@ pub item_push : {A : Type 0} (f : ℕ → A) (j : ℕ) (list later : List A) (it
 item_push f j list later item before pushed is = rw (pushed, before, is) (sym (map-range_with_len_more f 0 j j (omega arith)))
 
 pub lists_push : (packets burst seed before : ℕ) (lists later : List (Vec Arrival Global)) (list : Vec Arrival Global)
-    → map held_by lists ≡ map (arrivals_of packets burst seed) (range_with_len 1 before) → later ≡ lists ++ list ∷ []
-    → held_by list ≡ arrivals_of packets burst seed (before + 1)
-    → map held_by later ≡ map (arrivals_of packets burst seed) (range_with_len 1 (before + 1))
-lists_push packets burst seed before lists later list so_far pushed is = rw (pushed, map-append held_by lists (list ∷ []), so_far, is)
+    → map list_in lists ≡ map (arrivals_of packets burst seed) (range_with_len 1 before) → later ≡ lists ++ list ∷ []
+    → list_in list ≡ arrivals_of packets burst seed (before + 1)
+    → map list_in later ≡ map (arrivals_of packets burst seed) (range_with_len 1 (before + 1))
+lists_push packets burst seed before lists later list so_far pushed is = rw (pushed, map-append list_in lists (list ∷ []), so_far, is)
     (sym (map-range_with_len_more (arrivals_of packets burst seed) 1 before (before + 1) (omega arith)))
 
 pub taken_whole : {A : Type 0} (list : List A) (n : ℕ) → n ≡ length list → take n list ≡ list

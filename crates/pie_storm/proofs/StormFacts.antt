@@ -2,7 +2,7 @@
 -- have the kinds of their commands, and are few; their text is clean.
 use Rattle.pie_storm.proofs.Names.{◌≡◌, ◌≤◌, ◌<◌, ◌+◌, ◌*◌, ◌/◌, ◌∙◌, ℕ, zero, suc, List, Vec, Global, All, map, length, refl, sym, ap, subst}
 use Rattle.pie_storm.proofs.Names.{⊎_elim, arith, ◌^◌, ◌∷◌, [], nat_tests, range_with_len, slice_get, Some, None, Arrival, Plan, IsSound, arrivals_of}
-use Rattle.pie_storm.proofs.Names.{held_by, length-map, arriving, planned_arrival, sender_words, senders, total, calls_of, ◌++◌, true, IfSome, Option}
+use Rattle.pie_storm.proofs.Names.{list_in, length-map, arriving, planned_arrival, sender_words, senders, total, calls_of, ◌++◌, true, IfSome, Option}
 use Rattle.pie_storm.proofs.Names.{Result, Ok, Err, append-nil, Command, Event, Opening, IsLegal, IsLegalAt, decision, opening_of}
 use Rattle.pie_storm.proofs.PlanFacts.{all_at, sender_has, total_more, all_of}
 use Rattle.pie_storm.specs.Plans.{IsMoment, IsSoundArrival, planned}
@@ -43,9 +43,9 @@ of_range : {A : Type 0} (P : A → Type 0) (f : ℕ → A) (a n : ℕ) → ((j :
 of_range P f a n each = grind (arith, nat_tests, length-map-range_with_len, get_or-map-range_with_len)
 
 -- a fact about the lists of vectors
-of_held : (Q : List Arrival → Type 0) (lists : List (Vec Arrival Global)) → All Q (map held_by lists) → All (λ (l : Vec Arrival Global). Q l.items) lists
-of_held Q lists all = λ k d within.
-    subst Q (get_or-map held_by lists k d) (all k (held_by d) (omega (arith, within, length-map lists held_by)))
+all_items : (Q : List Arrival → Type 0) (lists : List (Vec Arrival Global)) → All Q (map list_in lists) → All (λ (l : Vec Arrival Global). Q l.items) lists
+all_items Q lists all = λ k d within.
+    subst Q (get_or-map list_in lists k d) (all k (list_in d) (omega (arith, within, length-map lists list_in)))
 
 there : {A : Type 0} (xs : List A) (k : ℕ) → k < length xs → (x : A) × (slice_get xs k ≡ Some x)
 there xs k within = ⊎_elim (λ has. (has.0, has.2)) (λ past. absurd (omega (arith, within, past.0))) (slice_get_cases xs k).1
@@ -72,7 +72,7 @@ module _ (n : StormNumbers) (plan : Plan) (range : HasStormRange n) (is : IsStor
 
   arrivals_sound : All (λ (list : Vec Arrival Global). All IsSoundArrival list.items) plan.arrivals.items
   arrivals_sound =
-      of_held (All IsSoundArrival) plan.arrivals.items
+      all_items (All IsSoundArrival) plan.arrivals.items
       (rw is.arrivals (of_range (All IsSoundArrival) (arrivals_of n.packets n.burst n.seed) 1 n.senders
       (λ sender less. of_range IsSoundArrival (planned_arrival n.packets n.burst sender (sender_words n.seed sender)) 0 n.packets
       (λ i within. arrival_sound sender i))))
@@ -105,7 +105,7 @@ module _ (n : StormNumbers) (plan : Plan) (range : HasStormRange n) (is : IsStor
       let it = there plan.arrivals.items k within in
       let long : length it.0.items ≡ n.packets =
       all_at (λ (l : Vec Arrival Global). length l.items ≡ n.packets) plan.arrivals.items k it.0
-      (of_held (λ (l : List Arrival). length l ≡ n.packets) plan.arrivals.items
+      (all_items (λ (l : List Arrival). length l ≡ n.packets) plan.arrivals.items
       (rw is.arrivals (of_range (λ (l : List Arrival). length l ≡ n.packets) (arrivals_of n.packets n.burst n.seed) 1 n.senders
       (λ sender below. length-map-range_with_len (planned_arrival n.packets n.burst sender (sender_words n.seed sender)) 0 n.packets)))) it.1 in
       rw (sender_has plan (k + 1) it.0 (omega arith) (omega (arith, within)) (grind arith)) (length-map it.0.items arriving ∙ long)

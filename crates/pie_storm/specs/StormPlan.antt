@@ -100,8 +100,8 @@ command_count n = 2 * n.senders * n.packets + n.packets / 15 + 1 + n.changes
 -- ---- the plan
 
 -- the list of a vector
-abbrev pub held_by : Vec Arrival Global → List Arrival
-held_by list = list.items
+abbrev pub list_in : Vec Arrival Global → List Arrival
+list_in list = list.items
 
 -- the ranges of a storm's numbers
 pub record HasStormRange (n : StormNumbers) : Type 0 where
@@ -136,7 +136,7 @@ pub record IsStormPlan (n : StormNumbers) (plan : Plan) : Type 0 where
   pub moment : plan.moment ≡ 0
   pub profile : plan.profile ≡ n.profile
   pub elements : plan.elements ≡ n.elements
-  pub arrivals : map held_by plan.arrivals.items ≡ map (arrivals_of n.packets n.burst n.seed) (range_with_len 1 n.senders)
+  pub arrivals : map list_in plan.arrivals.items ≡ map (arrivals_of n.packets n.burst n.seed) (range_with_len 1 n.senders)
   pub burst : plan.burst ≡ n.burst
   pub departs : plan.departs.items ≡ departs_of n.senders n.packets n.load
   pub updates : plan.updates.items ≡ updates_of n.packets

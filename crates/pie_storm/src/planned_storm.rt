@@ -18,7 +18,7 @@ use crate::planning::plan_of;
 use crate::run::storm;
 use crate::storm_end::{StormEnd, StormFault};
 use pie_audit::{Auditor, Finding, clean_excerpts_are_legal, clean_is_legal, events_are_lines};
-use pie_book::{Event, OpenRefusal, Opening, all_numbers_are_held};
+use pie_book::{Event, OpenRefusal, Opening, all_numbers_fit};
 use pie_record::{Line, TraceFault};
 use pie_text::write_history;
 use std::alloc::Global;
@@ -104,7 +104,7 @@ pub fn write_storm<W: Write>(
     ensures written { OnOk result (WritesHistory plan.now events.now (W.contents output.old) (W.contents output.new)) }
     ensures device { IfErr result IsWrite }
 {
-    all_numbers_are_held();
+    all_numbers_fit();
     events_are_lines();
     clean_is_legal();
     clean_excerpts_are_legal();

@@ -2,7 +2,7 @@
 ghost use Rattle.std.specs.Prelude.{◌≡◌, ◌+◌, ◌*◌, ◌/◌, ◌^◌, ◌<◌, ◌≤◌, IfOk, map};
 ghost use Rattle.std.specs.List.{range_with_len};
 ghost use Rattle.pie_storm.specs.StormPlan.{IsStormPlan, after_three, arrival_by, arrivals_of, change_at, changes_of, departs_of, ecn_of};
-ghost use Rattle.pie_storm.specs.StormPlan.{HasStormRange, usual_storm, folds_of, held_by, moment_of, params_at, updates_of, words_of};
+ghost use Rattle.pie_storm.specs.StormPlan.{HasStormRange, usual_storm, folds_of, list_in, moment_of, params_at, updates_of, words_of};
 
 use crate::plan::{Change, Plan};
 use crate::plan_numbers::StormNumbers;
@@ -94,7 +94,7 @@ fn arrivals_of(
     requires packets { packets ≤ 10_000 }
     requires some { 1 ≤ burst }
     requires burst { burst ≤ 1024 }
-    ensures { IfOk result (λ list. held_by list ≡ arrivals_of packets burst seed sender) }
+    ensures { IfOk result (λ list. list_in list ≡ arrivals_of packets burst seed sender) }
 {
     let mut words = Lcg128Xsl64::new(u128::from(seed), u128::from(sender));
     let mut arrivals = Vec::with_capacity(alloc, packets as usize)?;
@@ -118,7 +118,7 @@ fn all_arrivals(
     requires packets { packets ≤ 10_000 }
     requires some { 1 ≤ burst }
     requires burst { burst ≤ 1024 }
-    ensures { IfOk result (λ lists. map held_by lists.items ≡ map (arrivals_of packets burst seed) (range_with_len 1 senders)) }
+    ensures { IfOk result (λ lists. map list_in lists.items ≡ map (arrivals_of packets burst seed) (range_with_len 1 senders)) }
 {
     let mut lists = Vec::with_capacity(alloc, senders as usize)?;
     for before in 0..senders {

@@ -7,7 +7,7 @@ use Rattle.std.proofs.lemmas.Bool.{false≢true}
 use Rattle.std.proofs.lemmas.List.{length_push}
 use Rattle.pie_summary.specs.declared.aggregates.Peak.{Peak}
 use Rattle.pie_summary.specs.declared.aggregates.Total.{Total}
-use Rattle.pie_summary.specs.Aggregates.{carried_over, counted_some, held_or}
+use Rattle.pie_summary.specs.Aggregates.{carried_over, counted_some, first_or}
 use Rattle.pie_summary.proofs.CountFacts.{kept-more}
 
 -- ---- aggregates of numbers of events, by one step for a list of numbers
@@ -31,7 +31,7 @@ each-of-push of number shown one step is old-is =
 -- ---- counts, bounds and greatest numbers
 
 -- the first number of a list with one more
-first-push : (numbers : List ℕ) (number : ℕ) → held_or (kept (length numbers)) (slice_index numbers 0) number
+first-push : (numbers : List ℕ) (number : ℕ) → first_or (kept (length numbers)) (slice_index numbers 0) number
     ≡ slice_index (numbers ++ number ∷ []) 0
 first-push [] number = refl
 first-push (first ∷ numbers) number = later (length numbers)
@@ -43,11 +43,11 @@ count-push : (numbers : List ℕ) (number : ℕ) → kept (kept (length numbers)
 count-push numbers number = kept-more (length numbers) 1 18446744073709551615 ∙ ap kept (sym (length_push numbers number))
 
 pub bounds_push : (numbers : List ℕ) (number : ℕ) (old : Bounds) (count first : ℕ) → old ≡ bounds_of numbers
-    → count ≡ kept (old.count + 1) → first ≡ held_or old.count old.first number
+    → count ≡ kept (old.count + 1) → first ≡ first_or old.count old.first number
     → record { count = count; first = first; last = number } ≡ bounds_of (numbers ++ number ∷ [])
 bounds_push numbers number old count first is count-is first-is = λ i. record {
   count = (count-is ∙ ap (λ (s : Bounds). kept (s.count + 1)) is ∙ count-push numbers number) i;
-  first = (first-is ∙ ap (λ (s : Bounds). held_or s.count s.first number) is ∙ first-push numbers number) i;
+  first = (first-is ∙ ap (λ (s : Bounds). first_or s.count s.first number) is ∙ first-push numbers number) i;
   last = sym (last_or-push 0 numbers number) i;
 }
 

@@ -33,9 +33,9 @@ total_of numbers = total_in (min (sum numbers) (2 ^ 128 - 1))
 abbrev pub mean_in : ℕ → Total → ℕ
 mean_in count total = min (sum_in total / max count 1) (2 ^ 64 - 1)
 
--- `held`, or `number` if `count` is 0
-abbrev pub held_or : ℕ → ℕ → ℕ → ℕ
-held_or count held number = if count == 0 then number else held
+-- `first`, or `number` if `count` is 0
+abbrev pub first_or : ℕ → ℕ → ℕ → ℕ
+first_or count first number = if count == 0 then number else first
 
 -- a count, and one more if there is a number
 abbrev pub counted_some : ℕ → Option ℕ → ℕ

@@ -2,7 +2,7 @@
 ghost use Rattle.std.specs.Prelude.{◌≡◌, ◌+◌, ◌-◌, ◌*◌, ◌++◌, ◌∷◌, [], ℕ, List, max};
 ghost use Rattle.std.specs.List.{cons_option};
 ghost use Rattle.pie_explain.specs.declared.explanation.Explained.{Explained};
-ghost use Rattle.pie_summary.specs.Aggregates.{carried_over, held_or, mean_in, moment_at, span_of, sum_in, time_at};
+ghost use Rattle.pie_summary.specs.Aggregates.{carried_over, first_or, mean_in, moment_at, span_of, sum_in, time_at};
 
 /// One more than the greatest number of 64 bits.
 const WORD: u128 = 1 << 64;
@@ -48,11 +48,11 @@ pub struct Span {
     pub times: Bounds,
 }
 
-/// Returns `held`, or `number` if `count` is 0.
-fn held_or(count: u64, held: u64, number: u64) -> u64
-    ensures { result ≡ held_or count held number }
+/// Returns `first`, or `number` if `count` is 0.
+fn first_or(count: u64, first: u64, number: u64) -> u64
+    ensures { result ≡ first_or count first number }
 {
-    if count == 0 { number } else { held }
+    if count == 0 { number } else { first }
 }
 
 impl Bounds {
@@ -66,7 +66,7 @@ impl Bounds {
     {
         *self = Bounds {
             count: self.count.saturating_add(1),
-            first: held_or(self.count, self.first, number),
+            first: first_or(self.count, self.first, number),
             last: number,
         };
     }

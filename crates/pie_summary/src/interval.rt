@@ -203,7 +203,7 @@ impl Interval {
         if is_usual(explained) {
             self.put(&meter_input_of(explained), time);
         } else {
-            self.put_apart(&meter_input_of(explained), time);
+            self.put_out_of_line(&meter_input_of(explained), time);
         }
     }
 
@@ -222,7 +222,7 @@ impl Interval {
     /// Adds one more event, as `put` does, in a function of its own for the less frequent kinds.
     #[cold]
     #[inline(never)]
-    fn put_apart(&mut self, noted: &MeterInput, time: Option<u64>)
+    fn put_out_of_line(&mut self, noted: &MeterInput, time: Option<u64>)
         requires { noted.now.answer < 9 }
         ensures number { self.new.number ≡ self.old.number }
         ensures adds { (shown : List Explained) (one : Explained) → noted.now ≡ meter_input_of one → time ≡ time_at one → HoldsSums self.old shown

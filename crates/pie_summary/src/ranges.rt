@@ -28,7 +28,7 @@ fn range_place(number: u64) -> u64
     ensures bound { result < 1720 }
 {
     if number < 1_000_000 || number >= 10_000_000_000 {
-        return range_apart(number);
+        return range_place_out_of_line(number);
     }
     if number < 10_000_000 {
         number / 100_000 + 450
@@ -44,7 +44,7 @@ fn range_place(number: u64) -> u64
 /// Returns the range of any number: of 10,000 to 999,999 by one division.
 #[inline(never)]
 #[tactic(auto, unfolding(crate::specs::Ranges::range_of))]
-fn range_apart(number: u64) -> u64
+fn range_place_out_of_line(number: u64) -> u64
     ensures place { result ≡ range_of number }
     ensures bound { result < 1720 }
 {

@@ -1,7 +1,7 @@
 -- Definitions from lower crates that the files of this folder use.
 pub use Rattle.pie_audit.specs.{Legal.AreLegal, Legal.CanBeMade, Text.text_finding, declared.auditor.Finding.Finding}
 pub use Rattle.pie_book.specs.Decision.{IsLegal, decision, is_refused_full, or_full, refusal_by_rule}
-pub use Rattle.pie_book.specs.Run.{event_of, held_with_one, recorded, refused_or}
+pub use Rattle.pie_book.specs.Run.{event_of, tail_length_with_one, recorded, refused_or}
 pub use Rattle.pie_event.specs.declared.{command.Command.Command, opening.Limits.Limits, opening.Mode.Mode}
 pub use Rattle.pie_excerpt.specs.Preamble.{Preamble, is_resumed}
 pub use Rattle.pie_params.specs.Range.{first_bad}

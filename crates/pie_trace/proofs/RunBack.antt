@@ -5,7 +5,7 @@ use Rattle.pie_trace.proofs.Names.{None, Ok, Opening, Option, Preamble, Progress
 use Rattle.pie_trace.proofs.Names.{Show, Some, Tally, TextsAreReadBack, Three, TraceFault, Version, [], after, and_then, ap, append-nil, append_assoc}
 use Rattle.pie_trace.proofs.Names.{arith, before_fault, beginning_of_preamble, code_of, decision, drop, end_left, end_of, event_of, false, fault_from}
 use Rattle.pie_trace.proofs.Names.{fault_of, field_at, filter_map-append, first_bad, first_fault, first_fields, first_kind, flat_map-append}
-use Rattle.pie_trace.proofs.Names.{fold_outcome, fold_reply, held_with_one, history_row, history_rows, history_text, if◌then◌else◌, is_refused_full}
+use Rattle.pie_trace.proofs.Names.{fold_outcome, fold_reply, tail_length_with_one, history_row, history_rows, history_text, if◌then◌else◌, is_refused_full}
 use Rattle.pie_trace.proofs.Names.{is_resumed, kind-first, kind_word, length, length-append, line_in-line, line_of, line_of_reply, lines_from}
 use Rattle.pie_trace.proofs.Names.{lines_left, lines_of_replies, lost-later, map, nat_lt, nat_tests, opening_of, opening_read, opening_refusal}
 use Rattle.pie_trace.proofs.Names.{or_full, progress_after, progress_at_end, record_fault, recorded, records_of, refl, refusal_by_rule, refused}
@@ -31,7 +31,7 @@ use Rattle.pie_record.specs.declared.history_record.Line.TheVariants as line
 pub record Sound (opening : Opening) (progress : Progress) : Type 0 where
   pub legal : IsLegal opening progress.history
   pub fit : All (λ event. CommandFits event.command) progress.history
-  pub held : progress.held ≤ length progress.history
+  pub bounded : progress.tail_length ≤ length progress.history
 
 -- an opening that a book accepts
 pub record Opens (opening : Opening) : Type 0 where
@@ -50,7 +50,7 @@ pub requested-by : (P : Reply → Progress → Type 0) (opening : Opening) (prog
     → ((why : Refusal) → P (refused (code_of why)) progress)
     → P (reply opening progress (Apply caller command)) (after opening progress (Apply caller command))
 requested-by P opening progress caller command taken refuses =
-    by (refusal_by_rule opening progress.history command) (is_refused_full opening.choices.mode (progress.held == opening.limits.tail)) refl
+    by (refusal_by_rule opening progress.history command) (is_refused_full opening.choices.mode (progress.tail_length == opening.limits.tail)) refl
   where
     by : (o : Option Refusal) (full : Bool) → refusal_by_rule opening progress.history command ≡ o
         → P (reply_to_command (refused_or (or_full o full) (decision opening progress.history command)))
@@ -59,16 +59,16 @@ requested-by P opening progress caller command taken refuses =
     by None true free = refuses refusal.HistoryFull
     by (Some why) full free = refuses why
 
-fold-enough : (progress : Progress) (n : ℕ) (events : List Event) → fold_outcome progress n ≡ Ok events → n ≤ progress.held
+fold-enough : (progress : Progress) (n : ℕ) (events : List Event) → fold_outcome progress n ≡ Ok events → n ≤ progress.tail_length
 fold-enough progress n events e = grind (arith, nat_tests, e)
 
-with-one : (mode : Mode) (max_records held : ℕ) → held_with_one mode max_records held ≤ held + 1
-with-one mode max_records held = grind (arith, nat_tests)
+with-one : (mode : Mode) (max_records tail_length : ℕ) → tail_length_with_one mode max_records tail_length ≤ tail_length + 1
+with-one mode max_records tail_length = grind (arith, nat_tests)
 
-after-fold : (held n : ℕ) → (if nat_lt held n then held else held - n) ≤ held
-after-fold held n = grind (arith, nat_tests)
+after-fold : (tail_length n : ℕ) → (if nat_lt tail_length n then tail_length else tail_length - n) ≤ tail_length
+after-fold tail_length n = grind (arith, nat_tests)
 
-module _ (version : Version) (held : Promises) (opening : Opening) where
+module _ (version : Version) (promises : Promises) (opening : Opening) where
   -- the state of a run after a record is sound
   after-sound : (progress : Progress) (row : Row) (request : Request) → request_of version row ≡ Ok request → Sound opening progress
       → Sound opening (after opening progress request)
@@ -76,25 +76,25 @@ module _ (version : Version) (held : Promises) (opening : Opening) where
       (λ free.
       let event : Event = event_of caller command (decision opening progress.history command) in
       let more = length-append progress.history (event ∷ []) in
-      let within = sound.held in
-      let one = with-one opening.choices.mode opening.limits.tail progress.held in
-      let fit : CommandFits command = held.again.fits version row caller command held.params reads in
+      let within = sound.bounded in
+      let one = with-one opening.choices.mode opening.limits.tail progress.tail_length in
+      let fit : CommandFits command = promises.again.fits version row caller command promises.params reads in
       record {
-        legal = held.legal_with_one_more opening progress.history caller command sound.legal free;
+        legal = promises.legal_with_one_more opening progress.history caller command sound.legal free;
         fit = All-append (λ (e : Event). CommandFits e.command) progress.history (event ∷ []) sound.fit
             (All-cons (λ (e : Event). CommandFits e.command) event [] fit (All-nil (λ (e : Event). CommandFits e.command)));
-        held = omega (arith, more);
+        bounded = omega (arith, more);
       }) (λ why. sound)
   after-sound progress row (Fold n) reads sound =
-      let within = sound.held in
-      let less = after-fold progress.held n in
-      record { legal = sound.legal; fit = sound.fit; held = omega (arith, less) }
+      let within = sound.bounded in
+      let less = after-fold progress.tail_length n in
+      record { legal = sound.legal; fit = sound.fit; bounded = omega (arith, less) }
   after-sound progress row _ reads sound = sound
 
-module _ (version : Version) (held : Promises) (opening : Opening) (opens : Opens opening) where
+module _ (version : Version) (promises : Promises) (opening : Opening) (opens : Opens opening) where
   count-small : (progress : Progress) → Sound opening progress → length progress.history < 2 ^ 64
   unfolding registers_after
-  count-small progress sound = (held.registers opening progress.history opens.accepted opens.params sound.legal sound.fit).count
+  count-small progress sound = (promises.registers opening progress.history opens.accepted opens.params sound.legal sound.fit).count
 
   -- the history record of a reply has its line
   record-written : (number : ℕ) (row : Row) (request : Request) (progress : Progress) → number < 2 ^ 64 → Sound opening progress
@@ -103,26 +103,26 @@ module _ (version : Version) (held : Promises) (opening : Opening) (opens : Open
   record-written number row (Apply caller command) progress small sound reads =
       requested-by (λ given later. line_of version (history_row version number row given) ≡ Ok (line_of_reply (Apply caller command) given)) opening
       progress caller command
-      (λ free. held.back.answered version row caller command (decision opening progress.history command) reads
-      (held.kinds opening progress.history command)
-      (held.answers opening progress.history command opens.accepted opens.params sound.legal sound.fit free))
-      (λ why. held.back.refused version number (code_of why) small (code-small why))
-  record-written number row BadParams progress small sound reads = held.back.refused version number 7 small (omega arith)
+      (λ free. promises.back.answered version row caller command (decision opening progress.history command) reads
+      (promises.kinds opening progress.history command)
+      (promises.answers opening progress.history command opens.accepted opens.params sound.legal sound.fit free))
+      (λ why. promises.back.refused version number (code_of why) small (code-small why))
+  record-written number row BadParams progress small sound reads = promises.back.refused version number 7 small (omega arith)
   record-written number row (Fold n) progress small sound reads = by (fold_outcome progress n) refl
     where
       by : (o : Result (List Event) FoldRefusal) → fold_outcome progress n ≡ o
           → line_of version (history_row version number row (reply_to_fold n o)) ≡ Ok (line_of_reply (Fold n) (reply_to_fold n o))
-      by (Err why) e = held.back.refused version number 6 small (omega arith)
+      by (Err why) e = promises.back.refused version number 6 small (omega arith)
       by (Ok events) e =
           let enough = fold-enough progress n events e in
-          let within = sound.held in
+          let within = sound.bounded in
           let count = count-small progress sound in
-          held.back.folded version n (omega arith)
+          promises.back.folded version n (omega arith)
   record-written number row Show progress small sound reads =
-      held.back.shown version _ (held.registers opening progress.history opens.accepted opens.params sound.legal sound.fit)
+      promises.back.shown version _ (promises.registers opening progress.history opens.accepted opens.params sound.legal sound.fit)
   record-written number row Tally progress small sound reads =
-      held.back.tallied version _ (held.stats opening progress.history opens.accepted opens.params sound.legal sound.fit)
-  record-written number row (Clock clock) progress small sound reads = held.back.clock version row clock reads
+      promises.back.tallied version _ (promises.stats opening progress.history opens.accepted opens.params sound.legal sound.fit)
+  record-written number row (Clock clock) progress small sound reads = promises.back.clock version row clock reads
 
 -- ---- all records
 
@@ -153,16 +153,17 @@ each-good version max_records opening P none one number progress (row ∷ rows) 
         → P number progress (before_fault version max_records number (row ∷ rows)) (requests_of version (before_fault version max_records number (row ∷ rows)))
     by o r e q later = grind (arith, nat_tests)
 
-pub rows-lines : (version : Version) (held : Promises) (max_records : ℕ) (opening : Opening) (number : ℕ) (progress : Progress) (rows : List Row) → max_records ≤ 2 ^ 32
+pub rows-lines : (version : Version) (promises : Promises) (max_records : ℕ) (opening : Opening) (number : ℕ) (progress : Progress) (rows : List Row)
+    → max_records ≤ 2 ^ 32
     → Opens opening → Sound opening progress
     → AreLinesOf version (rows_left version max_records opening number progress rows) (lines_left version max_records opening number progress rows)
 unfolding replies history_rows lines_of_replies AreLinesOf
-rows-lines version held max_records opening number progress rows few opens =
+rows-lines version promises max_records opening number progress rows few opens =
     each-good version max_records opening (λ number progress rows requests. Sound opening progress → RowsAreLines version opening number progress rows requests)
     (λ number progress sound. tt)
     (λ number progress row rows request requests within reads later sound. (
-      record-written version held opening opens number row request progress (omega (arith, within, few)) sound reads,
-      later (after-sound version held opening progress row request reads sound),
+      record-written version promises opening opens number row request progress (omega (arith, within, few)) sound reads,
+      later (after-sound version promises opening progress row request reads sound),
     )) number progress rows
 
 -- the number of history records is within the limit
@@ -217,13 +218,13 @@ pub record Opened (row : Row) (opening : Opening) : Type 0 where
 
 pub opened : Promises → (row : Row) (opening : Opening) → opening_of row ≡ Ok opening → Opened row opening
 unfolding opening_of
-opened held row opening = by (first_kind row) refl
+opened promises row opening = by (first_kind row) refl
   where
     read : (kind : FirstKind) → first_kind row ≡ Some kind → (o : Result Draft RecordFault) → opening_read kind o ≡ Ok opening
         → Opened row opening
     read kind is (Err what) e = cc
     read kind is (Ok draft) e =
-        let c = held.opens kind draft opening e in
+        let c = promises.opens kind draft opening e in
         subst (λ (o : Opening). Opened row o) c.same (record {
           begins = record { kind = kind; rest = drop 1 row; is = first-word row kind is };
           accepted = c.accepted;
@@ -236,12 +237,13 @@ opened held row opening = by (first_kind row) refl
 
 -- ---- the whole text
 
-pub sound-start : (held : Promises) (opening : Opening) → Sound opening start
-sound-start held opening = record { legal = held.legal_at_first opening; fit = All-nil (λ (e : Event). CommandFits e.command); held = omega arith }
+pub sound-start : (promises : Promises) (opening : Opening) → Sound opening start
+sound-start promises opening = record { legal = promises.legal_at_first opening; fit = All-nil (λ (e : Event). CommandFits e.command); bounded = omega arith }
 
 -- the records of the beginning, and those of the replies
 pub text-begun : (max_records : ℕ) (past : List Event) (rows : List Row) (b : TextStart)
-    → text_in max_records past rows (Ok b) ≡ rows_text (take b.read rows ++ rows_left b.version max_records b.opening (b.read + 1) (resumed_progress past) b.left)
+    → text_in max_records past rows (Ok b)
+    ≡ rows_text (take b.records_read rows ++ rows_left b.version max_records b.opening (b.records_read + 1) (resumed_progress past) b.left)
 unfolding text_left rows_text
 text-begun max_records past rows b = grind (arith, nat_tests, flat_map-append)
 
@@ -250,28 +252,33 @@ pub text-whole : (max_records : ℕ) (row : Row) (rows : List Row) (opening : Op
 unfolding history_text
 text-whole max_records row rows opening some opens =
     rw (whole-opened max_records row rows opening some opens)
-    (text-begun max_records [] (row ∷ rows) (record { version = version_of row; opening = opening; read = 1; left = rows })
+    (text-begun max_records [] (row ∷ rows) (record { version = version_of row; opening = opening; records_read = 1; left = rows })
     ∙ ap (λ (first : List Row). rows_text (first ++ rows_left (version_of row) max_records opening 2 start rows)) (first-one row rows))
 
-pub run-written : (held : Promises) (max_records : ℕ) (kind : FirstKind) (rest : Row) (rows : List Row) (opening : Opening) → max_records ≤ 2 ^ 32
+pub run-written : (promises : Promises) (max_records : ℕ) (kind : FirstKind) (rest : Row) (rows : List Row) (opening : Opening) → max_records ≤ 2 ^ 32
     → opening_of (kind_word kind ∷ rest) ≡ Ok opening → 0 < max_records → let version = version_of (kind_word kind ∷ rest) in
     Written kind rest (rows_left version max_records opening 2 start rows) opening (lines_left version max_records opening 2 start rows)
-run-written held max_records kind rest rows opening few opens some =
+run-written promises max_records kind rest rows opening few opens some =
     let version : Version = version_of (kind_word kind ∷ rest) in
-    let is = opened held (kind_word kind ∷ rest) opening opens in
-    let fit : Opens opening = record { accepted = is.accepted; params = held.params opening.params is.in_range } in
+    let is = opened promises (kind_word kind ∷ rest) opening opens in
+    let fit : Opens opening = record { accepted = is.accepted; params = promises.params opening.params is.in_range } in
     let count = few-left version max_records opening 2 start rows (omega arith) in
-    record { opens = opens; are_lines = rows-lines version held max_records opening 2 start rows few fit (sound-start held opening); few = omega (arith, count) }
+    record {
+      opens = opens;
+      are_lines = rows-lines version promises max_records opening 2 start rows few fit (sound-start promises opening);
+      few = omega (arith, count);
+    }
 
-pub run-lines : (held : Promises) (max_records : ℕ) (row : Row) (rows : List Row) (opening : Opening) → 0 < max_records → max_records ≤ 2 ^ 32 → opening_of row ≡ Ok opening
+pub run-lines : (promises : Promises) (max_records : ℕ) (row : Row) (rows : List Row) (opening : Opening)
+    → 0 < max_records → max_records ≤ 2 ^ 32 → opening_of row ≡ Ok opening
     → IsHistoryText (history_text max_records (row ∷ rows)) opening (run_lines (version_of row) max_records opening rows)
 unfolding run_lines
-run-lines held max_records row rows opening some few opens =
-    let is = (opened held row opening opens).begins in
+run-lines promises max_records row rows opening some few opens =
+    let is = (opened promises row opening opens).begins in
     subst (λ (first : Row). IsHistoryText (history_text max_records (first ∷ rows)) opening (run_lines (version_of first) max_records opening rows)) (sym is.is)
     (let there = ap opening_of (sym is.is) ∙ opens in
     rw (text-whole max_records (kind_word is.kind ∷ is.rest) rows opening some there)
-    (written-tells held.texts is.kind is.rest _ opening _ (run-written held max_records is.kind is.rest rows opening few there some)))
+    (written-tells promises.texts is.kind is.rest _ opening _ (run-written promises max_records is.kind is.rest rows opening few there some)))
 
 -- ==== The audit of a run's history text finds it clean
 
@@ -287,21 +294,21 @@ pub record IsStepOfLine (opening : Opening) (progress : Progress) (line : Line) 
   pub legal : IsLegal opening progress.history → IsLegal opening later.history
 
 -- a line without an event is a step that leaves the history unchanged
-lines-none : (opening : Opening) (progress : Progress) (line : Line) (held : ℕ) → event_in line ≡ None
-    → IsStepOfLine opening progress line (record { history = progress.history; held = held })
+lines-none : (opening : Opening) (progress : Progress) (line : Line) (tail_length : ℕ) → event_in line ≡ None
+    → IsStepOfLine opening progress line (record { history = progress.history; tail_length = tail_length })
 unfolding events_of
-lines-none opening progress line held none = record { events = rw none (append-nil progress.history); legal = λ legal. legal }
+lines-none opening progress line tail_length none = record { events = rw none (append-nil progress.history); legal = λ legal. legal }
 
 lines-next : Promises → (opening : Opening) (progress : Progress) (request : Request)
     → IsStepOfLine opening progress (line_of_reply request (reply opening progress request)) (after opening progress request)
 unfolding events_of
-lines-next held opening progress (Apply caller command) =
+lines-next promises opening progress (Apply caller command) =
     requested-by (λ given later. IsStepOfLine opening progress (line_of_reply (Apply caller command) given) later) opening progress caller command
-    (λ free. record { events = refl; legal = λ legal. held.legal_with_one_more opening progress.history caller command legal free })
-    (λ why. lines-none opening progress Note progress.held refl)
-lines-next held opening progress (Fold n) = lines-none opening progress Note (after opening progress (Fold n)).held refl
-lines-next held opening progress (request.Clock clock) = lines-none opening progress (line.Clock clock) progress.held refl
-lines-next held opening progress _ = lines-none opening progress Note progress.held refl
+    (λ free. record { events = refl; legal = λ legal. promises.legal_with_one_more opening progress.history caller command legal free })
+    (λ why. lines-none opening progress Note progress.tail_length refl)
+lines-next promises opening progress (Fold n) = lines-none opening progress Note (after opening progress (Fold n)).tail_length refl
+lines-next promises opening progress (request.Clock clock) = lines-none opening progress (line.Clock clock) progress.tail_length refl
+lines-next promises opening progress _ = lines-none opening progress Note progress.tail_length refl
 
 abbrev AllAnswered : Opening → Progress → List Request → Type 0
 AllAnswered opening progress requests =
@@ -311,10 +318,10 @@ AllAnswered opening progress requests =
 
 lines-all : Promises → (opening : Opening) (progress : Progress) (requests : List Request) → AllAnswered opening progress requests
 unfolding lines_of_replies replies progress_after steps_of events_of
-lines-all held opening progress [] = (append-nil progress.history, λ legal. legal)
-lines-all held opening progress (request ∷ requests) =
-    let here = lines-next held opening progress request in
-    let later = lines-all held opening (after opening progress request) requests in
+lines-all promises opening progress [] = (append-nil progress.history, λ legal. legal)
+lines-all promises opening progress (request ∷ requests) =
+    let here = lines-next promises opening progress request in
+    let later = lines-all promises opening (after opening progress request) requests in
     let first : Line = line_of_reply request (reply opening progress request) in
     let rest = lines_of_replies requests (replies opening (after opening progress request) requests) in
     let events : progress.history ++ events_of (first ∷ rest)
@@ -338,8 +345,8 @@ pub record AreRuns (opening : Opening) (lines : List Line) (history : List Event
 pub lines-legal : Promises → (opening : Opening) (progress : Progress) (before : List Line) (requests : List Request) → All CanBeMade before
     → events_of before ≡ progress.history → IsLegal opening progress.history
     → AreRuns opening (before ++ lines_of_replies requests (replies opening progress requests)) (progress_after opening progress (steps_of requests)).history
-lines-legal held opening progress before requests made are_lines legal =
-    let all = lines-all held opening progress requests in
+lines-legal promises opening progress before requests made are_lines legal =
+    let all = lines-all promises opening progress requests in
     let lines = lines_of_replies requests (replies opening progress requests) in
     let events : events_of (before ++ lines) ≡ (progress_after opening progress (steps_of requests)).history =
     events-both before lines ∙ ap (λ (history : List Event). history ++ events_of lines) are_lines ∙ all.0 in
@@ -368,9 +375,9 @@ pub run-clean : ReadBack → LegalIsClean → Promises → (max_records : ℕ) (
     → text_finding (records_of (history_text max_records (row ∷ rows)))
     ≡ Ok (Clean (length (progress_at_end opening (requests_of (version_of row) (before_fault (version_of row) max_records 2 rows))).history))
 unfolding run_lines events_of
-run-clean read_back clean held max_records row rows opening some few opens =
+run-clean read_back clean promises max_records row rows opening some few opens =
     let asked = requests_of (version_of row) (before_fault (version_of row) max_records 2 rows) in
-    let runs = lines-legal held opening start [] asked (All-nil CanBeMade) refl (held.legal_at_first opening) in
+    let runs = lines-legal promises opening start [] asked (All-nil CanBeMade) refl (promises.legal_at_first opening) in
     clean (history_text max_records (row ∷ rows)) opening _ (read_back max_records row rows opening some few opens) runs.legal
     ∙ ap (λ (events : List Event). let found : Result Finding TraceFault = Ok (Clean (length events)) in found) runs.events
 
@@ -390,8 +397,8 @@ before-all version max_records number (row ∷ rows) e = by (record_fault versio
 pub whole-clean : ReadBack → LegalIsClean → Promises → (max_records : ℕ) (rows : List Row) (end : RunEnd) → max_records ≤ 2 ^ 32 → fault_of max_records rows ≡ None
     → end_of max_records rows ≡ Some end → text_finding (records_of (history_text max_records rows)) ≡ Ok (Clean end.events)
 unfolding fault_of end_of
-whole-clean read_back clean held max_records [] end few sound run_end = cc
-whole-clean read_back clean held max_records (row ∷ rows) end few sound run_end = by (opening_of row) refl
+whole-clean read_back clean promises max_records [] end few sound run_end = cc
+whole-clean read_back clean promises max_records (row ∷ rows) end few sound run_end = by (opening_of row) refl
   where
     found : ℕ → Result Finding TraceFault
     found events = Ok (Clean events)
@@ -402,7 +409,7 @@ whole-clean read_back clean held max_records (row ∷ rows) end few sound run_en
         let some : 0 < max_records = grind (arith, nat_tests, sound) in
         let none : first_fault (version_of row) max_records 2 rows ≡ None = grind (arith, nat_tests, sound, opens) in
         let same : end_left (version_of row) opening start 0 rows ≡ end = grind (arith, nat_tests, some, run_end, opens) in
-        run-clean read_back clean held max_records row rows opening some few opens
+        run-clean read_back clean promises max_records row rows opening some few opens
         ∙ ap (λ (all : List Row). found (length (progress_at_end opening (requests_of (version_of row) all)).history))
         (before-all (version_of row) max_records 2 rows none)
         ∙ ap (λ (r : RunEnd). found r.events) same
@@ -411,11 +418,11 @@ whole-clean read_back clean held max_records (row ∷ rows) end few sound run_en
 
 -- the laws of the crates below
 pub record Below : Type 0 where
-  pub held : Promises
+  pub promises : Promises
   pub opens : (rows : List Row) (begun : Preamble) → resumed_of rows ≡ Ok begun → HasPreamble rows begun
   pub behind : (rows more : List Row) (begun : Preamble) (opening : Opening) (past : List Event) (lines : List Line) → resumed_of rows ≡ Ok begun
-      → Resumes rows opening past → AreLinesOf Three more lines → begun.read + length more ≤ 2 ^ 32
-      → IsExcerptText (rows_text (take begun.read rows ++ more)) opening past lines
+      → Resumes rows opening past → AreLinesOf Three more lines → begun.records_read + length more ≤ 2 ^ 32
+      → IsExcerptText (rows_text (take begun.records_read rows ++ more)) opening past lines
   pub clean : (rows : List Row) (opening : Opening) (past : List Event) → AreLegal opening (map Valid past ++ excerpt_lines rows)
       → whole_finding opening past rows ≡ Clean (length (events_of (map Valid past ++ excerpt_lines rows)))
   pub events : EventsAreLines
@@ -425,7 +432,7 @@ pub record Below : Type 0 where
 -- a preamble with at most `max_records` records
 record Within (max_records : ℕ) (rows : List Row) (b : Preamble) : Type 0 where
   begun : resumed_of rows ≡ Ok b
-  few : b.read ≤ max_records
+  few : b.records_read ≤ max_records
 
 behind : (max_records : ℕ) (rows : List Row) (b : Preamble) → resumed_within max_records rows ≡ Ok b → and_then (resumed_of rows) (within_max max_records) ≡ Ok b
 behind max_records [] b e = e
@@ -445,7 +452,7 @@ within max_records rows b e = grind (arith, nat_tests, behind)
 
 text-resumed : (max_records : ℕ) (past : List Event) (rows : List Row) (b : Preamble) → resumed_within max_records rows ≡ Ok b
     → resumed_text max_records past rows
-    ≡ rows_text (take b.read rows ++ rows_left Three max_records b.opening (b.read + 1) (resumed_progress past) b.left)
+    ≡ rows_text (take b.records_read rows ++ rows_left Three max_records b.opening (b.records_read + 1) (resumed_progress past) b.left)
 unfolding resumed_text
 text-resumed max_records past rows b e = rw (part-opened max_records rows b e) (text-begun max_records past rows (beginning_of_preamble b))
 
@@ -464,20 +471,21 @@ resumed-clean law max_records rows opening past b few goes fit e =
     let shows : Represents opening b.core past = subst (λ (it : Preamble). Represents opening it.core past) same goes.shown in
     let legal : IsLegal b.opening past = subst (λ (o : Opening). IsLegal o past) (sym opened) shows.legal in
     let well = law.opens rows b at.begun in
-    let opens : Opens b.opening = record { accepted = well.accepted; params = law.held.params b.opening.params well.in_range } in
-    let sound : Sound b.opening (resumed_progress past) = record { legal = legal; fit = fit; held = omega arith } in
-    let more = rows_left Three max_records b.opening (b.read + 1) (resumed_progress past) b.left in
-    let lines = lines_left Three max_records b.opening (b.read + 1) (resumed_progress past) b.left in
-    let are_lines : AreLinesOf Three more lines = rows-lines Three law.held max_records b.opening (b.read + 1) (resumed_progress past) b.left few opens sound in
+    let opens : Opens b.opening = record { accepted = well.accepted; params = law.promises.params b.opening.params well.in_range } in
+    let sound : Sound b.opening (resumed_progress past) = record { legal = legal; fit = fit; bounded = omega arith } in
+    let more = rows_left Three max_records b.opening (b.records_read + 1) (resumed_progress past) b.left in
+    let lines = lines_left Three max_records b.opening (b.records_read + 1) (resumed_progress past) b.left in
+    let are_lines : AreLinesOf Three more lines = rows-lines Three law.promises max_records b.opening (b.records_read + 1) (resumed_progress past) b.left few opens sound in
     let within = at.few in
-    let count = few-left Three max_records b.opening (b.read + 1) (resumed_progress past) b.left (omega (arith, within)) in
-    let is_text : IsExcerptText (rows_text (take b.read rows ++ more)) opening past lines =
+    let count = few-left Three max_records b.opening (b.records_read + 1) (resumed_progress past) b.left (omega (arith, within)) in
+    let is_text : IsExcerptText (rows_text (take b.records_read rows ++ more)) opening past lines =
     law.behind rows more b opening past lines at.begun goes are_lines (omega (arith, count, few)) in
-    let runs = lines-legal law.held b.opening (resumed_progress past) (map Valid past) (requests_of Three (before_fault Three max_records (b.read + 1) b.left))
+    let runs = lines-legal law.promises b.opening (resumed_progress past) (map Valid past)
+    (requests_of Three (before_fault Three max_records (b.records_read + 1) b.left))
     (law.events.made past) (law.events.events past) legal in
     subst (λ (text : List ℕ). IsFound text opening past (Clean (length (progress_resumed max_records past b).history)))
     (sym (text-resumed max_records past rows b e))
-    (lines-clean law (rows_text (take b.read rows ++ more)) opening past lines (progress_resumed max_records past b).history is_text
+    (lines-clean law (rows_text (take b.records_read rows ++ more)) opening past lines (progress_resumed max_records past b).history is_text
     (subst (λ (o : Opening). AreRuns o (map Valid past ++ lines) (progress_resumed max_records past b).history) opened runs))
 
 -- ---- an excerpt without a fault
@@ -494,11 +502,11 @@ resumed-whole law max_records rows opening past end few goes fit sound run_end =
     by : (read : Result Preamble TraceFault) → resumed_within max_records rows ≡ read → found end.events
     by (Err why) is = absurd (grind (arith, nat_tests, sound, is))
     by (Ok b) is =
-        let none : first_fault Three max_records (b.read + 1) b.left ≡ None = grind (arith, nat_tests, sound, is) in
+        let none : first_fault Three max_records (b.records_read + 1) b.left ≡ None = grind (arith, nat_tests, sound, is) in
         let same : end_left Three b.opening (resumed_progress past) 0 b.left ≡ end = grind (arith, nat_tests, run_end, is) in
         subst (λ (r : RunEnd). found r.events) same
         (subst (λ (rest : List Row). found (length (progress_after b.opening (resumed_progress past) (steps_of (requests_of Three rest))).history))
-        (before-all Three max_records (b.read + 1) b.left none) (resumed-clean law max_records rows opening past b few goes fit is))
+        (before-all Three max_records (b.records_read + 1) b.left none) (resumed-clean law max_records rows opening past b few goes fit is))
 
 -- ==== The run of an excerpt after a history gives the answers of the whole from there on
 
@@ -516,14 +524,14 @@ progress-append opening from (request ∷ xs) ys = grind (arith, nat_tests, prog
 
 pub whole_replies : (opening : Opening) (earlier later : List Request)
     → let there = progress_at_end opening earlier in
-    replies opening start (earlier ++ Fold there.held ∷ later)
-    ≡ replies opening start earlier ++ fold_reply there.held ∷ replies opening (resumed_progress there.history) later
+    replies opening start (earlier ++ Fold there.tail_length ∷ later)
+    ≡ replies opening start earlier ++ fold_reply there.tail_length ∷ replies opening (resumed_progress there.history) later
 unfolding replies
 whole_replies opening earlier later = grind (arith, nat_tests, replies-append)
 
 pub whole_ends : (opening : Opening) (earlier later : List Request)
     → let there = progress_at_end opening earlier in
-    progress_at_end opening (earlier ++ Fold there.held ∷ later) ≡ progress_after opening (resumed_progress there.history) (steps_of later)
+    progress_at_end opening (earlier ++ Fold there.tail_length ∷ later) ≡ progress_after opening (resumed_progress there.history) (steps_of later)
 unfolding progress_after steps_of
 whole_ends opening earlier later = grind (arith, nat_tests, progress-append)
 
@@ -550,14 +558,14 @@ behind-queue count (packet ∷ waiting) (row ∷ before) after left is =
 
 -- the laws of pie_excerpt on all preambles
 module _ (again : (row : Row) (rows : List Row) (begun : Preamble) → resumed_of (row ∷ rows) ≡ Ok begun
-    → take begun.read (row ∷ rows) ≡ row ∷ map queued_row begun.core.waiting)
+    → take begun.records_read (row ∷ rows) ≡ row ∷ map queued_row begun.core.waiting)
     (alone : (rows more : List Row) (begun : Preamble) → resumed_of rows ≡ Ok begun
-    → resumed_of (take begun.read rows ++ more) ≡ Ok (record begun { left = more }))
+    → resumed_of (take begun.records_read rows ++ more) ≡ Ok (record begun { left = more }))
     (opens : (rows : List Row) (begun : Preamble) → resumed_of rows ≡ Ok begun → HasPreamble rows begun) where
   -- the records behind a preamble are those that its reader left
-  left-is : (rows : List Row) (begun : Preamble) → resumed_of rows ≡ Ok begun → drop begun.read rows ≡ begun.left
-  left-is rows begun is = same (resumed_of rows) (record begun { left = drop begun.read rows }) begun
-      (ap resumed_of (sym (take-append-drop begun.read rows)) ∙ alone rows (drop begun.read rows) begun is) is
+  left-is : (rows : List Row) (begun : Preamble) → resumed_of rows ≡ Ok begun → drop begun.records_read rows ≡ begun.left
+  left-is rows begun is = same (resumed_of rows) (record begun { left = drop begun.records_read rows }) begun
+      (ap resumed_of (sym (take-append-drop begun.records_read rows)) ∙ alone rows (drop begun.records_read rows) begun is) is
     where
       same : (read : Result Preamble TraceFault) (a b : Preamble) → read ≡ Ok a → read ≡ Ok b → a.left ≡ b.left
       same read a b e f = cc
@@ -570,8 +578,8 @@ module _ (again : (row : Row) (rows : List Row) (begun : Preamble) → resumed_o
   begun-left count (row ∷ before) after begun is =
       let rows : List Row = row ∷ (before ++ (lost_row count ∷ after)) in
       let whole : row ∷ (before ++ (lost_row count ∷ after)) ≡ row ∷ (map queued_row begun.core.waiting ++ begun.left) =
-      sym (take-append-drop begun.read rows)
-      ∙ ap (λ (front : List Row). front ++ drop begun.read rows) (again row (before ++ (lost_row count ∷ after)) begun is)
+      sym (take-append-drop begun.records_read rows)
+      ∙ ap (λ (front : List Row). front ++ drop begun.records_read rows) (again row (before ++ (lost_row count ∷ after)) begun is)
       ∙ ap (λ (left : List Row). row ∷ (map queued_row begun.core.waiting ++ left)) (left-is rows begun is) in
       behind-queue count begun.core.waiting before after begun.left
       (let rest : before ++ (lost_row count ∷ after) ≡ map queued_row begun.core.waiting ++ begun.left = cc in rest)
@@ -583,5 +591,5 @@ module _ (again : (row : Row) (rows : List Row) (begun : Preamble) → resumed_o
       by : (r : Result Preamble TraceFault) → resumed_of (before ++ (lost_row count ∷ after)) ≡ r → fault_after r ≢ None
       by (Err why) is = λ e. cc
       by (Ok begun) is = let has = begun-left count before after begun is in λ e.
-          lost-later Three (2 ^ 32) (begun.read + 1) count has.before has.after
-          (ap (λ (rs : List Row). fault_from Three (2 ^ 32) (begun.read + 1) rs) (sym has.is) ∙ e)
+          lost-later Three (2 ^ 32) (begun.records_read + 1) count has.before has.after
+          (ap (λ (rs : List Row). fault_from Three (2 ^ 32) (begun.records_read + 1) rs) (sym has.is) ∙ e)

@@ -39,14 +39,14 @@ pub record IsAt (book : BookView) (opening : Opening) (progress : Progress) : Ty
   pub opened : book.opening ≡ opening
   pub accepted : opening_refusal opening.limits opening.moment ≡ None
   pub book_represents : BookRepresents book progress.history
-  pub held : length book.tail ≡ progress.held
+  pub tail_length : length book.tail ≡ progress.tail_length
 
 -- a book runs with this core from this opening, and its tail has this number of events
 pub record IsRunning (book : BookView) (opening : Opening) (it : Running) : Type 0 where
   pub opened : book.opening ≡ opening
   pub accepted : opening_refusal opening.limits opening.moment ≡ None
   pub core : book.running ≡ it.core
-  pub held : length book.tail ≡ it.held
+  pub tail_length : length book.tail ≡ it.tail_length
 
 -- a book is in this state, of either kind
 abbrev pub IsInState : BookView → Opening → RunState → Type 0

@@ -12,7 +12,7 @@ ghost use Rattle.std.specs.Prelude.{◌++◌, ◌<◌, ◌^◌, ◌∷◌, ◌�
 use pie_audit::{
     clean_excerpts_are_legal, clean_is_legal, events_are_lines, written_excerpts_are_read,
 };
-use pie_book::{all_numbers_are_held, profile_one_is_always_active};
+use pie_book::{all_numbers_fit, profile_one_is_always_active};
 use pie_excerpt::preambles_are_written_again;
 use pie_record::{
     answers_are_read_back, openings_are_checked, requests_are_written_again, texts_are_read_back,
@@ -21,10 +21,10 @@ use pie_record::{
 /// The promises of the lower crates about all histories and all records.
 ///
 /// The function does nothing: its contract is the law.
-pub(crate) fn all_is_held()
+pub(crate) fn promises_hold()
     ensures { Promises }
 {
-    all_numbers_are_held();
+    all_numbers_fit();
     answers_are_read_back();
     openings_are_checked();
     requests_are_written_again();
@@ -41,7 +41,7 @@ pub fn history_texts_are_read_back()
     ensures { (max_records : ℕ) (row : Row) (rows : List Row) (opening : Opening) → 0 < max_records → max_records ≤ 2 ^ 32 → opening_of row ≡ Ok opening
         → IsHistoryText (history_text max_records (row ∷ rows)) opening (run_lines (version_of row) max_records opening rows) }
 {
-    all_is_held();
+    promises_hold();
 }
 
 /// The law of excerpts: the run of an excerpt gives the answers of the whole from there on. Let a whole trace have
@@ -53,10 +53,10 @@ pub fn history_texts_are_read_back()
 #[tactic(auto, using(crate::proofs::RunBack::whole_replies, crate::proofs::RunBack::whole_ends))]
 pub fn resumed_runs_continue_the_whole()
     ensures answers { (opening : Opening) (earlier later : List Request) → let there = progress_at_end opening earlier in
-        replies opening start (earlier ++ Request.Fold there.held ∷ later)
-        ≡ replies opening start earlier ++ fold_reply there.held ∷ replies opening (resumed_progress there.history) later }
+        replies opening start (earlier ++ Request.Fold there.tail_length ∷ later)
+        ≡ replies opening start earlier ++ fold_reply there.tail_length ∷ replies opening (resumed_progress there.history) later }
     ensures ends { (opening : Opening) (earlier later : List Request) → let there = progress_at_end opening earlier in
-        progress_at_end opening (earlier ++ Request.Fold there.held ∷ later) ≡ progress_after opening (resumed_progress there.history) (steps_of later) }
+        progress_at_end opening (earlier ++ Request.Fold there.tail_length ∷ later) ≡ progress_after opening (resumed_progress there.history) (steps_of later) }
 {}
 
 /// The law of clean runs. The finding of a trace's history text is `Clean`, with the number of events that the run
@@ -71,7 +71,7 @@ pub fn runs_are_clean()
         → text_finding (records_of (history_text max_records (row ∷ rows)))
         ≡ Ok (Clean (length (progress_at_end opening (requests_of (version_of row) (before_fault (version_of row) max_records 2 rows))).history)) }
 {
-    all_is_held();
+    promises_hold();
     clean_is_legal();
     history_texts_are_read_back();
 }
@@ -90,7 +90,7 @@ pub fn resumed_runs_are_clean()
         → Resumes rows opening past → All (λ event. CommandFits event.command) past → resumed_within max_records rows ≡ Ok begun
         → IsFound (resumed_text max_records past rows) opening past (Clean (length (progress_resumed max_records past begun).history)) }
 {
-    all_is_held();
+    promises_hold();
     preambles_are_written_again();
     clean_excerpts_are_legal();
     events_are_lines();
@@ -142,7 +142,7 @@ pub fn migrated_runs_are_runs_of_version_two()
     ensures { (max_records : ℕ) (row : Row) (rows : List Row) → max_records ≤ 2 ^ 32
         → migrated_text (2 ^ 32) (records_of (history_text max_records (row ∷ rows))) ≡ history_text max_records (first_in_two row ∷ rows) }
 {
-    all_is_held();
+    promises_hold();
     profile_one_is_always_active();
 }
 

@@ -103,8 +103,8 @@ def set_params(state: RawState, params: Params, asked: RawEvent) -> None:
         raise Refused(code, params.check() or "" if code == Refusal.BAD_PARAMS else "")
 
 
-class Held:
-    """The owner of a controller's numbers. A copy, and an unpickled object, has numbers of its own; an object with
+class StateOwner:
+    """The owner of a controller's state. A copy, and an unpickled object, has a state of its own; an object with
     a history cannot be copied."""
 
     _state: RawState
@@ -115,8 +115,8 @@ class Held:
             raise TypeError(f"a {type(self).__name__} that records a history cannot be copied: both would write to one text")
         return {**self.__dict__, "_state": bytes(self._state)}
 
-    def __setstate__(self, held: dict[str, Any]) -> None:
-        self.__dict__.update(held, _state=RawState.from_buffer_copy(held["_state"]))
+    def __setstate__(self, pickled: dict[str, Any]) -> None:
+        self.__dict__.update(pickled, _state=RawState.from_buffer_copy(pickled["_state"]))
 
     def __repr__(self) -> str:
         return f"{type(self).__name__}({self._numbers()})"
@@ -135,7 +135,7 @@ class Held:
         return int(LIBRARY.pie_due(byref(self._state)))
 
 
-class Controller(Held):
+class Controller(StateOwner):
     """A PIE controller for a queue of the caller. The caller has the packets, the clock and the
     random words. Each method is a call of include/pie.h, which states the caller's duties. A
     refused call raises `Refused` and changes nothing. With a `Recorder` each call writes its

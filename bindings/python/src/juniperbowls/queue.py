@@ -12,7 +12,7 @@ import numpy as np
 import numpy.typing as npt
 
 from ._library import ALL, EVENTS, GROW, LIBRARY, MAX_MOMENT, OUT, REFUSED, RawEvent, RawQueue, RawState, number
-from .controller import Ecn, Held, Kind, Updated, Verdict, event, opened, set_params
+from .controller import Ecn, Kind, StateOwner, Updated, Verdict, event, opened, set_params
 from .history import EVENT, Events, Place, Recorder
 from .opening import Opening, Params, whole
 from .refusal import Refused
@@ -78,7 +78,7 @@ def events(kinds: npt.ArrayLike, moments: npt.ArrayLike, **columns: npt.ArrayLik
     return made
 
 
-class Queue(Held):
+class Queue(StateOwner):
     """A packet queue with PIE. An error raises `Refused` and changes nothing. `history` is a file name or a
     `Recorder`: every event is then recorded, by the library's writers, and `pie audit` finds the history clean. An
     existing file is left unchanged, unless `force` replaces it. Random words that are not passed come from a
@@ -105,8 +105,8 @@ class Queue(Held):
         own = {"_queue": bytes(self._queue), "_ring": self._ring.copy(), "_random": copy.deepcopy(self._random)}
         return {**super().__getstate__(), **own}
 
-    def __setstate__(self, held: dict[str, Any]) -> None:
-        super().__setstate__({**held, "_queue": RawQueue.from_buffer_copy(held["_queue"])})
+    def __setstate__(self, pickled: dict[str, Any]) -> None:
+        super().__setstate__({**pickled, "_queue": RawQueue.from_buffer_copy(pickled["_queue"])})
         self._queue.ring = self._ring.ctypes.data
 
     def _numbers(self) -> str:

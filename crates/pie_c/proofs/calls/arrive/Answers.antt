@@ -1,6 +1,6 @@
 use Rattle.pie_c.specs.{Arrive}
 use Rattle.pie_c.proofs.Names.{◌≡◌, ◌==◌, ◌∙◌, ap, arith, nat_tests, Ecn, ArrivingPacket, arrived, verdict, PieState, verdict_number, arrival_of}
-use Rattle.pie_c.proofs.Names.{arrival_refusal, held_in, with_arrival}
+use Rattle.pie_c.proofs.Names.{arrival_refusal, controller_state, with_arrival}
 use Rattle.pie_c.proofs.Packets.{arrived-state, given_calls, kept-later, makes, name-later, verdict-later}
 use Rattle.pie_c.proofs.calls.arrive.Goals as goal
 use Rattle.pie_c.proofs.calls.arrive.Goals.{After-of_verdict}
@@ -19,13 +19,13 @@ module _ (c : After-of_verdict) where
   unfolding arrival_refusal
   taken = grind (c.in-Some.ensures.two, arith, nat_tests)
 
-  left : c.keep_arrived.new.self ≡ with_arrival state (arrived (held_in state) arrival c.args.moment)
-  left = c.keep_arrived.ensures ∙ kept-later state _ _ _ c.args.moment _ _ c.reach.ensures c.raw_with-held.ensures.held
+  left : c.keep_arrived.new.self ≡ with_arrival state (arrived (controller_state state) arrival c.args.moment)
+  left = c.keep_arrived.ensures ∙ kept-later state _ _ _ c.args.moment _ _ c.reach.ensures c.raw_with-controller.ensures.controller
       c.arrive_with_name-verdict.ensures.after
       (ap with_ecn c.in-Some.ensures.value)
 
-  decided : c.arrive_with_name-verdict.result.0 ≡ verdict (held_in state) arrival
-  decided = verdict-later state _ _ _ c.args.moment _ _ c.reach.ensures c.raw_with-held.ensures.held c.arrive_with_name-verdict.ensures.verdict
+  decided : c.arrive_with_name-verdict.result.0 ≡ verdict (controller_state state) arrival
+  decided = verdict-later state _ _ _ c.args.moment _ _ c.reach.ensures c.raw_with-controller.ensures.controller c.arrive_with_name-verdict.ensures.verdict
       (ap with_ecn c.in-Some.ensures.value)
 
 pub returns-clause-arrives : goal.returns-clause-arrives
@@ -33,11 +33,11 @@ unfolding arrival_refusal
 returns-clause-arrives c = let a = c.args in record {
   answer = rw (taken c) (c.of_verdict.ensures ∙ ap verdict_number (decided c));
   fields = rw (taken c) (left c);
-  held = λ sound. makes c.laws.ensures.keeps c.laws.ensures.looks a.state.now _ (Arrive (arrival c) a.moment) _ sound
+  if_sound = λ sound. makes c.laws.ensures.keeps c.laws.ensures.looks a.state.now _ (Arrive (arrival c) a.moment) _ sound
       (rw (taken c) (left c ∙ arrived-state (state c) (arrival c) a.moment sound)) (given_calls a.moment _);
 }
 
 pub returns-clause-name : goal.returns-clause-name
 returns-clause-name c = λ _ packets.
-    name-later (state c) _ _ _ c.args.moment packets _ _ c.reach.ensures c.raw_with-held.ensures.held c.arrive_with_name-verdict.ensures.name
+    name-later (state c) _ _ _ c.args.moment packets _ _ c.reach.ensures c.raw_with-controller.ensures.controller c.arrive_with_name-verdict.ensures.name
     (ap (with_ecn c) c.in-Some.ensures.value)

@@ -1,6 +1,6 @@
-use Rattle.pie_c.proofs.Names.{◌≡◌, ◌∙◌, sym, opening_refusal, held_by_opening, elements_of, profile_of}
+use Rattle.pie_c.proofs.Names.{◌≡◌, ◌∙◌, sym, opening_refusal, opening_state, elements_of, profile_of}
 use Rattle.pie_c.proofs.Packets.{opened-state, opening-free, opening-taken}
-use Rattle.pie_c.proofs.Sound.{held-state, params-from, state-sound}
+use Rattle.pie_c.proofs.Sound.{controller-of-state, params-from, state-sound}
 use Rattle.pie_c.proofs.opening.pie_open.Goals as goal
 use Rattle.pie_c.proofs.opening.pie_open.Goals.{After-calls_look_back}
 
@@ -11,7 +11,7 @@ pub returns-clause-after : goal.returns-clause-after
 returns-clause-after c =
     let says = sym c.checked.ensures ∙ c.in-Ok.is in
     rw (free c) (c.keep_registers.ensures
-    ∙ opened-state c.args.state.now c.args.opening.now c.in-Ok.it c.raw.result c.opened-held.result says c.raw.ensures.same c.opened-held.ensures)
+    ∙ opened-state c.args.state.now c.args.opening.now c.in-Ok.it c.raw.result c.opened-controller.result says c.raw.ensures.same c.opened-controller.ensures)
 
 pub returns-clause-sound : goal.returns-clause-sound
 returns-clause-sound c taken =
@@ -24,5 +24,5 @@ returns-clause-sound c taken =
 pub returns-clause-represents : goal.returns-clause-represents
 returns-clause-represents c taken =
     let o = c.args.opening.now in
-    rw (returns-clause-after c, taken, held-state (held_by_opening o))
+    rw (returns-clause-after c, taken, controller-of-state (opening_state o))
     (c.calls_look_back.ensures.opens (profile_of o.profile) (elements_of o.choices) o.params o.moment)

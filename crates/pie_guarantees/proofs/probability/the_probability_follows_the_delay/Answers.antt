@@ -1,4 +1,5 @@
-use Rattle.pie_guarantees.proofs.Names.{AtEachEvent, ◌≤◌, arith, subst, sym, [], append-nil, in-range, ControllerState, held_after, params_after, probability_after}
+use Rattle.pie_guarantees.proofs.Names.{AtEachEvent, ◌≤◌, arith, subst, sym, [], append-nil, in-range, ControllerState}
+use Rattle.pie_guarantees.proofs.Names.{state_after, params_after, probability_after}
 use Rattle.pie_guarantees.proofs.Names.{waiting_after}
 use Rattle.pie_guarantees.proofs.LawfulFacts.{sound_at, step_at}
 use Rattle.pie_guarantees.proofs.NextFacts.{next_capped, next_decays, next_down, next_up}
@@ -22,6 +23,6 @@ returns c = record {
       rw (prob-next opening before event (step_at opening before event later lawful) active) (next_decays _ _ _ _ _ low fallen);
   nothing_else_raises = λ opening before event later lawful other.
       let step = step_at opening before event later lawful in
-      subst (λ (g : ControllerState). g.control.prob ≤ probability_after opening before) (sym step.held)
-      (stays-or-zero (held_after opening before) (waiting_after opening before) opening.limits.packets event.command event.answer other);
+      subst (λ (g : ControllerState). g.control.prob ≤ probability_after opening before) (sym step.state)
+      (stays-or-zero (state_after opening before) (waiting_after opening before) opening.limits.packets event.command event.answer other);
 }

@@ -12,7 +12,7 @@ unreachable-requires g c =
 
 pub write_history-requires : goal.write_history-requires
 write_history-requires g c = record {
-  fitting = fit-legal c.all_numbers_are_held.ensures.kinds (opening_of c.args.plan.now) c.args.events.now c.requires.legal;
+  fitting = fit-legal c.all_numbers_fit.ensures.kinds (opening_of c.args.plan.now) c.args.events.now c.requires.legal;
 }
 
 pub returns-clause-written : goal.returns-clause-written

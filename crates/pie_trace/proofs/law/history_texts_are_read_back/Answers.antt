@@ -2,4 +2,4 @@ use Rattle.pie_trace.proofs.RunBack.{run-lines}
 use Rattle.pie_trace.proofs.law.history_texts_are_read_back.Goals as goal
 
 pub returns : goal.returns
-returns c = run-lines c.all_is_held.ensures
+returns c = run-lines c.promises_hold.ensures

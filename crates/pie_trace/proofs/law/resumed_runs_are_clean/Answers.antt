@@ -4,7 +4,7 @@ use Rattle.pie_trace.proofs.law.resumed_runs_are_clean.Goals as goal
 pub returns : goal.returns
 returns c =
     let below : Below = record {
-      held = c.all_is_held.ensures;
+      promises = c.promises_hold.ensures;
       opens = c.preambles_are_written_again.ensures.opens;
       behind = c.written_excerpts_are_read.ensures.behind;
       clean = c.clean_excerpts_are_legal.ensures.legal_is_clean;

@@ -1,6 +1,6 @@
 use Rattle.pie_summary.proofs.Names.{arith, lit≤, refl, sym, range_of}
 use Rattle.pie_summary.proofs.RangeFacts.{range_at}
-use Rattle.pie_summary.proofs.ranges.range_apart.Goals as goal
+use Rattle.pie_summary.proofs.ranges.range_place_out_of_line.Goals as goal
 
 pub returns-then-number-lt100000-clause-place : goal.returns-then-number-lt100000-clause-place
 unfolding range_of

@@ -4,7 +4,7 @@ use Rattle.pie_early.proofs.Names.{ne_eqb, Derandomized, Enqueue, EarlyEvent, ar
 use Rattle.pie_early.proofs.Names.{accumulates, cleared, Parts, Ecn, Choice, always_picked, is_considered, is_picked, picked_choice, accu_at}
 use Rattle.pie_early.proofs.Names.{choice_at, choice_of, Elements, Offered, fate_of, counted}
 use Rattle.std.proofs.Common.{zero, suc, ◌-◌, not, length, drop, filter, replicate, add-one, append_assoc, ◌↔◌, ◌&&◌, ◌/◌}
-use Rattle.std.specs.Prelude.{sum_by, IsTrue, ◌⊎◌}
+use Rattle.std.specs.Prelude.{sum_by, IsTrue}
 use Rattle.std.specs.List.{after_last, suffix_len}
 use Rattle.std.proofs.lemmas.List.{drop-append-le, drop_all, length_push, reverse-append, replicate_more}
 use Rattle.std.proofs.lemmas.List.Elements.{filter-append}
@@ -12,10 +12,6 @@ use Rattle.std.proofs.lemmas.List.Sums.{sum_by-append, suffix_len-le-length}
 use Rattle.pie_early.specs.Events.{is_clearing, joins, prob_of}
 use Rattle.pie_early.specs.Decision.{is_pick, IsPicked, chosen}
 use Rattle.pie_event.specs.Cause.{verdict_of}
-use Rattle.pie_event.specs.CauseName.{name_of}
-use Rattle.pie_event.specs.declared.cause.Fate.{Fate}
-use Rattle.pie_event.specs.declared.cause_name.CauseName.{CauseName}
-use Rattle.pie_event.specs.declared.cause_name.CauseName.TheVariants.{NoRoomInBytes, NoRoomInPackets, Inactive}
 use Rattle.pie_early.specs.Cause.{considered_cause, early_cause}
 use Rattle.std.proofs.Math.Nat.{div-le_of_le-mul}
 
@@ -168,26 +164,6 @@ module _ (elements : Elements) (params : RawParams) (parts : Parts) (offered : O
   pub cause_verdict : verdict_of (early_cause elements params parts offered accu) ≡ chosen (choice_of elements params parts offered accu)
   unfolding early_cause considered_cause is_considered is_picked
   cause_verdict = grind (arith, nat_tests)
-
--- true for the names of the causes that precede early drop
-abbrev precedes : CauseName → Bool
-precedes NoRoomInBytes = true
-precedes NoRoomInPackets = true
-precedes Inactive = true
-precedes _ = false
-
-considered_is_early : (picking : Picking) (prob accu : ℕ) (fate : Fate) (word : ℕ) → precedes (name_of (considered_cause picking prob accu fate word)) ≡ false
-unfolding considered_cause
-considered_is_early picking prob accu fate word = grind (arith, nat_tests)
-
--- early drop has no such cause
-pub cause_is_early : (elements : Elements) (params : RawParams) (parts : Parts) (offered : Offered) (accu : ℕ) (name : CauseName)
-    → name ≡ name_of (early_cause elements params parts offered accu)
-    → (name ≡ NoRoomInBytes) ⊎ ((name ≡ NoRoomInPackets) ⊎ (name ≡ Inactive)) → ⊥
-unfolding early_cause
-cause_is_early elements params parts offered accu name is which =
-    let early : precedes name ≡ false = ap precedes is ∙ grind (arith, nat_tests, considered_is_early) in
-    grind (arith, nat_tests, early, which)
 
 -- ---- Bounds of a scaled probability
 

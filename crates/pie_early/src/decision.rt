@@ -214,7 +214,7 @@ fn fate_of(params: &RawParams, prob: u64, ecn: Ecn) -> Fate
 
 /// Returns the cause of the decision on an arrival: the first case of the rules that holds, with the numbers that it
 /// compared. [`decide`] returns its name.
-#[tactic(auto, using(std::proofs::lemmas::Bool::Decides::nat_tests), unfolding(crate::specs::Cause::early_cause, crate::specs::Cause::considered_cause))]
+#[tactic(auto, using(std::proofs::lemmas::Bool::Decides::nat_tests), unfolding(crate::specs::Cause::early_cause, crate::specs::Decision::is_considered))]
 pub fn cause(
     params: &RawParams,
     elements: Elements,
@@ -225,22 +225,39 @@ pub fn cause(
     ensures cause { result ≡ early_cause elements params.now control.now offered accu }
     ensures verdict { verdict_of result ≡ chosen (choice_of elements params.now control.now offered accu) }
 {
-    let prob = counted_as(elements.size, params, offered.size, control.prob);
-    let fate = fate_of(params, control.prob, offered.ecn);
-    match decide(params, elements, control, offered, accu).name {
-        CauseName::BurstAllowed => Cause::BurstAllowed {
+    match unconsidered(params, control, offered.bytes) {
+        None => considered_cause(params, elements, control, offered, accu),
+        Some(CauseName::BurstAllowed) => Cause::BurstAllowed {
             burst: control.burst,
         },
-        CauseName::LowDelay => Cause::LowDelay {
+        Some(CauseName::LowDelay) => Cause::LowDelay {
             old_delay: control.old_delay,
             target: params.target,
             prob: control.prob,
         },
-        CauseName::ShortQueue => Cause::ShortQueue {
+        Some(_) => Cause::ShortQueue {
             bytes: offered.bytes,
             mean_pkt: params.mean_pkt,
         },
-        CauseName::NoProbability => Cause::NoProbability,
+    }
+}
+
+/// Returns the cause of the decision on a considered arrival.
+#[inline(always)]
+#[tactic(auto, using(std::proofs::lemmas::Bool::Decides::nat_tests), unfolding(crate::specs::Cause::considered_cause))]
+fn considered_cause(
+    params: &RawParams,
+    elements: Elements,
+    control: &RawControl,
+    offered: Offered,
+    accu: u64,
+) -> Cause
+    ensures { result ≡ considered_cause elements.picking (counted_as elements.size params.now offered.size control.now.prob) accu
+        (fate_of params.now control.now.prob offered.ecn) offered.word }
+{
+    let prob = counted_as(elements.size, params, offered.size, control.prob);
+    let fate = fate_of(params, control.prob, offered.ecn);
+    match decide_considered(params, elements.picking, control.prob, offered, prob, accu).name {
         CauseName::LittleAccumulated => Cause::LittleAccumulated { accu, prob },
         CauseName::PickedBySum
         | CauseName::PickedBySumNotCapable
@@ -258,8 +275,6 @@ pub fn cause(
             prob,
             word: offered.word,
         },
-        CauseName::NoRoomInBytes | CauseName::NoRoomInPackets | CauseName::Inactive => {
-            unreachable!()
-        }
+        _ => Cause::NoProbability,
     }
 }

@@ -57,10 +57,10 @@ CLAUSES = {
     "picks_are_far_apart": ["IsEarly event → 850_000_000_000 ≤ (considered_in opening before between + 1) * most }"],
     "picks_are_not_too_far_apart": ["considered_in opening before between * least < 8_500_000_000_000)"],
     "picks_are_not_consecutive": ["considered_in opening (before ++ first ∷ []) between ≡ 0 → IsEarly second "
-                                   "→ 850_000_000_000 ≤ counted_at opening (before ++ first ∷ [] ++ between) second }"],
+                                   "→ 850_000_000_000 ≤ effective_prob_at opening (before ++ first ∷ [] ++ between) second }"],
     "picks_share_the_probability": [
-        "850_000_000_000 * picks_in between ≤ counted_in opening before between)",
-        "counted_in opening before between "
+        "850_000_000_000 * picks_in between ≤ effective_sum_in opening before between)",
+        "effective_sum_in opening before between "
         "< 9_500_000_000_000 * picks_in between + 8_500_000_000_000 * (restarts_in opening before between + 1))"],
     "lasting_delays_raise_the_probability": [
         "updates_to_a_tenth (params_after opening before) least ≤ updates_in between → 10 ^ 11 ≤ probability_after opening (before ++ between))",
@@ -162,7 +162,7 @@ class Laws:
         self.limits, self.samples = [self.params["limit_bytes"]], Samples()
         self.queue, self.verdicts, self.arrivals = [], Counter(), 0
         self.high, self.low, self.considered = 0, ONE, 0
-        # sums since the last restart: of counted probabilities less 0.85 for each pick, and less 9.5 for each pick
+        # sums since the last restart: of effective probabilities less 0.85 for each pick, and less 9.5 for each pick
         # and 8.5 for each other restart; the greatest first sum while nothing was accumulated, and the least second
         # sum
         self.least_sum, self.most_sum, self.least_start, self.most_start, self.sum = 0, 0, 0, 0, 0

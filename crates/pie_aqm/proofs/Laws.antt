@@ -17,7 +17,7 @@ use Rattle.pie_aqm.proofs.Places.{filter_map-push, from_places-push, greatest-pu
 use Rattle.pie_aqm.specs.ControllerState.{ControllerState}
 use Rattle.pie_aqm.proofs.Sounds.{threshold-holds}
 use Rattle.pie_params.specs.Range.{first_bad}
-use Rattle.pie_early.specs.Decision.{counted}
+use Rattle.pie_early.specs.Decision.{effective_prob_of}
 use Rattle.pie_early.specs.Events.{EarlyEvent, arrival, cleared}
 use Rattle.pie_early.proofs.Laws.{represents_arrival, represents-next}
 use Rattle.pie_rate.specs.Estimate.{after_departure}
@@ -177,12 +177,12 @@ early-push opened events event = rw (filtered-push (early_at opened) opened even
 -- the list after an arrival and its verdict
 pub early-step : (h : ControllerState) (a : ArrivingPacket) (events : List EarlyEvent) → Early.Represents events h.accu
     → Early.Represents (events ++ verdict_input (verdict h a) (considered_where h.active h.params h.control a.queued)
-    (counted h.elements h.params h.control (offered a)) h.elements.picking ∷ []) (accu_left h a)
+    (effective_prob_of h.elements h.params h.control (offered a)) h.elements.picking ∷ []) (accu_left h a)
 unfolding verdict accu_left
 early-step h a events shown =
     let as_cleared = represents-next events h.accu cleared shown in
-    let unseen = represents-next events h.accu (arrival false (counted h.elements h.params h.control (offered a)) h.elements.picking Enqueue) shown in
-    let seen = represents_arrival h.elements.picking h.params h.control (counted h.elements h.params h.control (offered a)) a.queued a.word h.accu events
+    let unseen = represents-next events h.accu (arrival false (effective_prob_of h.elements h.params h.control (offered a)) h.elements.picking Enqueue) shown in
+    let seen = represents_arrival h.elements.picking h.params h.control (effective_prob_of h.elements h.params h.control (offered a)) a.queued a.word h.accu events
     a.ecn shown in
     grind (arith, nat_tests)
 

@@ -12,7 +12,7 @@ use Rattle.pie_rate.specs.Estimate.{Estimate, begun_at}
 use Rattle.pie_control.specs.Delay.{delay_of}
 use Rattle.pie_control.specs.Events.{ControlEvent, update_at, idled, reset}
 use Rattle.pie_control.specs.History.{probability, last_delay, last_moment, burst_allowance, is_calm_after}
-use Rattle.pie_early.specs.Decision.{counted_as, is_considered}
+use Rattle.pie_early.specs.Decision.{effective_prob, is_considered}
 use Rattle.pie_early.specs.Events.{EarlyEvent, arrival, cleared}
 use Rattle.pie_early.specs.History.{accumulated}
 use Rattle.pie_event.specs.declared.verdict.Verdict.TheVariants.{Enqueued, Marked, DroppedEarly, DroppedBytes, DroppedPackets}
@@ -158,7 +158,7 @@ considered_where active params parts queued = active && is_considered params par
 abbrev pub early_input : ControllerEvent → Bool → Bool → Elements → RawParams → Parts → Option EarlyEvent
 early_input (Arrived verdict size before after moment) active turned_on elements params parts =
     Some (if turned_on then cleared
-    else verdict_input verdict (considered_where active params parts before) (counted_as elements.size params size parts.prob) elements.picking)
+    else verdict_input verdict (considered_where active params parts before) (effective_prob elements.size params size parts.prob) elements.picking)
 early_input (Reset moment) active turned_on elements params parts = Some cleared
 early_input event active turned_on elements params parts = None
 

@@ -3,12 +3,12 @@ pub use Rattle.pie_aqm.specs.Places.{Place, after}
 pub use Rattle.pie_audit.specs.{All, Answer, Appends, AreLegal, AuditorView, Audits, AuditsFrom, Begins, BeginsAt, BeginsAtCore, BeginsBy, BegunBy}
 pub use Rattle.pie_audit.specs.{CanBeMade, Clean, Command, CoreSnapshot, CoreView, Differs, Err, Event, EventFits, FaultedBy, FindsAfter, FindsBy}
 pub use Rattle.pie_audit.specs.{Replays, ReplaysFrom, Going, HasField, IfErr, IfOk, IfSome, Invalid, IsAccepted, IsExcerptText, IsFirstWrong, IsFound}
-pub use Rattle.pie_audit.specs.{IsHistoryText, IsLegal, IsLegalAt, IsSetterAfter, IsWrite, IsWrong, Line, LinePlace, LinesAt, LinesRead, LinesView}
+pub use Rattle.pie_audit.specs.{IsHistoryText, IsLegal, IsLegalAt, IsSetterAfter, IsWriteOrMemory, IsWrong, Line, LinePlace, LinesAt, LinesRead, LinesView}
 pub use Rattle.pie_audit.specs.{NoDeviceFailedBy, None, Note, Ok, OnOk, Opening, Option, ParamsFit, Preamble, ProcessedBy, RemainingLines, Represents}
 pub use Rattle.pie_audit.specs.{RepresentsAfter, Result, Resumes, Row, Setter, Some, TakesRow, TextProcessedBy, Three, TraceFault, Valid, VisitedFrom}
 pub use Rattle.pie_audit.specs.{active_after, after_line, agrees_after, at_core, at_opening, count_after, counted_with, decision, differs, differs_at}
 pub use Rattle.pie_audit.specs.{differs_from, event_in, event_row, fault_after, fault_by, filter_map, find, finding, finding_after, finding_at}
-pub use Rattle.pie_audit.specs.{finding_by, finding_from, first_difference, first_setter, from_opening, is_active_after, is_active_at, is_device}
+pub use Rattle.pie_audit.specs.{finding_by, finding_from, first_difference, first_setter, from_opening, is_active_after, is_active_at, is_io_or_memory}
 pub use Rattle.pie_audit.specs.{is_resumed, is_same_answer, is_some, lines_after, min, most_events, nat_lt, next_number, number_at, number_of}
 pub use Rattle.pie_audit.specs.{opening_refusal, option_map, records_of, refusal_by_rule, remaining_after_opening, remaining_by, remaining_from}
 pub use Rattle.pie_audit.specs.{resumed_rows, same_answers, sets_after, sets_probability, setter_after, setter_at, setter_by, setter_from_start}

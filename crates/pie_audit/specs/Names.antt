@@ -10,7 +10,7 @@ pub use Rattle.pie_event.specs.declared.command.Command.TheVariants.{Arrive, Res
 pub use Rattle.pie_excerpt.specs.Preamble.{Preamble, Resumes, is_resumed}
 pub use Rattle.pie_excerpt.specs.Written.{IsWritten, excerpt_rows, resumed_rows}
 pub use Rattle.pie_params.specs.Range.{first_bad}
-pub use Rattle.pie_record.specs.{Fault.IsOfInput, Fault.IsWrite, Fault.is_device, ReadBack.EventFits, ReadBack.IsHistoryText, Text.HasField, Text.Row}
+pub use Rattle.pie_record.specs.{Fault.IsOfInput, Fault.IsWriteOrMemory, Fault.is_io_or_memory, ReadBack.EventFits, ReadBack.IsHistoryText, Text.HasField, Text.Row}
 pub use Rattle.pie_record.specs.{Text.TakesRow, Text.records_of, Write.event_row, Write.written_rows}
 pub use Rattle.pie_record.specs.HistoryLines.{IsRecordOf, LinesView, RemainingLines, remaining_after_opening, remaining_from}
 pub use Rattle.pie_record.specs.declared.{fault.TraceFault.TraceFault, history_record.Line.Line, version.Version.TheVariants.Three}

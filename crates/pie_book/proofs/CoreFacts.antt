@@ -11,8 +11,8 @@ use Rattle.pie_book.specs.{Packet, Waiting, One, ControllerState, Command, Arriv
 use Rattle.pie_book.specs.{Represents, counted, refusal_of, registers_of, with_queue, IsLegal, IsLegalAt, answer_by, decision, refusal_by_rule}
 use Rattle.pie_book.specs.{delay_after, delay_answered, state_after, admitted, bytes_after, departed_count, effective_moment, waiting_after}
 use Rattle.pie_book.specs.{registers_after, event_of, opened_of, controller_events, age_of_oldest, largest_delay, largest_queue, stats_after, waited, answer_in}
-use Rattle.pie_book.specs.{call_in, waiting_next, bytes_of, HasThreshold, after_call, Place, places, greatest, Deed, deed, departure, fits, caller_moment}
-use Rattle.pie_book.specs.{deed_of, admission, departed, marked, queued, count_of, is_departure, bytes_departed, is_update, first_bad, SetParams}
+use Rattle.pie_book.specs.{call_in, waiting_next, bytes_of, HasThreshold, after_call, Place, places, greatest, Effect, effect, departure, fits, caller_moment}
+use Rattle.pie_book.specs.{effect_of, admission, departed, marked, queued, count_of, is_departure, bytes_departed, is_update, first_bad, SetParams}
 use Rattle.pie_book.specs.{IsNext, CommandFits, refusal_with, active_after, arriving_size, controller_event, oldest_since, controller_event_at, core_after}
 use Rattle.pie_book.specs.{first_core, registers_with, after_calls, call_at, calls_of, state_after_calls, Follows, cause_in, apply_in, outcome}
 use Rattle.pie_book.specs.{core_along}
@@ -36,36 +36,36 @@ effective_moment-push opening history event =
 
 -- the queued packets after one more event
 admitted-push : (opening : Opening) (history : List Event) (event : Event) → admitted opening (history ++ event ∷ [])
-    ≡ with_one (admitted opening history) (admission (max (effective_moment opening history) (caller_moment event.command)) (deed_of event))
+    ≡ with_one (admitted opening history) (admission (max (effective_moment opening history) (caller_moment event.command)) (effect_of event))
 unfolding admitted
 admitted-push opening history event = simp (from_places-push, effective_moment-push)
 
 -- the number of departed packets after one more event
 departed_count-push : (history : List Event) (event : Event)
-    → departed_count (history ++ event ∷ []) ≡ departed_count history + cond (is_some (departure (deed_of event))) 1 0
+    → departed_count (history ++ event ∷ []) ≡ departed_count history + cond (is_some (departure (effect_of event))) 1 0
 unfolding departed_count
-departed_count-push history event = sum_by_push (λ (e : Event). cond (is_some (departure (deed_of e))) 1 0) history event
+departed_count-push history event = sum_by_push (λ (e : Event). cond (is_some (departure (effect_of e))) 1 0) history event
 
 -- the waiting packets after one more event
 pub waiting_after-push : (opening : Opening) (history : List Event) (event : Event) → departed_count history ≤ length (admitted opening history)
     → waiting_after opening (history ++ event ∷ [])
-    ≡ waiting_next (waiting_after opening history) (max (effective_moment opening history) (caller_moment event.command)) (deed_of event)
+    ≡ waiting_next (waiting_after opening history) (max (effective_moment opening history) (caller_moment event.command)) (effect_of event)
 unfolding waiting_after
 waiting_after-push opening history event fewer =
     rw (admitted-push opening history event, departed_count-push history event)
-    (by_deed (deed_of event) (departed_count history) (admitted opening history) (max (effective_moment opening history) (caller_moment event.command))
+    (by_effect (effect_of event) (departed_count history) (admitted opening history) (max (effective_moment opening history) (caller_moment event.command))
     fewer)
   where
-    by_deed : (d : Deed) (n : ℕ) (entries : List Waiting) (now : ℕ) → n ≤ length entries
+    by_effect : (d : Effect) (n : ℕ) (entries : List Waiting) (now : ℕ) → n ≤ length entries
         → drop (n + cond (is_some (departure d)) 1 0) (with_one entries (admission now d)) ≡ waiting_next (drop n entries) now d
-    by_deed (departed packet) n entries now within = sym (drop-drop 1 n entries)
-    by_deed (queued packet) n entries now within = simp add-zero (drop-append-le n entries (_ ∷ []) within)
-    by_deed (marked packet) n entries now within = simp add-zero (drop-append-le n entries (_ ∷ []) within)
-    by_deed _ n entries now within = simp add-zero
+    by_effect (departed packet) n entries now within = sym (drop-drop 1 n entries)
+    by_effect (queued packet) n entries now within = simp add-zero (drop-append-le n entries (_ ∷ []) within)
+    by_effect (marked packet) n entries now within = simp add-zero (drop-append-le n entries (_ ∷ []) within)
+    by_effect _ n entries now within = simp add-zero
 
 -- the number of departed packets is at most that of the queued ones, also after an event whose departure finds a waiting packet
 pub departed-push : (opening : Opening) (history : List Event) (event : Event) → departed_count history ≤ length (admitted opening history)
-    → (is_some (departure (deed_of event)) ≡ true → 0 < length (waiting_after opening history))
+    → (is_some (departure (effect_of event)) ≡ true → 0 < length (waiting_after opening history))
     → departed_count (history ++ event ∷ []) ≤ length (admitted opening (history ++ event ∷ []))
 unfolding waiting_after
 departed-push opening history event fewer waits = grind (arith, nat_tests, length-drop, admitted-push, departed_count-push, length-append)
@@ -76,15 +76,15 @@ departed-push opening history event fewer waits = grind (arith, nat_tests, lengt
 more_of : (b : Bool) (n m : ℕ) → n + cond b m 0 ≡ (if b then n + m else n)
 more_of b n m = grind (arith, nat_tests)
 
-count_of-push : (test : Deed → Bool) (history : List Event) (event : Event)
-    → count_of test (history ++ event ∷ []) ≡ (if test (deed_of event) then count_of test history + 1 else count_of test history)
+count_of-push : (test : Effect → Bool) (history : List Event) (event : Event)
+    → count_of test (history ++ event ∷ []) ≡ (if test (effect_of event) then count_of test history + 1 else count_of test history)
 count_of-push test history event = grind (arith, nat_tests, sum_by_push, more_of)
 
 -- no bytes depart unless a packet does
 bytes-push : (history : List Event) (event : Event)
-    → sum_by (λ (e : Event). bytes_departed (deed_of e)) (history ++ event ∷ [])
-    ≡ (if is_departure (deed_of event) then sum_by (λ (e : Event). bytes_departed (deed_of e)) history + bytes_departed (deed_of event)
-    else sum_by (λ (e : Event). bytes_departed (deed_of e)) history)
+    → sum_by (λ (e : Event). bytes_departed (effect_of e)) (history ++ event ∷ [])
+    ≡ (if is_departure (effect_of event) then sum_by (λ (e : Event). bytes_departed (effect_of e)) history + bytes_departed (effect_of event)
+    else sum_by (λ (e : Event). bytes_departed (effect_of e)) history)
 bytes-push history event = grind (arith, nat_tests, sum_by_push)
 
 largest_queue-push : (opening : Opening) (history : List Event) (event : Event)
@@ -94,23 +94,23 @@ largest_queue-push opening history event = simp (places-push, map-append, greate
 
 largest_delay-push : (opening : Opening) (history : List Event) (event : Event)
     → largest_delay opening (history ++ event ∷ [])
-    ≡ (if is_update (deed_of event) then max (largest_delay opening history) (delay_answered opening history) else largest_delay opening history)
+    ≡ (if is_update (effect_of event) then max (largest_delay opening history) (delay_answered opening history) else largest_delay opening history)
 unfolding largest_delay
 largest_delay-push opening history event = grind (arith, nat_tests, from_places-push, greatest-push)
 
 waited-push : (opening : Opening) (history : List Event) (event : Event)
     → waited opening (history ++ event ∷ [])
-    ≡ (if is_departure (deed_of event) then waited opening history + age_of_oldest (effective_moment opening (history ++ event ∷ []))
+    ≡ (if is_departure (effect_of event) then waited opening history + age_of_oldest (effective_moment opening (history ++ event ∷ []))
     (waiting_after opening history)
     else waited opening history)
 unfolding waited
-waited-push opening history event = simp (places-push, sum_by_push) (more_of (is_departure (deed_of event)) _ _)
+waited-push opening history event = simp (places-push, sum_by_push) (more_of (is_departure (effect_of event)) _ _)
 
 -- the statistics after one more event
 pub stats_after-push : (opening : Opening) (history : List Event) (event : Event)
     → stats_after opening (history ++ event ∷ [])
     ≡ with_queue
-    (counted (stats_after opening history) (deed_of event) (delay_answered opening history)
+    (counted (stats_after opening history) (effect_of event) (delay_answered opening history)
     (age_of_oldest (effective_moment opening (history ++ event ∷ [])) (waiting_after opening history)))
     (bytes_after opening (history ++ event ∷ []))
 unfolding stats_after
@@ -121,7 +121,7 @@ stats_after-push opening history event =
 
 -- a packet departs only if one waits
 departs-some : (opening : Opening) (history : List Event) (command : Command)
-    → is_some (departure (deed command (decision opening history command))) ≡ true → 0 < length (waiting_after opening history)
+    → is_some (departure (effect command (decision opening history command))) ≡ true → 0 < length (waiting_after opening history)
 departs-some opening history command some = grind (arith, nat_tests, some)
 
 -- each command has an answer that it can have
@@ -237,8 +237,8 @@ first_shown opening core is = subst (λ (c : CoreView). Represents opening c [])
 
 -- each command's event is the controller's event of its call
 controller_event-command : (core : CoreView) (now : ℕ) (command : Command)
-    → controller_event (deed command (answer_in core command)) (arriving_size command) (oldest_since core.waiting) (bytes_of core.waiting)
-    (bytes_of (waiting_next core.waiting now (deed command (answer_in core command)))) (caller_moment command)
+    → controller_event (effect command (answer_in core command)) (arriving_size command) (oldest_since core.waiting) (bytes_of core.waiting)
+    (bytes_of (waiting_next core.waiting now (effect command (answer_in core command)))) (caller_moment command)
     ≡ event_of_call core.controller (call_in core command)
 controller_event-command core now command = grind (arith, nat_tests, sum_by_push)
 
@@ -257,7 +257,7 @@ module _ (opening : Opening) (core : CoreView) (history : List Event) (shows : R
   next-shows caller command small free =
       let event : Event = event_of caller command (answer_in core command) in
       let all : List Event = history ++ event ∷ [] in
-      let d : Deed = deed command (answer_in core command) in
+      let d : Effect = effect command (answer_in core command) in
       let now : ℕ = now_at core.controller (caller_moment command) in
       let moment : now ≡ effective_moment opening (history ++ event ∷ []) =
       ap (λ (m : ℕ). max m (caller_moment command)) shows.moment ∙ sym (effective_moment-push opening history event) in

@@ -6,7 +6,7 @@ use Rattle.std.proofs.Common.{refl, ap, arith}
 use Rattle.pie_params.specs.Profile.{default_profile}
 use Rattle.pie_params.specs.Elements.{usual}
 use Rattle.pie_queue.specs.declared.ecn.Ecn.TheVariants.{NotEct, Ect0}
-use Rattle.pie_event.specs.Deed.{nothing}
+use Rattle.pie_event.specs.Effect.{nothing}
 use Rattle.pie_event.specs.declared.register.Register.TheVariants.{Accu}
 use Rattle.pie_event.specs.declared.registers.Registers.{Registers}
 use Rattle.pie_event.specs.declared.resume_refusal.ResumeRefusal.TheVariants as resume
@@ -19,9 +19,9 @@ use Rattle.pie_book.specs.Run.{Step, applied, folded, start, without_folds, answ
 use Rattle.pie_book.specs.{Packet, Command, Arrive, Depart, Update, Reset, SetParams, Answer, Enqueued, Marked, DroppedEarly, DroppedBytes}
 use Rattle.pie_book.specs.{Empty, Left, Updated, Done, Event, Mode, Bounded, Rolling, One, Opening, RawParams, Stats, caller_moment}
 use Rattle.pie_book.specs.{registers_after, largest_queue, largest_delay, stats_after, waited, state_after, effective_moment, admitted, departed_count}
-use Rattle.pie_book.specs.{waiting_after, controller_events, deed, fits, last_events, without_last, tail_with, first_run, core_after, first_core, CoreView}
+use Rattle.pie_book.specs.{waiting_after, controller_events, effect, fits, last_events, without_last, tail_with, first_run, core_after, first_core, CoreView}
 use Rattle.pie_book.specs.{IsLegalAt, refusal_after, state_after_calls, calls_of, after_calls, resume_refusal, queue_refusal}
-use Rattle.pie_book.specs.{end_refusal, core_of, ResumingView, are_reached, DroppedPackets, ExcerptView, event_of_entry, MayOpen, HasLimits}
+use Rattle.pie_book.specs.{end_refusal, core_of, ResumingView, are_reached, DroppedPackets, ExcerptView, event_of_recorded, MayOpen, HasLimits}
 use Rattle.pie_book.specs.{IsNotContinued, Profile, Two, Elements}
 use Rattle.pie_params.specs.declared.elements.Delay.{Delay}
 use Rattle.pie_params.specs.declared.elements.Delay.TheVariants.{Rate, Stamp}
@@ -41,9 +41,9 @@ abbrev packet : ℕ → ℕ → Packet
 packet tag size = record { tag = tag; size = size; ecn = NotEct }
 
 -- an answer that the command cannot have: such an arrival or departure has no effect
-misfits : (map (deed (Arrive 1 (packet 7 60) 0)) (Empty ∷ Left (packet 7 60) ∷ Updated 2 3 4 ∷ Done ∷ [])
+misfits : (map (effect (Arrive 1 (packet 7 60) 0)) (Empty ∷ Left (packet 7 60) ∷ Updated 2 3 4 ∷ Done ∷ [])
     ≡ nothing ∷ nothing ∷ nothing ∷ nothing ∷ [])
-    × (map (deed (Depart 1)) (Enqueued ∷ Marked ∷ DroppedEarly ∷ Updated 2 3 4 ∷ Done ∷ []) ≡ nothing ∷ nothing ∷ nothing ∷ nothing ∷ nothing ∷ [])
+    × (map (effect (Depart 1)) (Enqueued ∷ Marked ∷ DroppedEarly ∷ Updated 2 3 4 ∷ Done ∷ []) ≡ nothing ∷ nothing ∷ nothing ∷ nothing ∷ nothing ∷ [])
 misfits = (refl, refl)
 
 abbrev all_answers : List Answer
@@ -151,7 +151,7 @@ tails = (refl, refl, refl, refl)
 
 -- the event of an entry of the tail is the recorded one, for any event; an answer that the command cannot have is
 -- stored as no effect
-entries : let recorded = λ (events : List Event). map (λ e. event_of_entry (recorded_event_in e)) events in
+entries : let recorded = λ (events : List Event). map (λ e. event_of_recorded (recorded_event_in e)) events in
     (recorded (history 14) ≡ history 14) × (recorded three ≡ three) × (recorded (event_of 3 (Depart 4) Marked ∷ []) ≡ event_of 3 (Depart 4) Empty ∷ [])
 unfolding worked
 entries = (refl, refl, refl)

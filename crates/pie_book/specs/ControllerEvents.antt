@@ -4,7 +4,7 @@
 use Rattle.std.specs.Prelude.{ℕ, List, [], ◌∷◌, map}
 use Rattle.pie_event.specs.declared.verdict.Verdict.TheVariants as verdict
 use Rattle.pie_aqm.specs.Events.{ControllerEvent, Opened, Arrived, Departed, Advanced, Updated, Reset, Changed}
-use Rattle.pie_book.specs.Types.{Place, places, up_to, Waiting, Command, Arrive, Event, Opening, Deed, deed_of, caller_moment, queued, marked}
+use Rattle.pie_book.specs.Types.{Place, places, up_to, Waiting, Command, Arrive, Event, Opening, Effect, effect_of, caller_moment, queued, marked}
 use Rattle.pie_book.specs.Types.{dropped_early, dropped_bytes, dropped_packets, departed, found_none, updated, was_reset, set, nothing}
 use Rattle.pie_book.specs.History.{bytes_after, waiting_after}
 
@@ -26,7 +26,7 @@ oldest_since (oldest ∷ others) = oldest.since
 -- the controller's event for this effect, from the size of the arriving packet, the arrival moment of the oldest
 -- packet, the bytes in the queue before and after it, and its moment. For an answer that the command cannot have, only
 -- the moment counts
-abbrev pub controller_event : Deed → ℕ → ℕ → ℕ → ℕ → ℕ → ControllerEvent
+abbrev pub controller_event : Effect → ℕ → ℕ → ℕ → ℕ → ℕ → ControllerEvent
 controller_event (queued packet) size since before after moment = Arrived verdict.Enqueued size before after moment
 controller_event (marked packet) size since before after moment = Arrived verdict.Marked size before after moment
 controller_event dropped_early size since before after moment = Arrived verdict.DroppedEarly size before after moment
@@ -41,7 +41,7 @@ controller_event nothing size since before after moment = Advanced moment
 
 abbrev pub controller_event_at : Opening → Place Event → ControllerEvent
 controller_event_at opening place =
-    controller_event (deed_of place.event) (arriving_size place.event.command) (oldest_since (waiting_after opening place.before))
+    controller_event (effect_of place.event) (arriving_size place.event.command) (oldest_since (waiting_after opening place.before))
     (bytes_after opening place.before) (bytes_after opening (up_to place)) (caller_moment place.event.command)
 
 unfoldable pub controller_events : Opening → List Event → List ControllerEvent

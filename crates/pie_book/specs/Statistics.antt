@@ -2,49 +2,49 @@
 use Rattle.std.specs.Prelude.{ℕ, ◌-◌, Bool, true, false, List, [], ◌∷◌, map, Option, Some, None, count_by, sum_by, if◌then◌else◌, filter_map, is_some}
 use Rattle.std.specs.Prelude.{◌≡◌, ◌*◌, ◌^◌, ◌≤◌, ◌&&◌, nat_le}
 use Rattle.std.specs.Option.{option_map_or}
-use Rattle.pie_book.specs.Types.{Packet, Waiting, Event, Opening, Stats, Place, places, up_to, greatest, Deed, deed_of, departure, is_arrival}
+use Rattle.pie_book.specs.Types.{Packet, Waiting, Event, Opening, Stats, Place, places, up_to, greatest, Effect, effect_of, departure, is_arrival}
 use Rattle.pie_book.specs.Types.{is_update, queued, marked, dropped_early, dropped_bytes, dropped_packets, found_none, was_reset}
-use Rattle.pie_event.specs.Deed.{sets_params}
+use Rattle.pie_event.specs.Effect.{sets_params}
 use Rattle.pie_book.specs.History.{effective_moment, waiting_after, bytes_after}
 use Rattle.pie_book.specs.Estimates.{delay_answered}
 
-abbrev pub is_queued : Deed → Bool
+abbrev pub is_queued : Effect → Bool
 is_queued (queued packet) = true
 is_queued _ = false
 
-abbrev pub is_marked : Deed → Bool
+abbrev pub is_marked : Effect → Bool
 is_marked (marked packet) = true
 is_marked _ = false
 
-abbrev pub is_dropped_early : Deed → Bool
+abbrev pub is_dropped_early : Effect → Bool
 is_dropped_early dropped_early = true
 is_dropped_early _ = false
 
-abbrev pub is_dropped_bytes : Deed → Bool
+abbrev pub is_dropped_bytes : Effect → Bool
 is_dropped_bytes dropped_bytes = true
 is_dropped_bytes _ = false
 
-abbrev pub is_dropped_packets : Deed → Bool
+abbrev pub is_dropped_packets : Effect → Bool
 is_dropped_packets dropped_packets = true
 is_dropped_packets _ = false
 
-abbrev pub is_departure : Deed → Bool
+abbrev pub is_departure : Effect → Bool
 is_departure d = is_some (departure d)
 
-abbrev pub is_found_none : Deed → Bool
+abbrev pub is_found_none : Effect → Bool
 is_found_none found_none = true
 is_found_none _ = false
 
-abbrev pub is_reset : Deed → Bool
+abbrev pub is_reset : Effect → Bool
 is_reset was_reset = true
 is_reset _ = false
 
 -- the number of events whose effect passes the test
-abbrev pub count_of : (Deed → Bool) → List Event → ℕ
-count_of test history = count_by (λ event. test (deed_of event)) history
+abbrev pub count_of : (Effect → Bool) → List Event → ℕ
+count_of test history = count_by (λ event. test (effect_of event)) history
 
 -- the bytes of the packet that departed at an event
-abbrev pub bytes_departed : Deed → ℕ
+abbrev pub bytes_departed : Effect → ℕ
 bytes_departed d = option_map_or (λ (packet : Packet). packet.size) (departure d) 0
 
 -- the time since the arrival of the oldest of these packets
@@ -53,16 +53,16 @@ age_of_oldest now [] = 0
 age_of_oldest now (oldest ∷ others) = now - oldest.since
 
 -- the time in the queue of the packet that departed at this effective moment, from the packets that waited
-abbrev pub wait_of : Deed → ℕ → List Waiting → ℕ
+abbrev pub wait_of : Effect → ℕ → List Waiting → ℕ
 wait_of d now waiting = if is_departure d then age_of_oldest now waiting else 0
 
 -- the time in the queue of the packet that departed at this place
 abbrev pub wait_at : Opening → Place Event → ℕ
-wait_at opening place = wait_of (deed_of place.event) (effective_moment opening (up_to place)) (waiting_after opening place.before)
+wait_at opening place = wait_of (effect_of place.event) (effective_moment opening (up_to place)) (waiting_after opening place.before)
 
 -- the delay of an update at a place
 abbrev pub delay_at : Opening → Place Event → Option ℕ
-delay_at opening place = if is_update (deed_of place.event) then Some (delay_answered opening place.before) else None
+delay_at opening place = if is_update (effect_of place.event) then Some (delay_answered opening place.before) else None
 
 -- the greatest number of bytes in the queue after an event
 unfoldable pub largest_queue : Opening → List Event → ℕ
@@ -86,7 +86,7 @@ stats_after opening history = record {
   over_bytes = count_of is_dropped_bytes history;
   over_packets = count_of is_dropped_packets history;
   left = count_of is_departure history;
-  left_bytes = sum_by (λ event. bytes_departed (deed_of event)) history;
+  left_bytes = sum_by (λ event. bytes_departed (effect_of event)) history;
   empty = count_of is_found_none history;
   updates = count_of is_update history;
   resets = count_of is_reset history;

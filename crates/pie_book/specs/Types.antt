@@ -25,9 +25,9 @@ pub use Rattle.pie_params.specs.Range.{first_bad}
 pub use Rattle.pie_params.specs.Elements.{usual}
 pub use Rattle.pie_event.specs.Verdict.{answer_of}
 pub use Rattle.pie_event.specs.Cause.{verdict_of}
-pub use Rattle.pie_event.specs.Deed.{Deed, admission, arrival_deed, deed, deed_of, departed, departure, departure_deed, dropped_bytes, dropped_early}
-pub use Rattle.pie_event.specs.Deed.{dropped_packets, fits, found_none, caller_moment, is_arrival, is_update, marked, nothing, queued, set, updated}
-pub use Rattle.pie_event.specs.Deed.{was_reset, with_ce}
+pub use Rattle.pie_event.specs.Effect.{Effect, admission, arrival_effect, effect, effect_of, departed, departure, departure_effect, dropped_bytes, dropped_early}
+pub use Rattle.pie_event.specs.Effect.{dropped_packets, fits, found_none, caller_moment, is_arrival, is_update, marked, nothing, queued, set, updated}
+pub use Rattle.pie_event.specs.Effect.{was_reset, with_ce}
 pub use Rattle.pie_event.specs.Opening.{are_in_range, last_moment, opening_of, opening_refusal}
 pub use Rattle.pie_event.specs.Ranges.{AnswerFits, CommandFits, ParamsFit, RegistersFit, StatsFit}
 pub use Rattle.pie_event.specs.declared.opening.Limits.{Limits}

@@ -2,7 +2,7 @@
 //! event.
 ghost use Rattle.std.specs.Prelude.{◌≡◌, ◌<◌, ◌++◌, ◌∷◌, [], List, None, Some, IfOk, IfErr, OnErr, OnOk, ◌==◌, ◌≤◌, ◌^◌, ◌+◌, length, true, false};
 ghost use Rattle.pie_book.specs.{Event, Opening, decision, refusal_by_rule, event_of, refused_or, Arrive, Depart, Update, Reset, SetParams};
-ghost use Rattle.pie_book.specs.{caller_moment, arrival_deed, IsSize, bytes_of, HasThreshold, Represents, queue_recorded, refusal_of, after_command, answer_in};
+ghost use Rattle.pie_book.specs.{caller_moment, arrival_effect, IsSize, bytes_of, HasThreshold, Represents, largest_queue_updated, refusal_of, after_command, answer_in};
 ghost use Rattle.pie_book.specs.{call_in, arrival_of, departure_call, waiting_next, answer_of, step_in, core_after, IsNext};
 ghost use Rattle.pie_event.specs.Verdict.{is_queued};
 
@@ -66,7 +66,7 @@ impl Core {
             → Represents opening self.new (history ++ event_of caller command result.answer ∷ []) }
     {
         let recorded = self.raw.decide(caller, moment, command);
-        self.raw.record_queue();
+        self.raw.update_largest_queue();
         recorded
     }
 }
@@ -124,10 +124,10 @@ impl RawCore {
 
     /// Includes the bytes in the queue after an event in the largest queue.
     #[inline(always)]
-    fn record_queue(&mut self)
-        ensures { self.new ≡ queue_recorded self.old }
+    fn update_largest_queue(&mut self)
+        ensures { self.new ≡ largest_queue_updated self.old }
     {
-        self.tally.queue_size(self.queue.bytes());
+        self.tally.update_largest_queue(self.queue.bytes());
     }
 
     /// Decides on an arriving packet, and queues it if its verdict is to queue or mark it.
@@ -166,7 +166,7 @@ impl RawCore {
     {
         ArrivingPacket {
             queued: self.queue.bytes(),
-            is_full: self.queue.len() == self.queue.packets(),
+            is_full: self.queue.len() == self.queue.capacity(),
             size: packet.size,
             ecn: packet.ecn,
             word,
@@ -179,7 +179,7 @@ impl RawCore {
         requires size { IsSize packet.size }
         requires room { is_queued verdict ≡ true → (length self.old.waiting == self.old.packets) ≡ false }
         requires bytes { is_queued verdict ≡ true → bytes_of self.old.waiting + packet.size ≤ 2 ^ 30 }
-        ensures { self.new ≡ record self.old { waiting = waiting_next self.old.waiting now (arrival_deed packet (answer_of verdict)) } }
+        ensures { self.new ≡ record self.old { waiting = waiting_next self.old.waiting now (arrival_effect packet (answer_of verdict)) } }
     {
         match verdict {
             Verdict::Enqueued => {

@@ -1,6 +1,6 @@
 //! Counts of events, and their statistics.
 ghost use Rattle.std.specs.Prelude.{◌≡◌, ◌+◌, ◌<◌, ◌≤◌, ◌^◌, ℕ};
-ghost use Rattle.pie_book.specs.{Packet, counted, with_queue, arrival_deed, found_none, updated, was_reset, departed, answer_of, TallyView};
+ghost use Rattle.pie_book.specs.{Packet, counted, with_queue, arrival_effect, found_none, updated, was_reset, departed, answer_of, TallyView};
 ghost use Rattle.pie_book.specs.{IsReached, no_stats};
 
 use crate::Stats;
@@ -8,7 +8,7 @@ use pie_aqm::Verdict;
 use pie_queue::Packet;
 use std::marker::Model;
 
-/// The number of events, and the statistics. Only `queue_size` sets the largest queue, because it depends on the packets
+/// The number of events, and the statistics. Only `update_largest_queue` sets the largest queue, because it depends on the packets
 /// that wait after each event.
 #[derive(Drop)]
 pub(crate) struct Tally {
@@ -65,7 +65,7 @@ impl Tally {
     pub(crate) fn arrived(&mut self, verdict: Verdict)
         requires { self.old.count < 2 ^ 47 }
         ensures count { self.new.count ≡ self.old.count + 1 }
-        ensures stats { (packet : Packet) (delay wait : ℕ) → self.new.stats ≡ counted self.old.stats (arrival_deed packet (answer_of verdict)) delay wait }
+        ensures stats { (packet : Packet) (delay wait : ℕ) → self.new.stats ≡ counted self.old.stats (arrival_effect packet (answer_of verdict)) delay wait }
     {
         self.count += 1;
         self.stats.arrivals += 1;
@@ -135,7 +135,7 @@ impl Tally {
 
     /// Includes `bytes`, the bytes in the queue after the last event, in the largest queue.
     #[tactic(auto, using(std::proofs::lemmas::Bool::Decides::nat_tests), unfolding(crate::specs::Statistics::are_reached))]
-    pub(crate) fn queue_size(&mut self, bytes: u64)
+    pub(crate) fn update_largest_queue(&mut self, bytes: u64)
         ensures { self.new ≡ record { count = self.old.count; stats = with_queue self.old.stats bytes } }
     {
         self.stats.largest_queue = self.stats.largest_queue.max(bytes);

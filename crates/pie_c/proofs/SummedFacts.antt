@@ -1,7 +1,7 @@
 -- Facts about the events that the summing calls add to an interval's sums.
 use Rattle.std.specs.Prelude.{Option}
 use Rattle.pie_c.specs.{Cause, answer_of, Clock, Explained, LiveInterval, Conditions, Holds, IsSet, HasConditions, clock_of, meter_input_of, updated_by, Adds, ExplainsCall}
-use Rattle.pie_c.specs.{conditions_of, cause_after, state_after, wait_of, deed_of, Setter, explanation, moment_of, with_after}
+use Rattle.pie_c.specs.{conditions_of, cause_after, state_after, wait_of, effect_of, Setter, explanation, moment_of, with_after}
 use Rattle.pie_c.proofs.Names.{◌≡◌, ◌≤◌, min, ◌==◌, arith, ℕ, Bool, true, false, nat_le, List, [], ◌∷◌, ◌++◌, refl, sym, ap, subst, nat_tests}
 use Rattle.pie_c.proofs.Names.{Event, Verdict, verdict_number, PieState, arrival_refusal, if_taken, moment_refusal, unless_refused, update_refusal}
 use Rattle.pie_c.proofs.Names.{controller_state, with_departure, ControllerState, waiting_after, Opening}
@@ -71,13 +71,13 @@ update-decides state queued moment answer is = (λ so. grind (arith, nat_tests),
 pub explained : (opening : Opening) (history : List Event) (made : Event) (before after : PieState) (number : ℕ) (set_by : Setter) (day : Option Clock)
     → controller_state before ≡ state_after opening history → controller_state after ≡ state_after opening (history ++ made ∷ [])
     → after.moment ≡ moment_of opening history made
-    → ExplainsCall before after day made (cause_after opening history made.command) (wait_of (deed_of made) after.moment (waiting_after opening history))
+    → ExplainsCall before after day made (cause_after opening history made.command) (wait_of (effect_of made) after.moment (waiting_after opening history))
     (with_after opening (history ++ made ∷ []) (explanation opening history number made set_by day))
 unfolding explanation controller_state registers_after
 explained opening history made before after number set_by day held left moment = record {
   event = refl;
   cause = refl;
-  waited = ap (λ (at : ℕ). wait_of (deed_of made) at (waiting_after opening history)) (sym moment);
+  waited = ap (λ (at : ℕ). wait_of (effect_of made) at (waiting_after opening history)) (sym moment);
   clock = refl;
   meets = λ i. record {
     moment = sym moment i;

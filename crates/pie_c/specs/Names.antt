@@ -24,7 +24,7 @@ unfoldable pub use Rattle.pie_book.specs.Estimates.{state_after}
 pub use Rattle.pie_book.specs.Statistics.{wait_of}
 pub use Rattle.pie_c.specs.declared.state.PieState.{PieState}
 pub use Rattle.pie_c.specs.declared.state.PieUpdated.{PieUpdated}
-pub use Rattle.pie_event.specs.Deed.{deed_of}
+pub use Rattle.pie_event.specs.Effect.{effect_of}
 pub use Rattle.pie_event.specs.Verdict.{answer_of}
 pub use Rattle.pie_event.specs.declared.cause.Cause.{Cause}
 pub use Rattle.pie_event.specs.declared.command.Answer.TheVariants.{Done, Empty, Left, Updated}

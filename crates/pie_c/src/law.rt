@@ -1,7 +1,7 @@
 //! Laws: the text that a sequence of writing calls produces is one that the laws of the readers apply to.
 ghost use Rattle.std.specs.Prelude.{◌≡◌, ◌++◌, ◌∷◌, [], ℕ, All, List, Option, Some, map, true};
 ghost use Rattle.pie_c.specs.Names.{Opening};
-ghost use Rattle.pie_c.specs.{flat_map, Event, cause_after, state_after, wait_of, deed_of, Setter, explanation, moment_of, with_after, Clock};
+ghost use Rattle.pie_c.specs.{flat_map, Event, cause_after, state_after, wait_of, effect_of, Setter, explanation, moment_of, with_after, Clock};
 ghost use Rattle.pie_c.specs.{rows_text, event_row, written_rows, resumed_rows, PieOpening, PieStats, PieState, WrittenEvent, opening_text, event_of_written};
 ghost use Rattle.pie_c.specs.{written_text, opening_in, opening_of, opening_refusal, CanWait, is_snapshot, resume_of, resume_text, set_by_of};
 ghost use Rattle.pie_c.specs.{snapshot_in, waiting_text, controller_state, is_sound, ExplainsCall};
@@ -38,6 +38,6 @@ pub fn summed_calls_are_explained()
         → controller_state before ≡ state_after opening history → controller_state after ≡ state_after opening (history ++ made ∷ [])
         → after.moment ≡ moment_of opening history made
         → ExplainsCall before after day made (cause_after opening history made.command)
-        (wait_of (deed_of made) after.moment (waiting_after opening history))
+        (wait_of (effect_of made) after.moment (waiting_after opening history))
         (with_after opening (history ++ made ∷ []) (explanation opening history number made set_by day)) }
 {}

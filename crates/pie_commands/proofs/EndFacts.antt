@@ -2,8 +2,8 @@
 use Rattle.std.proofs.lemmas.Bool.Decides.{nat_tests}
 use Rattle.pie_commands.proofs.Names.{◌≡◌, ◌≤◌, ℕ, List, Option, Some, arith, IfSome, EndsBy, End, status_of, inr, inl, refl, Ok, Err, TraceFault}
 use Rattle.pie_commands.proofs.Names.{Row, records_of, LastEither, Fault, CutsLast, end_of_cut, last_of, None, subst, sym, Elements, EndsStorm}
-use Rattle.pie_commands.proofs.Names.{elements_in, numbers_in, storm_ends, Done, Failed, IsWrite, Bool, true, false, IsSome, Text, file_of, Held}
-use Rattle.pie_commands.proofs.Names.{IsEmpty, Keeps, Places, Settles, OutputNotRenamed, ◌&&◌, if◌then◌else◌, not, after_output, EndsAt, EndsIn, is_whole}
+use Rattle.pie_commands.proofs.Names.{elements_in, numbers_in, storm_ends, Done, Failed, IsWriteOrMemory, Bool, true, false, IsSome, Text, file_of, Held}
+use Rattle.pie_commands.proofs.Names.{IsEmpty, Keeps, Places, Settles, NoOutputFile, ◌&&◌, if◌then◌else◌, not, after_output, EndsAt, EndsIn, is_whole}
 use Rattle.pie_record.specs.Text.{Row as Fields}
 use Rattle.std.proofs.lemmas.Option.{IfSome_then}
 use Rattle.pie_cut.specs.declared.fault.CutFault.TheVariants.{Trace}
@@ -80,7 +80,7 @@ storm-ends options elements numbers plan events listed too_soon too_many before 
     )
 
 pub storm-unwritten : (options : List Row) (elements : Elements) (why : TraceFault) (before now : Option (List ℕ)) → elements_in options ≡ Some elements
-    → IsWrite why → EndsStorm options (Fault why) before now
+    → IsWriteOrMemory why → EndsStorm options (Fault why) before now
 storm-unwritten options elements why before now chosen write = rw chosen write
 
 pub storm-unchosen : (options : List Row) (before : Option (List ℕ)) → elements_in options ≡ None → EndsStorm options Failed before before
@@ -116,7 +116,7 @@ ends-settled works read forced name old mid new ends end there fresh left empty 
   where
     go : (all placed : Bool) → all ≡ is_whole end → Settles placed None forced name left mid new → (all ≡ false → placed ≡ false)
         → (all ≡ true → works ≡ true → MayHave forced (mid name) → placed ≡ true)
-        → EndsAt works read forced name fresh old new ends (if all && not placed then OutputNotRenamed else end)
+        → EndsAt works read forced name fresh old new ends (if all && not placed then NoOutputFile else end)
     go true true is settles part whole =
         inr (inr (left, empty, promise, rw (sym is) (places-since read forced name left old mid new kept another settles)))
     go true false is settles part whole = inl (

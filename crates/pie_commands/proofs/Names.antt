@@ -29,7 +29,7 @@ pub use Rattle.pie_commands.specs.Words.{app_for, number_of, number_or, output_i
 pub use Rattle.pie_commands.specs.declared.cut.Pieces.TheVariants.{Every, Part}
 pub use Rattle.pie_commands.specs.declared.cut.CutRequest.TheVariants.{Last, Once}
 pub use Rattle.pie_commands.specs.declared.end.End.{End}
-pub use Rattle.pie_commands.specs.declared.end.End.TheVariants.{Done, Failed, Fault, CannotStart, OutputNotRenamed}
+pub use Rattle.pie_commands.specs.declared.end.End.TheVariants.{Done, Failed, Fault, CannotStart, NoOutputFile}
 pub use Rattle.pie_commands.specs.declared.options.subcommand.Subcommand.TheVariants.{Audit, Cut, Explain, Migrate, Params, Run, Storm}
 pub use Rattle.pie_cut.specs.Joined.{EndView, JoinsText}
 pub use Rattle.pie_cut.specs.Last.{LastEither}
@@ -37,7 +37,7 @@ pub use Rattle.pie_cut.specs.declared.joint_audit.Joined.{Joined}
 pub use Rattle.pie_explain.specs.declared.selection.Selection.{Selection}
 pub use Rattle.pie_explain.specs.declared.explanation.Explained.{Explained}
 pub use Rattle.pie_params.specs.declared.elements.Elements.{Elements}
-pub use Rattle.pie_record.specs.Fault.{IsWrite}
+pub use Rattle.pie_record.specs.Fault.{IsWriteOrMemory}
 pub use Rattle.pie_record.specs.Text.{records_of, text_of}
 pub use Rattle.pie_record.specs.declared.fault.TraceFault.{TraceFault}
 pub use Rattle.std.specs.Option.{option_map_or}

@@ -5,7 +5,7 @@ use Rattle.std.specs.Fmt.{decimal}
 use Rattle.std.specs.Io.KnownBytes.{Appends}
 use Rattle.pie_record.specs.declared.fault.TraceFault.{TraceFault}
 use Rattle.pie_record.specs.declared.fault.TraceFault.TheVariants as trace_fault
-use Rattle.pie_record.specs.Fault.{NoDeviceFailed, is_device}
+use Rattle.pie_record.specs.Fault.{NoIoOrMemoryFailed, is_io_or_memory}
 use Rattle.pie_trace.specs.declared.run.RunEnd.{RunEnd}
 use Rattle.pie_trace.specs.Migrate.{history_events, history_fault, migrated_text}
 use Rattle.pie_trace.specs.Resumed.{RunsEither}
@@ -90,8 +90,8 @@ EndsAudit known end before now = ((end ≡ CannotStart) × (now ≡ before))
 -- The records before the fault are written in version two
 abbrev pub Migrates : List Row → Result ℕ TraceFault → Option (List ℕ) → Option (List ℕ) → Type 0
 Migrates rows outcome before now = IfOk outcome (λ events. (history_fault (2 ^ 32) rows ≡ None) × (events ≡ history_events (2 ^ 32) rows))
-    × IfErr outcome (λ why. is_device why ≡ false → history_fault (2 ^ 32) rows ≡ Some why)
-    × (NoDeviceFailed outcome → Appends before now (migrated_text (2 ^ 32) rows))
+    × IfErr outcome (λ why. is_io_or_memory why ≡ false → history_fault (2 ^ 32) rows ≡ Some why)
+    × (NoIoOrMemoryFailed outcome → Appends before now (migrated_text (2 ^ 32) rows))
 
 abbrev pub EndsMigrate : Option (List ℕ) → End → Option (List ℕ) → Option (List ℕ) → Type 0
 EndsMigrate = EndsBy end_of Migrates

@@ -5,7 +5,7 @@ use Rattle.std.specs.List.{list_any}
 use Rattle.std.specs.Str.{bytes_eq}
 use Rattle.clap.specs.Words.{Text}
 use Rattle.pie_commands.specs.declared.end.End.{End}
-use Rattle.pie_commands.specs.declared.end.End.TheVariants.{Done, Differs, CannotStart, OutputNotRenamed}
+use Rattle.pie_commands.specs.declared.end.End.TheVariants.{Done, Differs, CannotStart, NoOutputFile}
 
 -- the bytes of a name
 abbrev pub Name : Type 0
@@ -109,15 +109,15 @@ is_whole Differs = true
 is_whole _ = false
 
 -- the end of a subcommand, from a flag that is true if its output file has its name: a complete output without its name
--- is `OutputNotRenamed`
+-- is `NoOutputFile`
 abbrev pub after_output : End → Bool → End
-after_output end there = if is_whole end && not there then OutputNotRenamed else end
+after_output end there = if is_whole end && not there then NoOutputFile else end
 
 -- the end of a subcommand that writes to a new file with the known contents `fresh`: empty, or unknown. If the
--- output is complete, the file has the name; otherwise it has not. The end is `OutputNotRenamed` only if something hinders the
+-- output is complete, the file has the name; otherwise it has not. The end is `NoOutputFile` only if something hinders the
 -- file from having the name, and `CannotStart` if the subcommand could not begin. In both cases every file is unchanged
 abbrev pub EndsAt : Bool → Option Text → Bool → Text → Option (List ℕ) → Held → Held → (End → Option (List ℕ) → Option (List ℕ) → Type 0) → End → Type 0
-EndsAt works read forced name fresh old new ends end = ((end ≡ OutputNotRenamed) × Keeps old new × IsHindered works read forced name old)
+EndsAt works read forced name fresh old new ends end = ((end ≡ NoOutputFile) × Keeps old new × IsHindered works read forced name old)
     ⊎ ((end ≡ CannotStart) × Keeps old new)
     ⊎ ((left : Option (List ℕ)) × IsEmpty fresh × ends end fresh left × Settles (is_whole end) read forced name left old new)
 

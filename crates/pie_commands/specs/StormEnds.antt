@@ -21,9 +21,9 @@ use Rattle.pie_storm.specs.declared.plan.Plan.{Plan}
 use Rattle.pie_commands.specs.Words.{number_or}
 use Rattle.pie_storm.specs.StormHistory.{WritesStorm}
 use Rattle.pie_storm.specs.StormPlan.{IsStormPlan}
-use Rattle.pie_record.specs.Fault.{IsWrite}
+use Rattle.pie_record.specs.Fault.{IsWriteOrMemory}
 use Rattle.pie_commands.specs.declared.end.End.{End}
-use Rattle.pie_commands.specs.declared.end.End.TheVariants.{Done, Differs, Fault, CannotStart, OutputNotRenamed, Failed}
+use Rattle.pie_commands.specs.declared.end.End.TheVariants.{Done, Differs, Fault, CannotStart, NoOutputFile, Failed}
 use Rattle.pie_commands.specs.Ends.{WritesNothing}
 
 -- the choice that a word names, of two choices with their keywords; the first without a word
@@ -86,9 +86,9 @@ abbrev pub storm_ends : Option Elements → List Row → End → Option (List �
 storm_ends None options end before now = WritesNothing end before now
 storm_ends (Some elements) options Done before now = (plan : Plan) × IsStormPlan (numbers_in elements options) plan × WritesStorm plan before now
 storm_ends (Some elements) options Differs before now = ⊥
-storm_ends (Some elements) options (Fault why) before now = IsWrite why
+storm_ends (Some elements) options (Fault why) before now = IsWriteOrMemory why
 storm_ends (Some elements) options CannotStart before now = now ≡ before
-storm_ends (Some elements) options OutputNotRenamed before now = ⊥
+storm_ends (Some elements) options NoOutputFile before now = ⊥
 storm_ends (Some elements) options Failed before now = ⊥
 
 -- the end of a storm with the elements that the options name

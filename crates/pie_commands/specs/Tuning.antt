@@ -21,7 +21,7 @@ use Rattle.pie_commands.specs.Words.{flag_given, number_or}
 use Rattle.pie_record.specs.declared.fault.TraceFault.TheVariants as trace_fault
 use Rattle.pie_commands.specs.StormEnds.{decay_in}
 use Rattle.pie_commands.specs.declared.end.End.{End}
-use Rattle.pie_commands.specs.declared.end.End.TheVariants.{Done, Differs, Fault, CannotStart, OutputNotRenamed, Failed}
+use Rattle.pie_commands.specs.declared.end.End.TheVariants.{Done, Differs, Fault, CannotStart, NoOutputFile, Failed}
 
 -- the value that an option's text gives, or `unnamed` if the option isn't given
 abbrev pub given_or : {A : Type 0} → (Text → Result A OptionFault) → A → Option Text → Result A OptionFault
@@ -89,5 +89,5 @@ EndsParams options Done before now = WritesParams options before now
 EndsParams options Differs before now = ⊥
 EndsParams options (Fault why) before now = why ≡ trace_fault.Write
 EndsParams options CannotStart before now = now ≡ before
-EndsParams options OutputNotRenamed before now = ⊥
+EndsParams options NoOutputFile before now = ⊥
 EndsParams options Failed before now = (now ≡ before) × RefusesParams options

@@ -21,7 +21,7 @@ pub enum End {
     /// A file can't be opened, or memory or a thread is missing at the start. Nothing was written.
     CannotStart,
     /// The output file can't be created, or can't be moved onto its name. Each file is unchanged.
-    OutputNotRenamed,
+    NoOutputFile,
     /// The options select nothing that exists, or one of several files has a fault. The error stream has a line for
     /// it.
     Failed,
@@ -76,7 +76,7 @@ impl End {
         ensures { result ≡ after_output self is_there }
     {
         if self.is_whole() && !is_there {
-            return End::OutputNotRenamed;
+            return End::NoOutputFile;
         }
         self
     }

@@ -166,7 +166,7 @@ fn perform_to_file<H: Threads + Wait + Sync + NamedFiles + Screen, R: Read + Dro
 {
     let is_forced = flag(options, "force");
     let Some(mut fresh) = create_output(rt, name, file(options), is_forced, errors) else {
-        return End::OutputNotRenamed;
+        return End::NoOutputFile;
     };
     let end = perform(&*rt, alloc, subcommand, options, input, &mut fresh, errors);
     let is_there = finish_output(rt, fresh, name, is_forced, end.is_whole(), errors);

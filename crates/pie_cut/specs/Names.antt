@@ -11,7 +11,7 @@ pub use Rattle.pie_event.specs.declared.{command.Event.Event, opening.Limits.Lim
 pub use Rattle.pie_excerpt.specs.{Fits.WaitingFits, Preamble.Resumes, Preamble.is_resumed, Rows.queued_row}
 pub use Rattle.pie_excerpt.specs.Written.{IsWritten, resume_with, resumed_rows}
 pub use Rattle.pie_queue.specs.declared.packet.Waiting.{Waiting}
-pub use Rattle.pie_record.specs.{Fault.is_device, ReadBack.EventFits, Text.Row, Text.records_of, Text.text_of, Write.change_event, Write.line_rows}
+pub use Rattle.pie_record.specs.{Fault.is_io_or_memory, ReadBack.EventFits, Text.Row, Text.records_of, Text.text_of, Write.change_event, Write.line_rows}
 pub use Rattle.pie_record.specs.HistoryLines.{IsRecordOf, RemainingLines, events_in, history_lines, latest_clock}
 pub use Rattle.pie_record.specs.declared.{clock.Clock.Clock, fault.TraceFault.TraceFault, history_record.Line.Line}
 pub use Rattle.pie_record.specs.declared.history_record.Line.TheVariants.{Invalid, Note, Valid}

@@ -9,7 +9,7 @@ use Rattle.pie_params.specs.declared.elements.Size.TheVariants.{Unscaled, Scaled
 use Rattle.pie_params.specs.Elements.{usual}
 use Rattle.pie_queue.specs.declared.ecn.Ecn.TheVariants.{NotEct, Ect0}
 use Rattle.pie_early.specs.declared.early.TheConstants.{LOW_PROB, NEVER_PICKED}
-use Rattle.pie_early.specs.Decision.{counted_as}
+use Rattle.pie_early.specs.Decision.{effective_prob}
 
 -- the bounds in the definitions and in the code: 0.2, 0.85 and 8.5
 one : ONE ≡ 10 ^ 12
@@ -55,9 +55,9 @@ adds_nothing = (refl, refl, refl, refl)
 abbrev scaled : Elements
 scaled = record usual { size = Scaled }
 
-counts_as : (map (λ size. counted_as Scaled default_profile size (10 ^ 11)) (1 ∷ 512 ∷ 1023 ∷ 1024 ∷ 65535 ∷ [])
+counts_as : (map (λ size. effective_prob Scaled default_profile size (10 ^ 11)) (1 ∷ 512 ∷ 1023 ∷ 1024 ∷ 65535 ∷ [])
     ≡ 97_656_250 ∷ 50_000_000_000 ∷ 99_902_343_750 ∷ 100_000_000_000 ∷ 100_000_000_000 ∷ [])
-    × (counted_as Scaled default_profile 64 15 ≡ 0) × (counted_as Unscaled default_profile 64 15 ≡ 15)
+    × (effective_prob Scaled default_profile 64 15 ≡ 0) × (effective_prob Unscaled default_profile 64 15 ≡ 15)
 counts_as = (refl, refl, refl)
 
 -- at half the mean size, half the probability is added to the sum and compared with the word. An effective probability

@@ -2,7 +2,7 @@
 use Rattle.pie_early.proofs.Names.{◌≡◌, ℕ, ◌+◌, ◌*◌, ◌<◌, Bool, true, false, cond, List, [], ◌∷◌, ◌++◌, refl, sym, ap, ◌∙◌, arith, if◌then◌else◌}
 use Rattle.pie_early.proofs.Names.{ne_eqb, Derandomized, Enqueue, EarlyEvent, arrival, accumulated, Represents, ◌≤◌, nat_tests, RawParams, Picking}
 use Rattle.pie_early.proofs.Names.{accumulates, cleared, Parts, Ecn, Choice, always_picked, is_considered, is_picked, picked_choice, accu_at}
-use Rattle.pie_early.proofs.Names.{choice_at, choice_of, Elements, Offered, fate_of, counted}
+use Rattle.pie_early.proofs.Names.{choice_at, choice_of, Elements, Offered, fate_of, effective_prob_of}
 use Rattle.std.proofs.Common.{zero, suc, ◌-◌, not, length, drop, filter, replicate, add-one, append_assoc, ◌↔◌, ◌&&◌, ◌/◌}
 use Rattle.std.specs.Prelude.{sum_by, IsTrue}
 use Rattle.std.specs.List.{after_last, suffix_len}
@@ -156,7 +156,7 @@ represents_cleared events held is = is ∙ sym (accumulated-clearing events clea
 module _ (elements : Elements) (params : RawParams) (parts : Parts) (offered : Offered) (accu : ℕ) where
   -- the cause of a considered arrival
   pub cause_considered : is_considered params parts offered.bytes ≡ true → early_cause elements params parts offered accu
-      ≡ considered_cause elements.picking (counted elements params parts offered) accu (fate_of params parts.prob offered.ecn) offered.word
+      ≡ considered_cause elements.picking (effective_prob_of elements params parts offered) accu (fate_of params parts.prob offered.ecn) offered.word
   unfolding early_cause is_considered
   cause_considered e = grind (arith, nat_tests)
 

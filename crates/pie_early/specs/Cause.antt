@@ -15,7 +15,7 @@ use Rattle.pie_event.specs.declared.cause.Cause.TheVariants.{NoProbability, Litt
 use Rattle.pie_event.specs.declared.cause.Fate.{Fate}
 use Rattle.pie_event.specs.declared.cause.Fate.TheVariants.{Marked, NotCapable, NotBelow}
 use Rattle.pie_early.specs.declared.decision.Offered.{Offered}
-use Rattle.pie_early.specs.Decision.{a_fifth, always_picked, counted, is_below, never_picked}
+use Rattle.pie_early.specs.Decision.{a_fifth, always_picked, effective_prob_of, is_below, never_picked}
 
 -- the reason why a picked packet is marked or dropped
 abbrev pub fate_of : RawParams → ℕ → Ecn → Fate
@@ -42,4 +42,4 @@ early_cause elements params parts offered accu =
     if nat_lt 0 parts.burst then BurstAllowed parts.burst
     else if nat_lt (2 * parts.old_delay) params.target && nat_lt parts.prob a_fifth then LowDelay parts.old_delay params.target parts.prob
     else if nat_le offered.bytes (2 * params.mean_pkt) then ShortQueue offered.bytes params.mean_pkt
-    else considered_cause elements.picking (counted elements params parts offered) accu (fate_of params parts.prob offered.ecn) offered.word
+    else considered_cause elements.picking (effective_prob_of elements params parts offered) accu (fate_of params parts.prob offered.ecn) offered.word

@@ -38,9 +38,9 @@ is_considered params control bytes =
 
 -- the effective probability for a packet of this size: if sizes are scaled and the packet is smaller than the mean, in
 -- proportion to its size, rounded down
-abbrev pub counted_as : Size → RawParams → ℕ → ℕ → ℕ
-counted_as Unscaled params size prob = prob
-counted_as Scaled params size prob = if nat_lt size params.mean_pkt then prob * size / params.mean_pkt else prob
+abbrev pub effective_prob : Size → RawParams → ℕ → ℕ → ℕ
+effective_prob Unscaled params size prob = prob
+effective_prob Scaled params size prob = if nat_lt size params.mean_pkt then prob * size / params.mean_pkt else prob
 
 -- true if the random word, as a fraction of 2^64, is below this probability
 abbrev pub is_below : ℕ → ℕ → Bool
@@ -81,17 +81,17 @@ accu_at picking params control prob bytes word accu =
     else joined picking accu prob
 
 -- the effective probability for this arrival
-abbrev pub counted : Elements → RawParams → Parts → Offered → ℕ
-counted elements params control offered = counted_as elements.size params offered.size control.prob
+abbrev pub effective_prob_of : Elements → RawParams → Parts → Offered → ℕ
+effective_prob_of elements params control offered = effective_prob elements.size params offered.size control.prob
 
 -- the choice for this arrival, and the accumulated probability after it
 abbrev pub choice_of : Elements → RawParams → Parts → Offered → ℕ → Choice
 choice_of elements params control offered accu =
-    choice_at elements.picking params control (counted elements params control offered) offered.bytes offered.ecn offered.word accu
+    choice_at elements.picking params control (effective_prob_of elements params control offered) offered.bytes offered.ecn offered.word accu
 
 abbrev pub accu_after : Elements → RawParams → Parts → Offered → ℕ → ℕ
 accu_after elements params control offered accu =
-    accu_at elements.picking params control (counted elements params control offered) offered.bytes offered.word accu
+    accu_at elements.picking params control (effective_prob_of elements params control offered) offered.bytes offered.word accu
 
 -- the conditions for a pick as facts: the arrival is considered and picked, at the effective probability `prob`
 pub record IsPicked (picking : Picking) (params : RawParams) (control : Parts) (prob bytes word accu : ℕ) : Type 0 where

@@ -3,7 +3,7 @@ ghost use Rattle.pie_params.specs.declared.elements.Size.TheVariants.{Scaled};
 ghost use Rattle.pie_event.specs.Cause.{verdict_named, verdict_of};
 ghost use Rattle.pie_event.specs.CauseName.{name_of};
 ghost use Rattle.pie_early.specs.Cause.{considered_cause, early_cause, fate_of};
-ghost use Rattle.pie_early.specs.Decision.{a_fifth, accu_after, choice_of, chosen, counted_as, is_below, is_considered, is_picked, joined};
+ghost use Rattle.pie_early.specs.Decision.{a_fifth, accu_after, choice_of, chosen, effective_prob, is_below, is_considered, is_picked, joined};
 
 use crate::early::{LOW_PROB, NEVER_PICKED};
 use pie_control::RawControl;
@@ -54,7 +54,7 @@ pub fn decide(
     if let Some(name) = unconsidered(params, control, offered.bytes) {
         return Decision { name, accu };
     }
-    let prob = counted_as(elements.size, params, offered.size, control.prob);
+    let prob = effective_prob(elements.size, params, offered.size, control.prob);
     decide_considered(params, elements.picking, control.prob, offered, prob, accu)
 }
 
@@ -90,8 +90,8 @@ fn is_low(params: &RawParams, control: &RawControl) -> bool
     control.old_delay < half(params.target) && control.prob < LOW_PROB
 }
 
-/// Decides on a considered arrival at the probability `prob`, with the effective value `counted`. With accumulation the
-/// sum with `counted` and the word decide (RFC 8033, section 5.4), otherwise the word alone (section 4.1). A sum that
+/// Decides on a considered arrival at the probability `prob`, whose effective value is `effective`.
+/// With accumulation the sum with `effective` and the word decide (RFC 8033, section 5.4), otherwise the word alone (section 4.1). A sum that
 /// exceeds `u64` is above 8.5.
 #[inline(always)]
 #[tactic(auto, using(std::proofs::lemmas::Bool::Decides::nat_tests), unfolding(crate::specs::Cause::considered_cause, crate::specs::Decision::is_picked))]
@@ -100,14 +100,14 @@ fn decide_considered(
     picking: Picking,
     prob: u64,
     offered: Offered,
-    counted: u64,
+    effective: u64,
     accu: u64,
 ) -> Decision
-    ensures name { result.name ≡ name_of (considered_cause picking counted accu (fate_of params.now prob offered.ecn) offered.word) }
-    ensures accu { result.accu ≡ (if (counted == 0) || is_picked picking counted (accu + counted) offered.word then 0
-        else joined picking accu counted) }
+    ensures name { result.name ≡ name_of (considered_cause picking effective accu (fate_of params.now prob offered.ecn) offered.word) }
+    ensures accu { result.accu ≡ (if (effective == 0) || is_picked picking effective (accu + effective) offered.word then 0
+        else joined picking accu effective) }
 {
-    if counted == 0 {
+    if effective == 0 {
         return Decision {
             name: CauseName::NoProbability,
             accu: 0,
@@ -115,14 +115,14 @@ fn decide_considered(
     }
     let sum = match picking {
         Picking::Random => Some(NEVER_PICKED),
-        Picking::Derandomized => accu.checked_add(counted),
+        Picking::Derandomized => accu.checked_add(effective),
     };
     match sum {
         Some(sum) if sum < NEVER_PICKED => Decision {
             name: CauseName::LittleAccumulated,
             accu: sum,
         },
-        Some(sum) if sum < ALWAYS_PICKED && !is_below(offered.word, counted) => Decision {
+        Some(sum) if sum < ALWAYS_PICKED && !is_below(offered.word, effective) => Decision {
             name: CauseName::WordNotBelow,
             accu: match picking {
                 Picking::Random => accu,
@@ -132,7 +132,7 @@ fn decide_considered(
         Some(sum) if sum < ALWAYS_PICKED => Decision {
             name: Cause::PickedByWord {
                 accu,
-                prob: counted,
+                prob: effective,
                 word: offered.word,
                 fate: fate_of(params, prob, offered.ecn),
             }
@@ -142,7 +142,7 @@ fn decide_considered(
         _ => Decision {
             name: Cause::PickedBySum {
                 accu,
-                prob: counted,
+                prob: effective,
                 fate: fate_of(params, prob, offered.ecn),
             }
             .name(),
@@ -165,8 +165,8 @@ fn half(number: u64) -> u64
 /// are scaled and the packet is smaller than `mean_pkt`, it is reduced in proportion to the size and rounded down (this
 /// project's own; Linux's `bytemode` if `mean_pkt` is the link's MTU).
 #[inline(always)]
-fn counted_as(sizes: Size, params: &RawParams, size: u32, prob: u64) -> u64
-    ensures value { result ≡ counted_as sizes params.now size prob }
+fn effective_prob(sizes: Size, params: &RawParams, size: u32, prob: u64) -> u64
+    ensures value { result ≡ effective_prob sizes params.now size prob }
     ensures at_most { result ≤ prob }
 {
     match sizes {
@@ -179,7 +179,7 @@ fn counted_as(sizes: Size, params: &RawParams, size: u32, prob: u64) -> u64
 #[inline(never)]
 #[tactic(auto, using(std::proofs::lemmas::Bool::Decides::nat_tests, crate::proofs::Laws::scaled_below))]
 fn scaled(params: &RawParams, size: u32, prob: u64) -> u64
-    ensures value { result ≡ counted_as Scaled params.now size prob }
+    ensures value { result ≡ effective_prob Scaled params.now size prob }
     ensures at_most { result ≤ prob }
 {
     if u64::from(size) < params.mean_pkt {
@@ -252,10 +252,10 @@ fn considered_cause(
     offered: Offered,
     accu: u64,
 ) -> Cause
-    ensures { result ≡ considered_cause elements.picking (counted_as elements.size params.now offered.size control.now.prob) accu
+    ensures { result ≡ considered_cause elements.picking (effective_prob elements.size params.now offered.size control.now.prob) accu
         (fate_of params.now control.now.prob offered.ecn) offered.word }
 {
-    let prob = counted_as(elements.size, params, offered.size, control.prob);
+    let prob = effective_prob(elements.size, params, offered.size, control.prob);
     let fate = fate_of(params, control.prob, offered.ecn);
     match decide_considered(params, elements.picking, control.prob, offered, prob, accu).name {
         CauseName::LittleAccumulated => Cause::LittleAccumulated { accu, prob },

@@ -1,7 +1,7 @@
 ghost use Rattle.std.specs.Prelude.{◌≡◌, ℕ, ◌+◌, ◌*◌, ◌<◌, ◌↔◌, List, [], ◌∷◌, ◌++◌, true, replicate, IsTrue};
 ghost use Rattle.pie_fixed.specs.declared.TheConstants.{ALWAYS_PICKED};
 ghost use Rattle.pie_params.specs.declared.elements.Picking.TheVariants.{Derandomized};
-ghost use Rattle.pie_early.specs.Decision.{accu_after, choice_of, chosen, counted, is_considered, is_pick, IsPicked};
+ghost use Rattle.pie_early.specs.Decision.{accu_after, choice_of, chosen, effective_prob_of, is_considered, is_pick, IsPicked};
 ghost use Rattle.pie_early.specs.Events.{EarlyEvent, arrival, cleared, is_clearing};
 ghost use Rattle.pie_early.specs.History.{Represents, accumulated};
 
@@ -103,7 +103,7 @@ impl Early {
         offered: Offered,
     ) -> Choice
         ensures choice { result ≡ choice_of elements params.now control.now offered self.old }
-        ensures picked { IsTrue (is_pick result) ↔ IsPicked elements.picking params.now control.now (counted elements params.now control.now offered)
+        ensures picked { IsTrue (is_pick result) ↔ IsPicked elements.picking params.now control.now (effective_prob_of elements params.now control.now offered)
             offered.bytes offered.word self.old }
 
         // from the accumulated probability before the arrival, for any list of arrivals
@@ -116,15 +116,15 @@ impl Early {
         ensures represents { (events : List EarlyEvent) →
             let considered = is_considered params.now control.now offered.bytes in
             Represents events self.old →
-            Represents (events ++ arrival considered (counted elements params.now control.now offered) elements.picking result ∷ []) self.new }
+            Represents (events ++ arrival considered (effective_prob_of elements params.now control.now offered) elements.picking result ∷ []) self.new }
 
         // if probabilities accumulate, the accumulated one grows between two picks by the probability at each arrival
         // that is considered at a probability above 0
         ensures grows { elements.picking ≡ Derandomized →
             IsTrue (is_considered params.now control.now offered.bytes) →
-            0 < counted elements params.now control.now offered →
+            0 < effective_prob_of elements params.now control.now offered →
             result ≡ Choice.Enqueue →
-            self.new ≡ self.old + counted elements params.now control.now offered }
+            self.new ≡ self.old + effective_prob_of elements params.now control.now offered }
     {
         let decision = decide(&params.raw(), elements, &control.raw(), offered, self.accu);
         self.accu = decision.accu;

@@ -3,6 +3,6 @@ pub mod Verdict
 pub mod Cause
 pub mod CauseName
 pub mod Opening
-pub mod Deed
+pub mod Effect
 pub mod Ranges
 pub mod Setter

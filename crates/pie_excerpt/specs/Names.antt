@@ -10,7 +10,7 @@ pub use Rattle.pie_excerpt.specs.declared.resume.Resume.{Resume}
 pub use Rattle.pie_params.specs.{Range.first_bad, declared.raw.RawParams.RawParams}
 pub use Rattle.pie_queue.specs.declared.{packet.Packet.Packet, packet.Waiting.Waiting}
 pub use Rattle.pie_rate.specs.declared.{raw.RawCycle.RawCycle, raw.RawRate.RawRate}
-pub use Rattle.pie_record.specs.{Answer.counted, Answer.flag, Fault.IsOfInput, Fault.IsWrite, Fault.fault_at, Fault.is_device, Field.and_then}
+pub use Rattle.pie_record.specs.{Answer.counted, Answer.flag, Fault.IsOfInput, Fault.IsWriteOrMemory, Fault.fault_at, Fault.is_io_or_memory, Field.and_then}
 pub use Rattle.pie_record.specs.{Field.is_kind, Field.most_u128, Field.most_u64, Field.number_at, FirstRecord.checked_opening, ReadBack.AllSmall}
 pub use Rattle.pie_record.specs.{ReadBack.LimitsFit, ReadBack.NineFit, Text.HasField, Text.Row, Text.records_of, Text.rows_setup, Text.text_of}
 pub use Rattle.pie_record.specs.{Words.ecn_word, Words.mode_word, Write.chosen_row, Write.decay_row, Write.event_row, Write.nine_of}

@@ -2,7 +2,7 @@
 use Rattle.std.specs.Prelude.{◌≡◌, ◌==◌, ◌≤◌, nat_le, ◌&&◌, Ok, if◌then◌else◌}
 use Rattle.pie_explain.specs.Names.{ℕ, nat_lt, List, length, Bool, true, false, Option, Some, None, Result, Err, Appends, TraceFault, Line}
 use Rattle.pie_explain.specs.Names.{Finding, AuditsFrom, AuditorView, count_after, Explained, Setter, Selection, is_whole, Start, Origin}
-use Rattle.pie_record.specs.Fault.{is_device}
+use Rattle.pie_record.specs.Fault.{is_io_or_memory}
 use Rattle.pie_audit.specs.declared.auditor.Finding.TheVariants.{Clean}
 use Rattle.pie_audit.specs.declared.replay.Replay.{Replay}
 use Rattle.pie_audit.specs.Replay.{Replays}
@@ -44,7 +44,7 @@ answer_since selection start origin lines None =
 
 -- the result agrees with the audit of the text: with its fault, or its first difference, or it is clean
 abbrev pub IsAsAudited : Result Finding TraceFault → Result ℕ ExplainFault → Type 0
-IsAsAudited audited (Err (Trace why)) = is_device why ≡ false → audited ≡ Err why
+IsAsAudited audited (Err (Trace why)) = is_io_or_memory why ≡ false → audited ≡ Err why
 IsAsAudited audited (Err (Differs event)) = audited ≡ Ok (finding.Differs event)
 IsAsAudited audited (Err (NoEvent event events)) = audited ≡ Ok (Clean events)
 IsAsAudited audited other = (events : ℕ) × (audited ≡ Ok (Clean events))

@@ -6,7 +6,7 @@ use Rattle.pie_book.specs.Core.{CoreView, cause_in, core_along, registers_of}
 use Rattle.pie_queue.specs.Queue.{bytes_of}
 use Rattle.pie_event.specs.declared.command.Event.{Event}
 use Rattle.pie_event.specs.declared.opening.Opening.{Opening}
-use Rattle.pie_event.specs.Deed.{deed_of, caller_moment, is_update}
+use Rattle.pie_event.specs.Effect.{effect_of, caller_moment, is_update}
 use Rattle.pie_book.specs.History.{effective_moment, waiting_after}
 use Rattle.pie_book.specs.Estimates.{delay_after}
 use Rattle.pie_book.specs.Registers.{registers_after}
@@ -31,7 +31,7 @@ explanation opening history number event set_by clock = record {
   before = registers_after opening history;
   delay = delay_after opening history;
   cause = cause_after opening history event.command;
-  waited = wait_of (deed_of event) (moment_of opening history event) (waiting_after opening history);
+  waited = wait_of (effect_of event) (moment_of opening history event) (waiting_after opening history);
   set_by = set_by;
   updates = count_of is_update history;
   clock = clock;
@@ -61,7 +61,7 @@ explanation_in core number event set_by clock = record {
   before = registers_of core;
   delay = delay_in core.controller (bytes_of core.waiting);
   cause = cause_in core event.command;
-  waited = wait_of (deed_of event) (moment_at core event) core.waiting;
+  waited = wait_of (effect_of event) (moment_at core event) core.waiting;
   set_by = set_by;
   updates = core.stats.updates;
   clock = clock;

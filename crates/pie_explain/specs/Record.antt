@@ -10,9 +10,9 @@ use Rattle.pie_event.specs.declared.command.Answer.{Answer}
 use Rattle.pie_event.specs.declared.command.Answer.TheVariants.{Enqueued, Marked, DroppedEarly, DroppedBytes, DroppedPackets, Empty, Left, Updated}
 use Rattle.pie_event.specs.declared.command.Answer.TheVariants.{Done}
 use Rattle.pie_event.specs.declared.registers.Registers.{Registers}
-use Rattle.pie_event.specs.Deed.{caller_moment}
+use Rattle.pie_event.specs.Effect.{caller_moment}
 use Rattle.pie_record.specs.declared.words.Kind.TheVariants as kind
-use Rattle.pie_record.specs.declared.words.AnswerWord.TheVariants as explanation_texts
+use Rattle.pie_record.specs.declared.words.AnswerKeyword.TheVariants as explanation_texts
 use Rattle.pie_record.specs.Words.{ecn_word, word_of_kind, word_of_answer}
 use Rattle.pie_units.specs.Utc.{utc_text}
 use Rattle.pie_explain.specs.declared.explanation.Explained.{Explained}

@@ -90,14 +90,14 @@ update_words number true (Updated delay prob burst) =
     ∷ codes "\n  and the burst allowance " ∷ millis burst ∷ codes "\n" ∷ [])
 update_words number true _ = joined (codes "event " ∷ decimal number ∷ codes ": an update\n" ∷ [])
 
-unfoldable pub deed_words : ℕ → Bool → Command → Answer → ℕ → List ℕ
-deed_words number active (Arrive moment packet word) answer waited = joined (packet_words number packet ∷ verdict_text answer ∷ codes "\n" ∷ [])
-deed_words number active (Depart moment) (Left packet) waited =
+unfoldable pub effect_words : ℕ → Bool → Command → Answer → ℕ → List ℕ
+effect_words number active (Arrive moment packet word) answer waited = joined (packet_words number packet ∷ verdict_text answer ∷ codes "\n" ∷ [])
+effect_words number active (Depart moment) (Left packet) waited =
     joined (packet_words number packet ∷ codes "left\n  it had waited " ∷ millis waited ∷ codes "\n" ∷ [])
-deed_words number active (Depart moment) _ waited = joined (codes "event " ∷ decimal number ∷ codes ": no packet was there to leave\n" ∷ [])
-deed_words number active (Update moment) answer waited = update_words number active answer
-deed_words number active (Reset moment) answer waited = joined (codes "event " ∷ decimal number ∷ codes ": a reset\n" ∷ [])
-deed_words number active (SetParams moment params) answer waited = joined (codes "event " ∷ decimal number ∷ codes ": new parameters\n" ∷ [])
+effect_words number active (Depart moment) _ waited = joined (codes "event " ∷ decimal number ∷ codes ": no packet was there to leave\n" ∷ [])
+effect_words number active (Update moment) answer waited = update_words number active answer
+effect_words number active (Reset moment) answer waited = joined (codes "event " ∷ decimal number ∷ codes ": a reset\n" ∷ [])
+effect_words number active (SetParams moment params) answer waited = joined (codes "event " ∷ decimal number ∷ codes ": new parameters\n" ∷ [])
 
 -- ---- the cause of an arrival
 
@@ -215,7 +215,7 @@ before_words clock explanation =
 -- an explanation in words. With a clock record its moments are wall-clock times
 unfoldable pub words_by : Option Clock → Explained → List ℕ
 words_by clock all =
-    joined (deed_words all.explanation.number all.explanation.before.active all.explanation.event.command all.explanation.event.answer all.explanation.waited
+    joined (effect_words all.explanation.number all.explanation.before.active all.explanation.event.command all.explanation.event.answer all.explanation.waited
     ∷ codes "  at " ∷ moment_words clock all.explanation.moment ∷ codes ", by caller " ∷ decimal all.explanation.event.caller ∷ codes "\n"
     ∷ reason_words clock all.explanation.before all.explanation.cause ∷ turned_words all.explanation.before.active all.after.active
     ∷ before_words clock all.explanation ∷ [])

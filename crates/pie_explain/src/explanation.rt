@@ -4,7 +4,7 @@ ghost use Rattle.pie_event.specs.declared.command.Event.{Event};
 ghost use Rattle.pie_event.specs.declared.opening.Opening.{Opening};
 ghost use Rattle.pie_book.specs.Core.{Represents, cause_in};
 ghost use Rattle.pie_book.specs.Decision.{cause_after};
-ghost use Rattle.pie_event.specs.Deed.{deed_of};
+ghost use Rattle.pie_event.specs.Effect.{effect_of};
 ghost use Rattle.pie_book.specs.Statistics.{wait_of};
 ghost use Rattle.pie_explain.specs.Explanation.{moment_at, moment_of};
 
@@ -67,7 +67,7 @@ fn cause_of(core: &Core, command: &Command) -> Option<Cause>
 
 /// Returns the departing packet's time in the queue at the effective moment `now`, or 0 for any other event.
 fn waited(core: &Core, event: &Event, now: u64) -> u64
-    ensures { result ≡ wait_of (deed_of event.now) now core.now.waiting }
+    ensures { result ≡ wait_of (effect_of event.now) now core.now.waiting }
 {
     match event.command {
         Command::Depart { .. } => match event.answer {

@@ -2,7 +2,7 @@
 ghost use Rattle.std.specs.Prelude.{◌≡◌, ◌++◌, ◌∷◌, [], OnOk, codes, string_bytes, true};
 ghost use Rattle.std.specs.Fmt.{decimal};
 ghost use Rattle.pie_event.specs.declared.command.Answer.TheVariants.{Updated};
-ghost use Rattle.pie_explain.specs.Words.{accumulated_words, before_words, cause_words, compared_words, considered_words, counted_name, deed_words};
+ghost use Rattle.pie_explain.specs.Words.{accumulated_words, before_words, cause_words, compared_words, considered_words, counted_name, effect_words};
 ghost use Rattle.pie_explain.specs.Words.{ecn_name, joined, last_words, lasting_words, never_words, packet_words, picked_words, reason_words};
 ghost use Rattle.pie_explain.specs.Words.{scaled_words, setter_words, sum_words, turned_words, update_words, verdict_text, words_by};
 
@@ -85,10 +85,10 @@ fn push_update(page: &mut String, number: u64, active: bool, answer: Answer) -> 
 }
 
 /// Writes the first lines: the event and its outcome.
-#[tactic(auto, unfolding(crate::specs::Words::deed_words))]
-fn push_deed(page: &mut String, explanation: &Explanation) -> Written
+#[tactic(auto, unfolding(crate::specs::Words::effect_words))]
+fn push_effect(page: &mut String, explanation: &Explanation) -> Written
     ensures { OnOk result (string_bytes page.new ≡ string_bytes page.old
-        ++ deed_words explanation.now.number explanation.now.before.active explanation.now.event.command explanation.now.event.answer explanation.now.waited) }
+        ++ effect_words explanation.now.number explanation.now.before.active explanation.now.event.command explanation.now.event.answer explanation.now.waited) }
 {
     let (number, answer) = (explanation.number, explanation.event.answer);
     match explanation.event.command {
@@ -418,7 +418,7 @@ pub(crate) fn push_text(page: &mut String, clock: Option<Clock>, all: &Explained
         clock,
         moment: explanation.moment,
     };
-    push_deed(page, explanation)?;
+    push_effect(page, explanation)?;
     write!(page, "  at {now}, by caller {caller}\n")?;
     push_reason(page, clock, &explanation.before, explanation.cause)?;
     page.push_str(turned_text(was_active, all.after.active))?;

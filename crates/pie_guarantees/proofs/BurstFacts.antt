@@ -1,9 +1,9 @@
 -- The decrease of the burst allowance from update to update, the distance of updates, and the moments before which they are refused.
 use Rattle.pie_guarantees.proofs.Names.{◌≡◌, ◌≤◌, ◌+◌, ◌*◌, ℕ, List, [], ◌∷◌, ◌++◌, true, false, sym, arith, subst, max, All, append_assoc}
-use Rattle.pie_guarantees.proofs.Names.{deed, is_update, after_call, ControllerState, Waiting, Command, Update, Answer, Event, Opening, call_of, is_too_soon}
+use Rattle.pie_guarantees.proofs.Names.{effect, is_update, after_call, ControllerState, Waiting, Command, Update, Answer, Event, Opening, call_of, is_too_soon}
 use Rattle.pie_guarantees.proofs.Names.{state_after, params_after, parts_after, effective_moment, waiting_after, AllAllow, Allows, IsAllowed}
 use Rattle.pie_guarantees.proofs.Names.{KeepsParams, SetsAllow, nat_tests, burst_left, updates_in, IsLawful, IsEarly, ◌<◌, bytes_of}
-use Rattle.pie_guarantees.proofs.Names.{Some, ◌∙◌, AtEachEvent, deed_of, caller_moment, refusal_with, refusal_by_rule, in-range, length}
+use Rattle.pie_guarantees.proofs.Names.{Some, ◌∙◌, AtEachEvent, effect_of, caller_moment, refusal_with, refusal_by_rule, in-range, length}
 use Rattle.pie_guarantees.proofs.Names.{effective_moment-push, refl, Reset}
 use Rattle.pie_aqm.specs.Steps as Steps
 use Rattle.pie_guarantees.proofs.LawfulFacts.{IsStep, all_along, along, along_updates, counted_with, first-state, sound_at, step_at}
@@ -143,7 +143,7 @@ pub activated-whole : (h : ControllerState) (waiting : List Waiting) (packets : 
     → (after_call h (call_of waiting packets command)).control.burst ≡ (after_call h (call_of waiting packets command)).params.max_burst
 activated-whole h waiting packets command off on = grind (arith, nat_tests)
 
-pub calm-whole : (h : ControllerState) (waiting : List Waiting) (packets : ℕ) (command : Command) (answer : Answer) → is_update (deed command answer) ≡ true
+pub calm-whole : (h : ControllerState) (waiting : List Waiting) (packets : ℕ) (command : Command) (answer : Answer) → is_update (effect command answer) ≡ true
     → h.active ≡ true → 2 * Steps.delay_in h (bytes_of waiting) < h.params.target → 2 * h.control.old_delay < h.params.target
     → (after_call h (call_of waiting packets command)).control.prob ≡ 0
     → (after_call h (call_of waiting packets command)).control.burst ≡ (after_call h (call_of waiting packets command)).params.max_burst
@@ -171,7 +171,7 @@ refused_ahead opening before event later lawful ahead moment due far e =
     omega (arith, now, far, refused_before opening (before ++ event ∷ []) later (rw (← split) at lawful) moment due e)
 
 -- an update leaves its moment as the last one
-last-is : (h : ControllerState) (waiting : List Waiting) (packets : ℕ) (command : Command) (answer : Answer) → is_update (deed command answer) ≡ true
+last-is : (h : ControllerState) (waiting : List Waiting) (packets : ℕ) (command : Command) (answer : Answer) → is_update (effect command answer) ≡ true
     → ((after_call h (call_of waiting packets command)).control.last ≡ (after_call h (call_of waiting packets command)).moment)
     × ((after_call h (call_of waiting packets command)).params ≡ h.params)
 last-is h waiting packets command answer is = (grind (arith, nat_tests), grind (arith, nat_tests))
@@ -180,7 +180,7 @@ pub refused_with : (now due count events moment : ℕ) → moment < 1_152_921_50
     → refusal_with now due count events (Update moment) ≡ Some (TooSoon due)
 refused_with now due count events moment within soon early = grind (arith, nat_tests)
 
-pub refused_after : AtEachEvent (λ opening before event. is_update (deed_of event) ≡ true → (moment : ℕ) → moment < 1_152_921_504_606_846_976
+pub refused_after : AtEachEvent (λ opening before event. is_update (effect_of event) ≡ true → (moment : ℕ) → moment < 1_152_921_504_606_846_976
     → moment < effective_moment opening (before ++ event ∷ []) + (params_after opening before).t_update
     → refusal_by_rule opening (before ++ event ∷ []) (Update moment)
     ≡ Some (TooSoon (effective_moment opening (before ++ event ∷ []) + (params_after opening before).t_update)))

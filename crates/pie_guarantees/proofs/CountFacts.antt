@@ -1,8 +1,8 @@
 -- The verdict of every packet.
 use Rattle.pie_guarantees.proofs.Names.{◌≡◌, ◌≤◌, ◌+◌, ◌*◌, ◌^◌, ℕ, List, [], ◌∷◌, ◌++◌, map, Bool, refl, sym, ap, ◌∙◌, cond, ◌⊎◌, AtEachEvent}
 use Rattle.pie_guarantees.proofs.Names.{AtEachHistory, BetweenAny, if◌then◌else◌, inl, length, arith, subst, All, Some, Option, sum_by, append-nil}
-use Rattle.pie_guarantees.proofs.Names.{append_assoc, length-map, map-append, filter_map-append, sum_by_push, sum_by-cons, bytes_of, Deed, deed}
-use Rattle.pie_guarantees.proofs.Names.{deed_of, departure, answer_of, after_call, ControllerState, filter_map-push, with_one, Packet, Waiting, Verdict, Command}
+use Rattle.pie_guarantees.proofs.Names.{append_assoc, length-map, map-append, filter_map-append, sum_by_push, sum_by-cons, bytes_of, Effect, effect}
+use Rattle.pie_guarantees.proofs.Names.{effect_of, departure, answer_of, after_call, ControllerState, filter_map-push, with_one, Packet, Waiting, Verdict, Command}
 use Rattle.pie_guarantees.proofs.Names.{Arrive, Depart, Answer, Event, Opening, arrival_of, call_of, answer_by, state_after, params_after, bytes_after}
 use Rattle.pie_guarantees.proofs.Names.{effective_moment, waiting_after, count_of, is_dropped_bytes, is_dropped_early, is_dropped_packets, is_marked}
 use Rattle.pie_guarantees.proofs.Names.{is_queued, waiting_next, first_shows, IsLawful, nat_tests, take, take-append_seam}
@@ -20,28 +20,28 @@ abbrev Adds : List Event → Type 0
 Adds history = packets_arrived history ≡ count_of is_queued history + count_of is_marked history + count_of is_dropped_early history
     + count_of is_dropped_bytes history + count_of is_dropped_packets history
 
-count-push : (test : Deed → Bool) (before : List Event) (event : Event)
-    → count_of test (before ++ event ∷ []) ≡ count_of test before + cond (test (deed_of event)) 1 0
-count-push test before event = sum_by_push (λ (e : Event). cond (test (deed_of e)) 1 0) before event
+count-push : (test : Effect → Bool) (before : List Event) (event : Event)
+    → count_of test (before ++ event ∷ []) ≡ count_of test before + cond (test (effect_of event)) 1 0
+count-push test before event = sum_by_push (λ (e : Event). cond (test (effect_of e)) 1 0) before event
 
 -- the effect of the event, by the state before it
-deed-is : (opening : Opening) (before : List Event) (event : Event) → IsStep opening before event
-    → deed_of event ≡ deed event.command (answer_by (state_after opening before) (waiting_after opening before) opening.limits.packets event.command)
-deed-is opening before event step = ap (λ (a : Answer). deed event.command a) step.here.answered
+effect-is : (opening : Opening) (before : List Event) (event : Event) → IsStep opening before event
+    → effect_of event ≡ effect event.command (answer_by (state_after opening before) (waiting_after opening before) opening.limits.packets event.command)
+effect-is opening before event step = ap (λ (a : Answer). effect event.command a) step.here.answered
 
--- the number of ways in which a deed counts
-abbrev ways : Deed → ℕ
+-- the number of ways in which an effect counts
+abbrev ways : Effect → ℕ
 ways d = cond (is_queued d) 1 0 + cond (is_marked d) 1 0 + cond (is_dropped_early d) 1 0 + cond (is_dropped_bytes d) 1 0
     + cond (is_dropped_packets d) 1 0
 
 -- one command counts once
 once-more : (h : ControllerState) (waiting : List Waiting) (packets : ℕ) (command : Command)
-    → cond (is_packet_arrival command) 1 0 ≡ ways (deed command (answer_by h waiting packets command))
+    → cond (is_packet_arrival command) 1 0 ≡ ways (effect command (answer_by h waiting packets command))
 unfolding Steps.verdict
 once-more h waiting packets command = grind (arith, nat_tests)
 
 adds-next : (opening : Opening) (before : List Event) (event : Event) → IsStep opening before event → Adds before → Adds (before ++ event ∷ [])
-adds-next opening before event step old = grind (arith, nat_tests, once-more, sum_by_push, count-push, deed-is)
+adds-next opening before event step old = grind (arith, nat_tests, once-more, sum_by_push, count-push, effect-is)
 
 pub each_once : AtEachHistory (λ opening history. Adds history)
 unfolding AtEachHistory
@@ -54,9 +54,9 @@ packets-of waiting = map (λ (entry : Waiting). entry.packet) waiting
 
 in-order : (h : ControllerState) (waiting : List Waiting) (packets : ℕ) (command : Command) (now : ℕ) (gone all : List Packet)
     → gone ++ packets-of waiting ≡ all
-    → with_one gone (departure (deed command (answer_by h waiting packets command)))
-    ++ packets-of (waiting_next waiting now (deed command (answer_by h waiting packets command)))
-    ≡ with_one all (packet_queued (deed command (answer_by h waiting packets command)))
+    → with_one gone (departure (effect command (answer_by h waiting packets command)))
+    ++ packets-of (waiting_next waiting now (effect command (answer_by h waiting packets command)))
+    ≡ with_one all (packet_queued (effect command (answer_by h waiting packets command)))
 unfolding Steps.verdict
 in-order h waiting packets command now gone all e = grind (arith, nat_tests, append_assoc, map-append)
 
@@ -66,7 +66,7 @@ Ordered opening history = packets_departed history ++ packets_waiting opening hi
 ordered-next : (opening : Opening) (before : List Event) (event : Event) → IsStep opening before event → Ordered opening before
     → Ordered opening (before ++ event ∷ [])
 unfolding packets_departed packets_queued
-ordered-next opening before event step old = grind (arith, nat_tests, filter_map-push, deed-is, in-order)
+ordered-next opening before event step old = grind (arith, nat_tests, filter_map-push, effect-is, in-order)
 
 -- at the opening no packet is queued
 none-waits : (opening : Opening) → waiting_after opening [] ≡ []
@@ -90,13 +90,13 @@ record Bounded (limit packets : ℕ) (before after : List Waiting) (queued : Opt
   queue : (packet : Packet) → queued ≡ Some packet → bytes_of after ≤ limit
 
 bytes-queued : (packet : Packet) (waiting : List Waiting) (moment word now : ℕ) (v : Verdict)
-    → bytes_of (waiting_next waiting now (deed (Arrive moment packet word) (answer_of v)))
+    → bytes_of (waiting_next waiting now (effect (Arrive moment packet word) (answer_of v)))
     ≡ bytes_of waiting + (if Verdicts.is_queued v then packet.size else 0)
 bytes-queued packet waiting moment word now v = grind (arith, nat_tests, sum_by_push)
 
 bounded : (h : ControllerState) (waiting : List Waiting) (packets : ℕ) (command : Command) (now : ℕ)
-    → Bounded h.params.limit_bytes packets waiting (waiting_next waiting now (deed command (answer_by h waiting packets command)))
-    (packet_queued (deed command (answer_by h waiting packets command)))
+    → Bounded h.params.limit_bytes packets waiting (waiting_next waiting now (effect command (answer_by h waiting packets command)))
+    (packet_queued (effect command (answer_by h waiting packets command)))
 unfolding Steps.verdict
 bounded h waiting packets (Arrive moment packet word) now =
     let bytes = bytes-queued packet waiting moment word now (Steps.verdict h (arrival_of waiting packets packet word)) in
@@ -109,9 +109,9 @@ bounded h waiting packets _ now =
 
 bounded-at : (opening : Opening) (before : List Event) (event : Event) → IsStep opening before event
     → Bounded (state_after opening before).params.limit_bytes opening.limits.packets (waiting_after opening before)
-    (waiting_after opening (before ++ event ∷ [])) (packet_queued (deed_of event))
+    (waiting_after opening (before ++ event ∷ [])) (packet_queued (effect_of event))
 bounded-at opening before event step =
-    rw (step.waiting, deed-is opening before event step)
+    rw (step.waiting, effect-is opening before event step)
     (bounded (state_after opening before) (waiting_after opening before) opening.limits.packets event.command
     (effective_moment opening (before ++ event ∷ [])))
 
@@ -121,7 +121,7 @@ in_the_ring opening =
     throughout (λ history. length (waiting_after opening history) ≤ opening.limits.packets) opening (rw none-waits (omega arith))
     (λ before event step within. (bounded-at opening before event step).ring within)
 
-pub room_for_bytes : AtEachEvent (λ opening before event. (packet : Packet) → packet_queued (deed_of event) ≡ Some packet
+pub room_for_bytes : AtEachEvent (λ opening before event. (packet : Packet) → packet_queued (effect_of event) ≡ Some packet
     → bytes_after opening (before ++ event ∷ []) ≤ (params_after opening before).limit_bytes)
 unfolding AtEachEvent
 room_for_bytes opening before event later lawful packet is =
@@ -174,8 +174,8 @@ first_out opening before between later lawful many =
     let rest = packets_waiting opening (before ++ between) in
     let new = packets_queued between in
     let one : (gone ++ left) ++ rest ≡ packets_queued before ++ new =
-    ap (λ (ps : List Packet). ps ++ rest) (sym (filter_map-append (λ (e : Event). departure (deed_of e)) before between)) ∙ both
-    ∙ filter_map-append (λ (e : Event). packet_queued (deed_of e)) before between in
+    ap (λ (ps : List Packet). ps ++ rest) (sym (filter_map-append (λ (e : Event). departure (effect_of e)) before between)) ∙ both
+    ∙ filter_map-append (λ (e : Event). packet_queued (effect_of e)) before between in
     let two : gone ++ (left ++ rest) ≡ gone ++ (waits ++ new) =
     sym (append_assoc gone left rest) ∙ one ∙ ap (λ (ps : List Packet). ps ++ new) (sym first) ∙ append_assoc gone waits new in
     let three = append_cancel_left gone (left ++ rest) (waits ++ new) two in
@@ -187,7 +187,7 @@ sizes-of waiting = is_sum_by (λ (ws : List Waiting). sum_by (λ (packet : Packe
     (λ (entry : Waiting). entry.packet.size) refl (λ w ws. sum_by-cons (λ (packet : Packet). packet.size) w.packet (packets-of ws)) waiting
 
 pub waits_bounded : (rate : ℕ) (opening : Opening) (before : List Event) (event : Event) (between : List Event) (later : List Event)
-    (packet : Packet) → IsLawful opening (before ++ event ∷ [] ++ between ++ later) → packet_queued (deed_of event) ≡ Some packet
+    (packet : Packet) → IsLawful opening (before ++ event ∷ [] ++ between ++ later) → packet_queued (effect_of event) ≡ Some packet
     → length (packets_departed between) ≡ length (waiting_after opening (before ++ event ∷ []))
     → Carries rate opening (before ++ event ∷ []) between
     → rate * time_of opening (before ++ event ∷ []) between ≤ 8 * 10 ^ 9 * (params_after opening before).limit_bytes

@@ -1,9 +1,9 @@
 -- Properties of a packet that was marked or dropped early.
 use Rattle.pie_guarantees.proofs.Names.{◌≡◌, ◌≤◌, ◌<◌, ◌+◌, ◌*◌, ◌⊎◌, ℕ, List, ◌∷◌, ◌++◌, true, false, refl, sym, ap, ◌∙◌, arith, nat_tests}
-use Rattle.pie_guarantees.proofs.Names.{is_capable, bytes_of, counted, is_considered, is_picked, picked_choice, ControllerState, chosen, offered, verdict}
+use Rattle.pie_guarantees.proofs.Names.{is_capable, bytes_of, effective_prob_of, is_considered, is_picked, picked_choice, ControllerState, chosen, offered, verdict}
 use Rattle.pie_guarantees.proofs.Names.{answer_of, Packet, Waiting, ArrivingPacket, Arrive, Answer, DroppedEarly, Marked, Command}
 use Rattle.pie_guarantees.proofs.Names.{Event, Opening, arrival_of, answer_by, state_after, waiting_after, IsLawful, IsArrivalOf, is_early, RawParams}
-use Rattle.pie_guarantees.proofs.Names.{AtEachEvent, MarksOnlyCapable, OnlyMarks, SparesCapable, active_after, parts_after, bytes_after, params_after, effective_moment, deed, waiting_next, sum_by_push, Verdict, Empty, []}
+use Rattle.pie_guarantees.proofs.Names.{AtEachEvent, MarksOnlyCapable, OnlyMarks, SparesCapable, active_after, parts_after, bytes_after, params_after, effective_moment, effect, waiting_next, sum_by_push, Verdict, Empty, []}
 use Rattle.pie_queue.specs.declared.ecn.Ecn.{Ecn}
 use Rattle.pie_guarantees.proofs.LawfulFacts.{IsStep, step_at}
 
@@ -20,8 +20,8 @@ picked-facts h a e = grind (arith, nat_tests)
 
 pub record IsChosen (h : ControllerState) (a : ArrivingPacket) : Type 0 where
   pub picked : IsPicked h a.queued
-  pub by_sum : is_picked h.elements.picking (counted h.elements h.params h.control (offered a)) (h.accu
-      + counted h.elements h.params h.control (offered a)) a.word ≡ true
+  pub by_sum : is_picked h.elements.picking (effective_prob_of h.elements h.params h.control (offered a)) (h.accu
+      + effective_prob_of h.elements h.params h.control (offered a)) a.word ≡ true
   pub verdict : verdict h a ≡ chosen (picked_choice h.params h.control.prob a.ecn)
 
 chosen-of : (h : ControllerState) (a : ArrivingPacket) → is_early (answer_of (verdict h a)) ≡ true → IsChosen h a
@@ -81,7 +81,7 @@ at_low_delay o b event l lawful low small = unless event.answer (λ e. let high 
 -- ---- the packets still queued
 
 still-wait : (waiting : List Waiting) (now : ℕ) (command : Command) (answer : Answer) → is_early answer ≡ true
-    → bytes_of waiting ≤ bytes_of (waiting_next waiting now (deed command answer))
+    → bytes_of waiting ≤ bytes_of (waiting_next waiting now (effect command answer))
 still-wait waiting now command answer e = grind (arith, nat_tests, sum_by_push)
 
 pub leaves_two : AtEachEvent (λ opening before event. is_early event.answer ≡ true

@@ -1,14 +1,14 @@
 -- In a lawful history, a core represents the events before each place, and each event changes the core as its call does.
 use Rattle.pie_guarantees.proofs.Names.{◌≡◌, ◌≤◌, ◌<◌, ◌+◌, ℕ, List, [], ◌∷◌, ◌++◌, false, sym, subst, ap, ◌∙◌, arith, ⊤, All, None, length, ◌^◌}
-use Rattle.pie_guarantees.proofs.Names.{append-nil, append_assoc, All-head, All-tail, first_bad, deed_of, caller_moment, IsTaken, after_call, ControllerState}
+use Rattle.pie_guarantees.proofs.Names.{append-nil, append_assoc, All-head, All-tail, first_bad, effect_of, caller_moment, IsTaken, after_call, ControllerState}
 use Rattle.pie_guarantees.proofs.Names.{IsSound, places, place_of, Waiting, Command, Event, Opening, call_of, IsLegalAt, has_bad_size, is_too_soon}
 use Rattle.pie_guarantees.proofs.Names.{refusal_by_rule, due_after, state_after, effective_moment, waiting_after, after_command, call_in, waiting_next}
 use Rattle.pie_guarantees.proofs.Names.{at_place, departed-of-legal, state-is, first_shows, first_core, next-core, next-legal, AllAlong, IsLawful}
 use Rattle.pie_guarantees.proofs.Names.{SetsInRange, nat_tests, map, drop, All-nil, Place, decision, Answer, answer_by, Sound_call}
-use Rattle.pie_guarantees.proofs.Names.{Sound_opened, cond, is_update, sum_by-cons, updates_in, drop-append_seam, take-append_seam, Update, deed}
+use Rattle.pie_guarantees.proofs.Names.{Sound_opened, cond, is_update, sum_by-cons, updates_in, drop-append_seam, take-append_seam, Update, effect}
 use Rattle.pie_guarantees.proofs.Names.{effective_moment-push, waiting_after-push}
 use Rattle.std.proofs.lemmas.List.Elements.{All-drop, All-take}
-use Rattle.pie_book.specs.Core.{CoreView, Represents, queue_recorded}
+use Rattle.pie_book.specs.Core.{CoreView, Represents, largest_queue_updated}
 use Rattle.pie_event.specs.Opening as Opens
 
 -- ---- accepted commands
@@ -50,7 +50,7 @@ steady-next opening before event old here fit =
     let core = old.core in
     let handed = (is_free opening before event.command here.taken).moment in
     record {
-      core = queue_recorded (after_command core event.command);
+      core = largest_queue_updated (after_command core event.command);
       shows = next-core opening core before event old.shows old.sound.params (next-legal opening core before event old.shows here);
       sound = Sound_call core.controller old.sound (call_in core event.command) (call-taken core event.command handed fit);
     }
@@ -63,7 +63,7 @@ pub record IsStep (opening : Opening) (before : List Event) (event : Event) : Ty
   pub state : state_after opening (before ++ event ∷ [])
       ≡ after_call (state_after opening before) (call_of (waiting_after opening before) opening.limits.packets event.command)
   pub waiting : waiting_after opening (before ++ event ∷ [])
-      ≡ waiting_next (waiting_after opening before) (effective_moment opening (before ++ event ∷ [])) (deed_of event)
+      ≡ waiting_next (waiting_after opening before) (effective_moment opening (before ++ event ∷ [])) (effect_of event)
   pub same_moment : (state_after opening before).moment ≡ effective_moment opening before
   pub next_moment : (state_after opening (before ++ event ∷ [])).moment ≡ effective_moment opening (before ++ event ∷ [])
 
@@ -90,7 +90,7 @@ step-of opening before event old here fit =
           ∙ ap (λ (w : List Waiting). after_call (state_after opening before) (call_of w core.packets event.command)) old.shows.waiting
           ∙ ap (λ (n : ℕ). after_call (state_after opening before) (call_of (waiting_after opening before) n event.command)) old.shows.packets;
       waiting = waiting_after-push opening before event (departed-of-legal opening before old.shows.legal)
-          ∙ ap (λ (m : ℕ). waiting_next (waiting_after opening before) m (deed_of event)) (sym (effective_moment-push opening before event));
+          ∙ ap (λ (m : ℕ). waiting_next (waiting_after opening before) m (effect_of event)) (sym (effective_moment-push opening before event));
       same_moment = sym (ap (λ (h : ControllerState). h.moment) is) ∙ old.shows.moment;
       next_moment = sym (ap (λ (h : ControllerState). h.moment) (state-is opening next.core (before ++ event ∷ []) next.shows)) ∙ next.shows.moment;
     }
@@ -158,15 +158,15 @@ pub first-state : (opening : Opening) → (first_core opening).controller ≡ st
 first-state opening = state-is opening (first_core opening) [] (first_shows opening)
 
 -- the updates of events, the first of which is known
-pub counted-cons : (event : Event) (later : List Event) → updates_in (event ∷ later) ≡ cond (is_update (deed_of event)) 1 0 + updates_in later
-counted-cons event later = sum_by-cons (λ (e : Event). cond (is_update (deed_of e)) 1 0) event later
+pub counted-cons : (event : Event) (later : List Event) → updates_in (event ∷ later) ≡ cond (is_update (effect_of event)) 1 0 + updates_in later
+counted-cons event later = sum_by-cons (λ (e : Event). cond (is_update (effect_of e)) 1 0) event later
 
 -- the number of updates after a command
 abbrev pub counted_with : Command → ℕ → ℕ
 counted_with (Update moment) n = n + 1
 counted_with _ n = n
 
-counted-with : (command : Command) (answer : Answer) (n : ℕ) → n + cond (is_update (deed command answer)) 1 0 ≡ counted_with command n
+counted-with : (command : Command) (answer : Answer) (n : ℕ) → n + cond (is_update (effect command answer)) 1 0 ≡ counted_with command n
 counted-with command answer n = grind (arith, nat_tests)
 
 -- a property between two events: `n` updates were made, and the others follow

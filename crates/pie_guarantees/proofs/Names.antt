@@ -25,7 +25,7 @@ pub use Rattle.pie_book.specs.Decision.{arrival_of, call_of, IsLegal, IsLegalAt,
 pub use Rattle.pie_book.specs.Decision.{refusal_with}
 pub use Rattle.pie_guarantees.specs.{active_after, delay_after, params_after, parts_after, bytes_after, effective_moment, waiting_after, count_of}
 pub use Rattle.pie_guarantees.specs.{is_dropped_bytes, is_dropped_packets, is_reset, Answer, Arrive, Command, Depart, DroppedEarly, Event, Marked}
-pub use Rattle.pie_guarantees.specs.{Opening, Packet, SetParams, Update, Waiting, Deed, deed_of, departure, is_update, AllAllow, Allows, IsAllowed}
+pub use Rattle.pie_guarantees.specs.{Opening, Packet, SetParams, Update, Waiting, Effect, effect_of, departure, is_update, AllAllow, Allows, IsAllowed}
 pub use Rattle.pie_guarantees.specs.{IsWhole, KeepsParams, SetsAllow, burst_left, updates_in, IsLawful, SetsInRange, IsActiveUpdate, IsSteady}
 pub use Rattle.pie_guarantees.specs.{least_rise, old_delay_after, probability_after, untuned_fall, untuned_rise, updates_from, updates_to_a_tenth}
 pub use Rattle.pie_guarantees.specs.{IsArrivalOf, IsEarly, MarksOnlyCapable, OnlyMarks, SparesCapable, is_early, RawParams, burst_begins}
@@ -39,9 +39,9 @@ pub use Rattle.pie_book.specs.Types.{ArrivingPacket, Empty, Reset, Verdict}
 pub use Rattle.pie_control.specs.Next.{decays}
 unfoldable pub use Rattle.pie_control.specs.Delay.{delay_of}
 unfoldable pub use Rattle.pie_control.specs.Next.{decayed, next, raw_step, tuned_step, tuning_divisor}
-pub use Rattle.pie_early.specs.Decision.{counted, counted_as, picked_choice}
+pub use Rattle.pie_early.specs.Decision.{effective_prob_of, effective_prob, picked_choice}
 unfoldable pub use Rattle.pie_early.specs.Decision.{is_considered, is_picked}
-pub use Rattle.pie_event.specs.Deed.{deed, caller_moment}
+pub use Rattle.pie_event.specs.Effect.{effect, caller_moment}
 pub use Rattle.pie_event.specs.Verdict.{answer_of}
 unfoldable pub use Rattle.pie_guarantees.specs.{AllAlong, AtEachEvent, AtEachHistory, BetweenAny, after_updates}
 pub use Rattle.pie_params.specs.Elements.{is_capped, usual}

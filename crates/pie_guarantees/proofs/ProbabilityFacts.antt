@@ -2,7 +2,7 @@
 use Rattle.pie_guarantees.proofs.Names.{◌≡◌, ◌≤◌, ◌<◌, ◌+◌, ◌*◌, ◌-◌, ◌^◌, ◌⊎◌, ℕ, zero, suc, List, [], ◌∷◌, ◌++◌, Bool, true, false, refl}
 use Rattle.pie_guarantees.proofs.Names.{BetweenAny, nat_tests, sym, ap, ◌∙◌, cond, if◌then◌else◌, arith, subst, mul-le, le_of_mul-le-mul_right}
 use Rattle.pie_guarantees.proofs.Names.{pow-suc, usual, default_profile, Elements, bytes_of, decayed, decays, next, raw_step, tuned_step}
-use Rattle.pie_guarantees.proofs.Names.{tuning_divisor, deed, deed_of, is_update, after_call, ControllerState, state_of}
+use Rattle.pie_guarantees.proofs.Names.{tuning_divisor, effect, effect_of, is_update, after_call, ControllerState, state_of}
 use Rattle.pie_guarantees.proofs.Names.{Waiting, Command, Answer, Event, Opening}
 use Rattle.pie_guarantees.proofs.Names.{call_of, delay_after, state_after, params_after, waiting_after, is_reset, KeepsParams, updates_in, AllAlong}
 use Rattle.pie_guarantees.proofs.Names.{IsActiveUpdate, IsSteady, after_updates, old_delay_after, probability_after, RawParams, AtEachHistory, ◌/◌}
@@ -20,7 +20,7 @@ elements-is opening history = refl
 
 -- ---- an update of an active controller
 
-updated-prob : (h : ControllerState) (waiting : List Waiting) (packets : ℕ) (command : Command) (answer : Answer) → is_update (deed command answer) ≡ true
+updated-prob : (h : ControllerState) (waiting : List Waiting) (packets : ℕ) (command : Command) (answer : Answer) → is_update (effect command answer) ≡ true
     → h.active ≡ true
     → (after_call h (call_of waiting packets command)).control.prob
     ≡ next h.elements h.params h.control.prob (Steps.delay_in h (bytes_of waiting)) h.control.old_delay
@@ -36,7 +36,7 @@ prob-next opening before event step active = grind (arith, nat_tests, updated-pr
 
 -- a command that is no update of an active controller leaves the probability unchanged or resets it
 pub stays-or-zero : (h : ControllerState) (waiting : List Waiting) (packets : ℕ) (command : Command) (answer : Answer)
-    → (is_update (deed command answer) ≡ false) ⊎ (h.active ≡ false)
+    → (is_update (effect command answer) ≡ false) ⊎ (h.active ≡ false)
     → (after_call h (call_of waiting packets command)).control.prob ≤ h.control.prob
 stays-or-zero h waiting packets command answer other = grind (arith, nat_tests)
 
@@ -48,10 +48,10 @@ record Next (delay : ℕ) (elements : Elements) (h g : ControllerState) (updates
   prob : g.control.prob ≡ (if updates then next elements h.params h.control.prob delay delay else h.control.prob)
 
 same-next : (delay : ℕ) (h : ControllerState) (waiting : List Waiting) (packets : ℕ) (command : Command) (answer : Answer) → KeepsParams command
-    → is_reset (deed command answer) ≡ false → h.active ≡ true
-    → (is_update (deed command answer) ≡ true → Steps.delay_in h (bytes_of waiting) ≡ delay)
-    → (is_update (deed command answer) ≡ true → h.control.old_delay ≡ delay)
-    → Next delay h.elements h (after_call h (call_of waiting packets command)) (is_update (deed command answer))
+    → is_reset (effect command answer) ≡ false → h.active ≡ true
+    → (is_update (effect command answer) ≡ true → Steps.delay_in h (bytes_of waiting) ≡ delay)
+    → (is_update (effect command answer) ≡ true → h.control.old_delay ≡ delay)
+    → Next delay h.elements h (after_call h (call_of waiting packets command)) (is_update (effect command answer))
 same-next delay h waiting packets command answer keeps unreset on now old = grind (arith, nat_tests)
 
 one-update : (updates : Bool) (n : ℕ) (elements : Elements) (params : RawParams) (delay prob : ℕ)
@@ -78,16 +78,16 @@ steadily delay opening before between later lawful steady =
         → Comes earlier (event ∷ left) → Comes (earlier ++ event ∷ []) left
     stays earlier event left step here so =
         let h = state_after opening earlier in
-        let moved : Next delay opening.choices.elements h (state_after opening (earlier ++ event ∷ [])) (is_update (deed_of event)) =
-        subst (λ (e : Elements). Next delay e h (state_after opening (earlier ++ event ∷ [])) (is_update (deed_of event)))
+        let moved : Next delay opening.choices.elements h (state_after opening (earlier ++ event ∷ [])) (is_update (effect_of event)) =
+        subst (λ (e : Elements). Next delay e h (state_after opening (earlier ++ event ∷ [])) (is_update (effect_of event)))
         (elements-is opening earlier)
-        (subst (λ (g : ControllerState). Next delay h.elements h g (is_update (deed_of event))) (sym step.state)
+        (subst (λ (g : ControllerState). Next delay h.elements h g (is_update (effect_of event))) (sym step.state)
         (same-next delay h (waiting_after opening earlier) opening.limits.packets event.command event.answer here.keeps here.unreset here.active
         here.delay_now here.delay_old)) in
         rw (
           moved.params,
           moved.prob,
-          one-update (is_update (deed_of event)) (updates_in left) opening.choices.elements h.params delay h.control.prob,
+          one-update (is_update (effect_of event)) (updates_in left) opening.choices.elements h.params delay h.control.prob,
           ← counted-cons event left,
         ) so
 

@@ -1,10 +1,10 @@
 -- The decrease of the probability without delay, from any state, and the effect of a lasting delay on it and on the burst allowance.
 use Rattle.pie_guarantees.proofs.Names.{◌≡◌, ◌≤◌, ◌<◌, ◌+◌, ◌*◌, ◌-◌, ◌/◌, ◌^◌, ℕ, zero, suc, List, [], ◌∷◌, ◌++◌, true, false, refl, sym, ap, ◌∙◌}
 use Rattle.pie_guarantees.proofs.Names.{arith, subst, min, max, nat_tests, clamps, ints, BetweenAny, AllAlong, IsLawful, Elements, RawParams, decayed}
-use Rattle.pie_guarantees.proofs.Names.{decays, next, tuned_step, raw_step, tuning_divisor, next-hold, in-range, deed, is_update, after_call, call_of}
+use Rattle.pie_guarantees.proofs.Names.{decays, next, tuned_step, raw_step, tuning_divisor, next-hold, in-range, effect, is_update, after_call, call_of}
 use Rattle.pie_guarantees.proofs.Names.{ControllerState, Waiting, Command, Update, Answer, Event, Opening, bytes_of, active_after, state_after, params_after}
 use Rattle.pie_guarantees.proofs.Names.{waiting_after, updates_in, KeepsParams, untuned_fall, Bool, nat_lt, if◌then◌else◌, append_assoc, Empty}
-use Rattle.pie_guarantees.proofs.Names.{after_updates, usual, default_profile, deed_of, is_reset, bytes_after, burst_left, untuned_rise}
+use Rattle.pie_guarantees.proofs.Names.{after_updates, usual, default_profile, effect_of, is_reset, bytes_after, burst_left, untuned_rise}
 use Rattle.pie_guarantees.proofs.Names.{updates_to_a_tenth, probability_after, is_considered, ◌&&◌}
 use Rattle.pie_guarantees.specs.{FindsNoDelay, HasRecovered, IsLasting, had_room, was_considered}
 use Rattle.pie_params.specs.declared.elements.Decay.{Decay}
@@ -134,7 +134,7 @@ unfolding bound
 falls-update fall n h queued moment some within free old = grind (arith, nat_tests, next-hold, next-under)
 
 falls-next : (fall n : ℕ) (h : ControllerState) (waiting : List Waiting) (packets : ℕ) (command : Command) → 0 < h.params.target → h.control.prob ≤ 10 ^ 12
-    → KeepsParams command → (is_update (deed command Empty) ≡ true → h.active ≡ true → Steps.delay_in h (bytes_of waiting) ≡ 0) → Falls fall n h
+    → KeepsParams command → (is_update (effect command Empty) ≡ true → h.active ≡ true → Steps.delay_in h (bytes_of waiting) ≡ 0) → Falls fall n h
     → Falls fall (counted_with command n) (after_call h (call_of waiting packets command))
 falls-next fall n h waiting packets (Update moment) some within keeps free old =
     let one : suc n ≡ n + 1 = omega arith in
@@ -150,7 +150,7 @@ falls-next fall n h waiting packets command some within keeps free old = record 
 }
 
 -- the answer has no effect on the classification of a command as an update
-pub same-update : (command : Command) (answer : Answer) → is_update (deed command answer) ≡ is_update (deed command Empty)
+pub same-update : (command : Command) (answer : Answer) → is_update (effect command answer) ≡ is_update (effect command Empty)
 same-update command answer = grind (arith, nat_tests)
 
 -- ---- along a lawful history
@@ -227,8 +227,8 @@ climbs-update least burst n h queued moment some above on high grown old =
     record { same = refl; prob = grind (arith, nat_tests); left = grind (arith, nat_tests); old = λ n. grind (arith, nat_tests) }
 
 climbs-next : (least burst n : ℕ) (params : RawParams) (h : ControllerState) (waiting : List Waiting) (packets : ℕ) (command : Command) → 0 < h.params.target
-    → h.params.target ≤ least → h.active ≡ true → KeepsParams command → is_reset (deed command Empty) ≡ false
-    → (is_update (deed command Empty) ≡ true
+    → h.params.target ≤ least → h.active ≡ true → KeepsParams command → is_reset (effect command Empty) ≡ false
+    → (is_update (effect command Empty) ≡ true
     → (least ≤ Steps.delay_in h (bytes_of waiting)) × (h.control.old_delay ≤ Steps.delay_in h (bytes_of waiting)))
     → Climbs least burst n params h → Climbs least burst (counted_with command n) params (after_call h (call_of waiting packets command))
 climbs-next least burst n params h waiting packets (Update moment) some above on keeps unreset high old =
@@ -249,7 +249,7 @@ climbs-next least burst n params h waiting packets command some above on keeps u
       old = λ n. grind (arith, nat_tests);
     }
 
-same-reset : (command : Command) (answer : Answer) → is_reset (deed command answer) ≡ is_reset (deed command Empty)
+same-reset : (command : Command) (answer : Answer) → is_reset (effect command answer) ≡ is_reset (effect command Empty)
 same-reset command answer = grind (arith, nat_tests)
 
 -- ---- along a lawful history
@@ -303,7 +303,7 @@ pub all_considered : (least : ℕ) (opening : Opening) (before : List Event) (be
     → IsLawful opening (before ++ between ++ event ∷ later) → (params_after opening before).target ≤ least
     → AllAlong (IsLasting least opening) before between → 0 < updates_in between
     → burst_left opening before ≤ updates_in between * (params_after opening before).t_update → active_after opening (before ++ between) ≡ true
-    → 2 * (params_after opening before).mean_pkt < bytes_after opening (before ++ between) → had_room (deed_of event) ≡ true
+    → 2 * (params_after opening before).mean_pkt < bytes_after opening (before ++ between) → had_room (effect_of event) ≡ true
     → was_considered opening (before ++ between) event ≡ true
 unfolding BetweenAny
 all_considered least opening before between event later lawful above lasts some many on long room =

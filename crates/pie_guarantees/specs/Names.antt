@@ -9,5 +9,5 @@ unfoldable pub use Rattle.pie_book.specs.ControllerEvents.{controller_events}
 pub use Rattle.pie_book.specs.Statistics.{count_of, is_dropped_bytes, is_dropped_packets, is_reset}
 pub use Rattle.pie_book.specs.Types.{Answer, Arrive, Bounded, Command, Depart, Done, DroppedEarly, Elements, Enqueued, Event, Left, Marked, One}
 pub use Rattle.pie_book.specs.Types.{Opening, Packet, RawParams, SetParams, Update, Updated, Waiting}
-pub use Rattle.pie_event.specs.Deed.{Deed, deed_of, departure, dropped_early, is_update, marked, queued}
+pub use Rattle.pie_event.specs.Effect.{Effect, effect_of, departure, dropped_early, is_update, marked, queued}
 pub use Rattle.pie_queue.specs.declared.ecn.Ecn.TheVariants.{Ce, NotEct}

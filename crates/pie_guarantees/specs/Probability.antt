@@ -2,14 +2,14 @@
 use Rattle.std.specs.Prelude.{◌≡◌, ◌≤◌, ◌<◌, ◌+◌, ◌*◌, ◌-◌, ◌/◌, ◌^◌, ◌++◌, ◌∷◌, [], min, ℕ, zero, suc, List, true, false}
 use Rattle.pie_params.specs.declared.elements.Elements.{Elements}
 use Rattle.pie_control.specs.Next.{next, tuning_divisor}
-use Rattle.pie_guarantees.specs.Names.{deed_of, is_update, RawParams, Event, Opening, active_after, delay_after, params_after, parts_after, is_reset}
+use Rattle.pie_guarantees.specs.Names.{effect_of, is_update, RawParams, Event, Opening, active_after, delay_after, params_after, parts_after, is_reset}
 use Rattle.pie_guarantees.specs.Names.{departure_inputs, opened_of, controller_events}
 use Rattle.pie_guarantees.specs.Bursts.{IsWhole, KeepsParams}
 use Rattle.pie_rate.specs.Average.{samples}
 
 -- the event is an update, and the controller was active before it
 pub record IsActiveUpdate (opening : Opening) (before : List Event) (event : Event) : Type 0 where
-  pub update : is_update (deed_of event) ≡ true
+  pub update : is_update (effect_of event) ≡ true
   pub active : active_after opening before ≡ true
 
 -- the probability after some events, and after one more
@@ -52,15 +52,15 @@ updates_to_a_tenth params delay =
 -- did
 pub record IsSteady (delay : ℕ) (opening : Opening) (before : List Event) (event : Event) : Type 0 where
   pub keeps : KeepsParams event.command
-  pub unreset : is_reset (deed_of event) ≡ false
+  pub unreset : is_reset (effect_of event) ≡ false
   pub active : active_after opening before ≡ true
-  pub delay_now : is_update (deed_of event) ≡ true → delay_after opening before ≡ delay
-  pub delay_old : is_update (deed_of event) ≡ true → old_delay_after opening before ≡ delay
+  pub delay_now : is_update (effect_of event) ≡ true → delay_after opening before ≡ delay
+  pub delay_old : is_update (effect_of event) ≡ true → old_delay_after opening before ≡ delay
 
 -- no parameters are set by the event, and if it is an update of the active controller, the update finds no delay
 pub record FindsNoDelay (opening : Opening) (before : List Event) (event : Event) : Type 0 where
   pub keeps : KeepsParams event.command
-  pub delay : is_update (deed_of event) ≡ true → active_after opening before ≡ true → delay_after opening before ≡ 0
+  pub delay : is_update (effect_of event) ≡ true → active_after opening before ≡ true → delay_after opening before ≡ 0
 
 -- the probability is 0 and the burst allowance is whole
 pub record HasRecovered (opening : Opening) (history : List Event) : Type 0 where
@@ -78,10 +78,10 @@ pub record IsCalmUpdate (opening : Opening) (before : List Event) (event : Event
 -- that is not below the delay of the update before it
 pub record IsLasting (least : ℕ) (opening : Opening) (before : List Event) (event : Event) : Type 0 where
   pub keeps : KeepsParams event.command
-  pub unreset : is_reset (deed_of event) ≡ false
+  pub unreset : is_reset (effect_of event) ≡ false
   pub active : active_after opening before ≡ true
-  pub delay : is_update (deed_of event) ≡ true → least ≤ delay_after opening before
-  pub grows : is_update (deed_of event) ≡ true → old_delay_after opening before ≤ delay_after opening before
+  pub delay : is_update (effect_of event) ≡ true → least ≤ delay_after opening before
+  pub grows : is_update (effect_of event) ≡ true → old_delay_after opening before ≤ delay_after opening before
 
 -- the samples after a history: for each departure rate cycle since the estimate was cleared, the time in which
 -- `dq_threshold` bytes departed

@@ -1,7 +1,7 @@
 -- The verdicts of arriving packets: early verdicts, and the packets that were queued, that departed, and that wait.
 use Rattle.std.specs.Prelude.{◌≡◌, ◌<◌, ℕ, Bool, true, false, List, ◌≤◌, ◌*◌, ◌-◌, ◌^◌, ◌++◌, map, Option, Some, None, count_by, sum_by, ⊤}
 use Rattle.pie_queue.specs.Ecn.{is_capable}
-use Rattle.pie_guarantees.specs.Names.{Packet, Arrive, Answer, Event, Opening, DroppedEarly, Marked, params_after, parts_after, Deed, deed_of}
+use Rattle.pie_guarantees.specs.Names.{Packet, Arrive, Answer, Event, Opening, DroppedEarly, Marked, params_after, parts_after, Effect, effect_of}
 use Rattle.pie_guarantees.specs.Names.{departure, marked, queued, Ce, Waiting, Command, SetParams, effective_moment, waiting_after}
 use Rattle.std.specs.List.{filter_map}
 
@@ -41,17 +41,17 @@ abbrev pub packets_arrived : List Event → ℕ
 packets_arrived history = count_by (λ event. is_packet_arrival event.command) history
 
 -- the packet that an event put into the queue: as it arrived, and with CE if it was marked
-abbrev pub packet_queued : Deed → Option Packet
+abbrev pub packet_queued : Effect → Option Packet
 packet_queued (queued packet) = Some packet
 packet_queued (marked packet) = Some (record packet { ecn = Ce })
 packet_queued _ = None
 
 -- the packets that were queued or marked, in order
 unfoldable pub packets_queued : List Event → List Packet
-packets_queued history = filter_map (λ event. packet_queued (deed_of event)) history
+packets_queued history = filter_map (λ event. packet_queued (effect_of event)) history
 
 unfoldable pub packets_departed : List Event → List Packet
-packets_departed history = filter_map (λ event. departure (deed_of event)) history
+packets_departed history = filter_map (λ event. departure (effect_of event)) history
 
 abbrev pub packets_waiting : Opening → List Event → List Packet
 packets_waiting opening history = map (λ (entry : Waiting). entry.packet) (waiting_after opening history)

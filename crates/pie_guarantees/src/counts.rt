@@ -1,6 +1,6 @@
 //! Conservation of packets: the fate of every packet, the size of the queue, and the waiting times.
 ghost use Rattle.std.specs.Prelude.{◌≡◌, ◌≤◌, ◌+◌, ◌*◌, ◌^◌, ◌++◌, ◌∷◌, [], All, List, ℕ, Some, length};
-ghost use Rattle.pie_guarantees.specs.{deed_of, Event, Opening, Packet, params_after, bytes_after, waiting_after, count_of, is_dropped_bytes};
+ghost use Rattle.pie_guarantees.specs.{effect_of, Event, Opening, Packet, params_after, bytes_after, waiting_after, count_of, is_dropped_bytes};
 ghost use Rattle.pie_guarantees.specs.{AtEachEvent, AtEachHistory, BetweenAny};
 ghost use Rattle.pie_guarantees.specs.{is_dropped_packets, Carries, SetsLimit, packet_queued, packets_departed, packets_arrived, packets_queued};
 ghost use Rattle.pie_guarantees.specs.{packets_waiting, time_of, IsLawful};
@@ -24,7 +24,7 @@ pub fn every_packet_is_accounted_for()
 #[tactic(auto, using(crate::proofs::CountFacts::in_the_ring, crate::proofs::CountFacts::room_for_bytes, crate::proofs::CountFacts::bytes_below))]
 pub fn queues_stay_within_their_limits()
     ensures packets { AtEachHistory (λ opening history. length (waiting_after opening history) ≤ opening.limits.packets) }
-    ensures bytes_queued { AtEachEvent (λ opening before event. (packet : Packet) → packet_queued (deed_of event) ≡ Some packet
+    ensures bytes_queued { AtEachEvent (λ opening before event. (packet : Packet) → packet_queued (effect_of event) ≡ Some packet
         → bytes_after opening (before ++ event ∷ []) ≤ (params_after opening before).limit_bytes) }
     ensures bytes { (most : ℕ) → AtEachHistory (λ opening history. opening.params.limit_bytes ≤ most
         → All (λ event. SetsLimit most event.command) history → bytes_after opening history ≤ most) }
@@ -38,7 +38,7 @@ pub fn waits_are_bounded()
     ensures first_in_first_out { BetweenAny (λ opening before between. length (packets_departed between) ≡ length (waiting_after opening before)
         → packets_departed between ≡ packets_waiting opening before) }
     ensures waits { (rate : ℕ) (opening : Opening) (before : List Event) (event : Event) (between : List Event) (later : List Event)
-        (packet : Packet) → IsLawful opening (before ++ event ∷ [] ++ between ++ later) → packet_queued (deed_of event) ≡ Some packet
+        (packet : Packet) → IsLawful opening (before ++ event ∷ [] ++ between ++ later) → packet_queued (effect_of event) ≡ Some packet
         → length (packets_departed between) ≡ length (waiting_after opening (before ++ event ∷ []))
         → Carries rate opening (before ++ event ∷ []) between
         → rate * time_of opening (before ++ event ∷ []) between ≤ 8 * 10 ^ 9 * (params_after opening before).limit_bytes }

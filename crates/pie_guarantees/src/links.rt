@@ -10,13 +10,13 @@ ghost use Rattle.pie_link.specs.Views.{LinkView};
 use atomic_table::TableRule;
 use pie_book::Opening as LinkOpening;
 use pie_link::{Entry as LinkEntry, KeptBook};
-use pie_lock::{LockOpening, LockRule, Place};
+use pie_lock::{LockOpening, LockRule, SeatKnowledge};
 
 /// All laws hold for the one history of a link, whenever its lock is free and whatever its callers do. So each
 /// sender has these guarantees whatever the other senders do: no sender makes another's packet wait longer, or be
 /// dropped or marked at another time, than a law allows (this project's own).
 pub fn links_are_lawful()
-    ensures { let rule = ⟦<LockRule as TableRule<Option<KeptBook>, Place<LinkEntry, LinkOpening>, LockOpening<KeptBook>>>⟧.holds in
+    ensures { let rule = ⟦<LockRule as TableRule<Option<KeptBook>, SeatKnowledge<LinkEntry, LinkOpening>, LockOpening<KeptBook>>>⟧.holds in
         (link : LinkView) → KeepsOneHistory rule link → (opening : Opening) → link.origin ≡ Some opening → (key : LockKey) → IsKeyOf link opening key
         → (lock : LockState) → rule key lock → IsFree lock → (book : BookView) × LiesIn lock book × ((history : List Entry)
         × (IsOneHistory opening book (callers_of lock.views) history × IsLawful opening (events_in history))) }

@@ -1,7 +1,7 @@
 //! The relation of the probability to the delay (RFC 8033, sections 4.2, 5.1 and 5.5).
 ghost use Rattle.std.specs.Prelude.{◌≡◌, ◌≤◌, ◌<◌, ◌+◌, ◌*◌, ◌/◌, ◌^◌, min, ◌⊎◌, ◌++◌, ◌∷◌, [], List, ℕ, true, false};
 ghost use Rattle.pie_control.specs.Next.{decays, next, tuning_divisor};
-ghost use Rattle.pie_guarantees.specs.{deed_of, is_update, Event, Opening, RawParams, active_after, delay_after, params_after, updates_in, AllAlong};
+ghost use Rattle.pie_guarantees.specs.{effect_of, is_update, Event, Opening, RawParams, active_after, delay_after, params_after, updates_in, AllAlong};
 ghost use Rattle.pie_guarantees.specs.{AtEachEvent, BetweenAny};
 ghost use Rattle.pie_guarantees.specs.{IsLawful, IsActiveUpdate, IsSteady, after_updates, least_rise, old_delay_after, probability_after};
 ghost use Rattle.pie_guarantees.specs.{untuned_fall, untuned_rise, updates_to_a_tenth};
@@ -29,7 +29,7 @@ pub fn the_probability_follows_the_delay()
         → decays opening.choices.elements.decay (params_after opening before) (delay_after opening before) (old_delay_after opening before) ≡ true
         → delay_after opening before ≤ old_delay_after opening before
         → probability_after opening (before ++ event ∷ []) * 100 ≤ probability_after opening before * 98) }
-    ensures nothing_else_raises { AtEachEvent (λ opening before event. (is_update (deed_of event) ≡ false) ⊎ (active_after opening before ≡ false)
+    ensures nothing_else_raises { AtEachEvent (λ opening before event. (is_update (effect_of event) ≡ false) ⊎ (active_after opening before ≡ false)
         → probability_after opening (before ++ event ∷ []) ≤ probability_after opening before) }
 {}
 

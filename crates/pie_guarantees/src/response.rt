@@ -4,7 +4,7 @@ ghost use Rattle.std.specs.Prelude.{◌≡◌, ◌≤◌, ◌<◌, ◌*◌, ◌^
 ghost use Rattle.pie_control.specs.Next.{next};
 ghost use Rattle.pie_params.specs.Elements.{usual};
 ghost use Rattle.pie_params.specs.Profile.{default_profile};
-ghost use Rattle.pie_guarantees.specs.{Event, Opening, active_after, bytes_after, deed_of, params_after, AllAlong, BetweenAny, IsLasting, IsLawful};
+ghost use Rattle.pie_guarantees.specs.{Event, Opening, active_after, bytes_after, effect_of, params_after, AllAlong, BetweenAny, IsLasting, IsLawful};
 ghost use Rattle.pie_guarantees.specs.{burst_left, had_room, probability_after, untuned_rise, updates_in, updates_to_a_tenth, was_considered};
 ghost use Rattle.pie_guarantees.specs.{after_updates, untuned_fall, FindsNoDelay, HasRecovered};
 
@@ -24,7 +24,7 @@ pub fn lasting_delays_raise_the_probability()
         → IsLawful opening (before ++ between ++ event ∷ later) → (params_after opening before).target ≤ least
         → AllAlong (IsLasting least opening) before between → 0 < updates_in between
         → burst_left opening before ≤ updates_in between * (params_after opening before).t_update → active_after opening (before ++ between) ≡ true
-        → 2 * (params_after opening before).mean_pkt < bytes_after opening (before ++ between) → had_room (deed_of event) ≡ true
+        → 2 * (params_after opening before).mean_pkt < bytes_after opening (before ++ between) → had_room (effect_of event) ≡ true
         → was_considered opening (before ++ between) event ≡ true }
     ensures at_twice_the_target { updates_to_a_tenth default_profile 30_000_000 ≡ 164 }
 {}

@@ -79,7 +79,7 @@ pub(crate) fn refusals_in_words(alloc: Global) -> bool {
 /// Returns true if memory suffices for a ring of the greatest size.
 pub(crate) fn the_largest_ring(alloc: Global) -> bool {
     match ByteQueue::new(alloc, 1_048_576) {
-        Ok(queue) => queue.packets() == 1_048_576,
+        Ok(queue) => queue.capacity() == 1_048_576,
         Err(Memory) => false,
     }
 }

@@ -1,6 +1,6 @@
 -- The link's definitions at small values, worked out by hand.
 use Rattle.std.specs.Prelude.{ℕ, ◌≡◌, [], ◌∷◌, Some, None, List, Ok, Err}
-use Rattle.pie_link.proofs.Names.{refl, PassKnowledge, Spent, Waits, HasTwo, Opening, Entry, CallerKnowledge, callers_of, Depart, Empty, Event}
+use Rattle.pie_link.proofs.Names.{refl, PassKnowledge, Spent, Idle, HasTwo, Opening, Entry, CallerKnowledge, callers_of, Depart, Empty, Event}
 use Rattle.pie_link.proofs.Names.{Bounded, Applied, Folded, events_in, left_when_rolling, tail_in, folded_events, state_after, waiting_after, Command}
 use Rattle.pie_link.proofs.Names.{Arrive, Answer, Reply, entries_within, replies_within, ⊤, always, burst_within, departures, has_left}
 use Rattle.pie_event.specs.declared.opening.Limits.{Limits}
@@ -44,7 +44,7 @@ abbrev caller : ℕ → CallerKnowledge
 caller first = record { front = []; first = first; limit = first }
 
 -- a spent seat has no caller, and a seat with two passes has two
-callers_of_seats : callers_of (Waits (pass 1) ∷ Spent ∷ HasTwo (pass 2) (pass 3) ∷ []) ≡ caller 1 ∷ caller 2 ∷ caller 3 ∷ []
+callers_of_seats : callers_of (Idle (pass 1) ∷ Spent ∷ HasTwo (pass 2) (pass 3) ∷ []) ≡ caller 1 ∷ caller 2 ∷ caller 3 ∷ []
 callers_of_seats = refl
 
 -- ---- entries

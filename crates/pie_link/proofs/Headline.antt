@@ -8,7 +8,7 @@ use Rattle.std.specs.List.{All}
 use Rattle.std.proofs.lemmas.List.Elements.{All-nil, All-cons, All-append}
 use mathlib.Core.Option.{some}
 use lib.ListN.{get_elem?}
-use Rattle.pie_lock.specs.declared.view.Place.{Place}
+use Rattle.pie_lock.specs.declared.view.SeatKnowledge.{SeatKnowledge}
 use Rattle.pie_lock.specs.Rule.{EachPass, Follows, Agreed, Ruled, WhileFree}
 use Rattle.pie_event.specs.declared.command.Event.{Event}
 use Rattle.pie_book.specs.Book.{BookView}
@@ -18,11 +18,11 @@ use Rattle.pie_link.specs.Views.{LinkView}
 
 module _ (P : PassKnowledge Entry Opening → Type 0) (Q : CallerKnowledge → Type 0) (follows : (p : PassKnowledge Entry Opening) → P p → Q (caller_knowledge p)) where
   -- a fact about each pass of a seat is one about each of its callers
-  at_seat : (seat : Place Entry Opening) → EachPass P seat → All Q (callers_at seat)
+  at_seat : (seat : SeatKnowledge Entry Opening) → EachPass P seat → All Q (callers_at seat)
   at_seat seat each = grind (arith, nat_tests, follows, All-nil, All-cons)
 
   -- a fact about the passes of all seats is one about all callers
-  pub at_all : (seats : List (Place Entry Opening)) → ((seat : ℕ) (view : Place Entry Opening) → get_elem? seats seat ≡ some view → EachPass P view)
+  pub at_all : (seats : List (SeatKnowledge Entry Opening)) → ((seat : ℕ) (view : SeatKnowledge Entry Opening) → get_elem? seats seat ≡ some view → EachPass P view)
       → All Q (callers_of seats)
   at_all [] each = All-nil Q
   at_all (seat ∷ seats) each = All-append Q (callers_at seat) (callers_of seats) (at_seat seat (each 0 seat refl))
@@ -39,7 +39,7 @@ pub while_free : LookBack → (opening : Opening) (numbers : ℕ) (lock : LockSt
     → WhileFree number_of (λ (kept : KeptView). kept.book.opening) RepresentsHistory opening numbers history holder lock
     → (book : BookView) × LiesIn lock book × ((h : List Entry) × IsOneHistory opening book (callers_of lock.views) h)
 while_free look_back opening numbers lock history holder owner agreed free =
-    let follow = λ (seat : ℕ) (view : Place Entry Opening) (at : get_elem? lock.views seat ≡ some view). (agreed.seated seat view at).follows in
+    let follow = λ (seat : ℕ) (view : SeatKnowledge Entry Opening) (at : get_elem? lock.views seat ≡ some view). (agreed.seated seat view at).follows in
     let kept = free.2.0 in
     let book = kept.book in
     let represents_list = free.2.3.represents_list in

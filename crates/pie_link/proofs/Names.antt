@@ -33,5 +33,5 @@ unfoldable pub use Rattle.pie_link.specs.Headline.{KeepsOneHistory}
 pub use Rattle.pie_link.specs.Kept.{RepresentsHistory, KeptView, RepresentsEntries}
 pub use Rattle.pie_link.specs.declared.entry.Entry.{Entry}
 pub use Rattle.pie_link.specs.declared.entry.Entry.TheVariants.{Folded, Applied}
-pub use Rattle.pie_lock.specs.declared.view.Place.TheVariants.{Holds, HasTwo, Spent, Waits}
+pub use Rattle.pie_lock.specs.declared.view.SeatKnowledge.TheVariants.{Holds, HasTwo, Spent, Idle}
 pub use Rattle.pie_lock.specs.declared.view.PassKnowledge.{PassKnowledge}

@@ -9,8 +9,8 @@ use mathlib.Core.Option.{some}
 use lib.ListN.{get_elem?}
 use Rattle.atomic_table.specs.Table.{State}
 use Rattle.pie_lock.specs.declared.view.PassKnowledge.{PassKnowledge}
-use Rattle.pie_lock.specs.declared.view.Place.{Place}
-use Rattle.pie_lock.specs.declared.view.Place.TheVariants.{Spent, Waits, Holds, HasTwo}
+use Rattle.pie_lock.specs.declared.view.SeatKnowledge.{SeatKnowledge}
+use Rattle.pie_lock.specs.declared.view.SeatKnowledge.TheVariants.{Spent, Idle, Holds, HasTwo}
 use Rattle.pie_lock.specs.Own.{own}
 use Rattle.pie_lock.specs.declared.view.LockOpening.{LockOpening}
 use Rattle.pie_event.specs.declared.opening.Mode.TheVariants.{Bounded}
@@ -72,19 +72,19 @@ pub record IsOneHistory (opening : Opening) (book : BookView) (callers : List Ca
 abbrev pub caller_knowledge : PassKnowledge Entry Opening → CallerKnowledge
 caller_knowledge p = record { front = p.front; first = p.first; limit = p.limit }
 
-abbrev pub callers_at : Place Entry Opening → List CallerKnowledge
+abbrev pub callers_at : SeatKnowledge Entry Opening → List CallerKnowledge
 callers_at Spent = []
-callers_at (Waits p) = caller_knowledge p ∷ []
+callers_at (Idle p) = caller_knowledge p ∷ []
 callers_at (Holds p) = caller_knowledge p ∷ []
 callers_at (HasTwo p q) = caller_knowledge p ∷ caller_knowledge q ∷ []
 
-abbrev pub callers_of : List (Place Entry Opening) → List CallerKnowledge
+abbrev pub callers_of : List (SeatKnowledge Entry Opening) → List CallerKnowledge
 callers_of [] = []
 callers_of (seat ∷ seats) = callers_at seat ++ callers_of seats
 
 -- the state of a lock around a book: its word, its slot, and the views of its seats
 abbrev pub LockState : Type 0
-LockState = State (Option KeptView) (Place Entry Opening)
+LockState = State (Option KeptView) (SeatKnowledge Entry Opening)
 
 -- the key of a lock around a book: the first book, and the number of numbers
 abbrev pub LockKey : Type 0

@@ -15,12 +15,12 @@ abbrev pub CallerView : Type 0
 CallerView = PassView Entry Opening
 
 -- the caller with this history as its front
-abbrev pub shown : CallerView → List Entry → CallerView
-shown caller history = record { lock = caller.lock; front = history; first = caller.first; limit = caller.limit }
+abbrev pub caller_with_front : CallerView → List Entry → CallerView
+caller_with_front caller history = record { lock = caller.lock; front = history; first = caller.first; limit = caller.limit }
 
 -- the caller still belongs to its link and has the same numbers
-abbrev pub StaysOne : CallerView → CallerView → Type 0
-StaysOne before after = (after.lock ≡ before.lock) × (after.first ≡ before.first) × (after.limit ≡ before.limit)
+abbrev pub HasSameNumbers : CallerView → CallerView → Type 0
+HasSameNumbers before after = (after.lock ≡ before.lock) × (after.first ≡ before.first) × (after.limit ≡ before.limit)
 
 -- the link was busy: the caller is unchanged, and does not have all numbers of the link
 abbrev pub WasBusy : CallerView → CallerView → Type 0
@@ -32,15 +32,15 @@ pub record IsHistoryFor (opening : Opening) (caller : CallerView) (history : Lis
   pub legal : IsLegal opening (events_in history)
   pub continues : Extends number_of caller.first caller.limit caller.front history
 
--- a call had its turn after this history: its claim holds there, and the caller's front is then the history with the
--- call's entries
+-- a call had its turn after this history: `result_is` holds of the history, and the caller's front is then
+-- `next history`, the history with the call's entries
 pub record IsTurn (opening : Opening) (before : CallerView) (result_is : List Entry → Type 0) (next : List Entry → List Entry) (after : CallerView)
     (history : List Entry) : Type 0 where
   pub from : IsHistoryFor opening before history
   pub has_result : result_is history
-  pub has_front : after ≡ shown before (next history)
+  pub has_front : after ≡ caller_with_front before (next history)
 
--- a call of this caller had its turn at a link, whose opening its claim takes
+-- a call of this caller had its turn at a link; `result_is` and `next` take the link's opening
 abbrev pub HasTurn : LinkView → CallerView → (Opening → List Entry → Type 0) → (Opening → List Entry → List Entry) → CallerView → Type 0
 HasTurn link before result_is next after =
     (opening : Opening) → link.origin ≡ Some opening → (history : List Entry) × IsTurn opening before (result_is opening) (next opening) after history

@@ -16,7 +16,7 @@ pub type Replies = Vec<Reply>;
 /// one after another, until a result ends the burst.
 ///
 /// `commands` are the commands from a place on. `continues` is the test of a result after which the burst continues.
-/// `shows first burst replies` is a relation: `first` received these results, in order, and became `burst`. `has_room
+/// `received first burst replies` is a relation: `first` received these results, in order, and became `burst`. `has_room
 /// burst place` means that the results from this place on fit. `room` is a number that never changes, such as the total
 /// number of results that fit.
 pub trait Burst {
@@ -24,7 +24,7 @@ pub trait Burst {
 
     ghost continues: { Self → Reply → Bool };
 
-    ghost shows: { Self → Self → List Reply → Type 0 };
+    ghost received: { Self → Self → List Reply → Type 0 };
 
     ghost room: { Self → ℕ };
 
@@ -46,7 +46,7 @@ pub trait Burst {
         ensures commands { commands self.new (place + 1) ≡ commands self.old (place + 1) }
         ensures ends { continues self.new ≡ continues self.old }
         ensures continues { result ≡ continues self.old reply }
-        ensures shown { (first : Self) (replies : List Reply) → shows first self.old replies → shows first self.new (replies ++ reply ∷ []) }
+        ensures received { (first : Self) (replies : List Reply) → received first self.old replies → received first self.new (replies ++ reply ∷ []) }
         ensures has_room { has_room self.new (place + 1) }
         ensures room { room self.new ≡ room self.old };
 }

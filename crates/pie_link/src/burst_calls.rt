@@ -5,7 +5,7 @@ ghost use Rattle.std.specs.Prelude.{◌≡◌, ◌≢◌, ◌+◌, ◌≤◌, �
 ghost use Rattle.std.specs.Prelude.{vec_capacity};
 ghost use Rattle.pie_link.specs.Bursts.{Reply, always, arrive, departures, has_left};
 ghost use Rattle.pie_link.specs.CallerBursts.{AnswersAll, AnswersWithin, TriesToAnswerAll, WasNotDone, WasRefused};
-ghost use Rattle.pie_link.specs.Views.{StaysOne, WasBusy};
+ghost use Rattle.pie_link.specs.Views.{HasSameNumbers, WasBusy};
 ghost use Rattle.pie_link.specs.declared.call_result.Tried.TheVariants.{Busy};
 
 use crate::arrival::Arrival;
@@ -32,10 +32,10 @@ impl Link {
     fn answer_all<R: Wait, B: Burst>(&self, rt: &R, caller: &mut Caller, burst: B) -> B
         requires own { caller.old.lock ≡ self.now }
         requires room { B.has_room burst 0 }
-        ensures answered { (first : B) (earlier : List Reply) → B.shows first burst earlier → (replies : List Reply) × B.shows first result replies
+        ensures answered { (first : B) (earlier : List Reply) → B.received first burst earlier → (replies : List Reply) × B.received first result replies
             × AnswersWithin None (B.continues burst) self.now caller.old (B.commands burst 0) earlier replies caller.new }
         ensures room { B.room result ≡ B.room burst }
-        ensures stays { StaysOne caller.old caller.new }
+        ensures stays { HasSameNumbers caller.old caller.new }
     {
         replace_with(
             &mut caller.pass,
@@ -61,13 +61,13 @@ impl Link {
     ) -> Result<B, B>
         requires own { caller.old.lock ≡ self.now }
         requires room { B.has_room burst 0 }
-        ensures answered { IfOk result (λ after. (first : B) (earlier : List Reply) → B.shows first burst earlier
-            → (replies : List Reply) × B.shows first after replies
+        ensures answered { IfOk result (λ after. (first : B) (earlier : List Reply) → B.received first burst earlier
+            → (replies : List Reply) × B.received first after replies
             × AnswersWithin budget (B.continues burst) self.now caller.old (B.commands burst 0) earlier replies caller.new) }
         ensures busy { IfErr result (λ back. (back ≡ burst) × WasBusy caller.old caller.new) }
         ensures none { length (B.commands burst 0) ≡ 0 → IsOk result }
         ensures room { IfOk result (λ after. B.room after ≡ B.room burst) }
-        ensures stays { StaysOne caller.old caller.new }
+        ensures stays { HasSameNumbers caller.old caller.new }
     {
         replace_with(
             &mut caller.pass,
@@ -96,7 +96,7 @@ impl Link {
             (AnswersAll always self.now caller.old (map arrive arrivals.now) answers.old.items answers.new.items caller.new) }
         ensures refused { OnErr result (WasNotDone caller.old answers.old.items answers.new.items caller.new) }
         ensures capacity { vec_capacity answers.new ≡ vec_capacity answers.old }
-        ensures stays { StaysOne caller.old caller.new }
+        ensures stays { HasSameNumbers caller.old caller.new }
     {
         if !has_room(answers, arrivals.len()) {
             return Err(NoRoom);
@@ -126,7 +126,7 @@ impl Link {
             caller.new }
         ensures none { length arrivals.now ≡ 0 → result ≢ Err Busy }
         ensures capacity { vec_capacity answers.new ≡ vec_capacity answers.old }
-        ensures stays { StaysOne caller.old caller.new }
+        ensures stays { HasSameNumbers caller.old caller.new }
     {
         if !has_room(answers, arrivals.len()) {
             return Err(Tried::Refused(NoRoom));
@@ -167,7 +167,7 @@ impl Link {
             (AnswersAll has_left self.now caller.old (departures most moment) answers.old.items answers.new.items caller.new) }
         ensures refused { OnErr result (WasNotDone caller.old answers.old.items answers.new.items caller.new) }
         ensures capacity { vec_capacity answers.new ≡ vec_capacity answers.old }
-        ensures stays { StaysOne caller.old caller.new }
+        ensures stays { HasSameNumbers caller.old caller.new }
     {
         if !has_room(answers, most) {
             return Err(NoRoom);

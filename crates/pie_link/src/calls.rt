@@ -9,7 +9,7 @@ ghost use Rattle.pie_book.specs.Statistics.{stats_after};
 ghost use Rattle.pie_link.specs.Commands.{Answers, TriesToAnswer};
 ghost use Rattle.pie_link.specs.CallerFolds.{Folds, TriesToFold, TriesToFoldInto};
 ghost use Rattle.pie_link.specs.CallerReadings.{Reads, TriesToRead};
-ghost use Rattle.pie_link.specs.Views.{StaysOne};
+ghost use Rattle.pie_link.specs.Views.{HasSameNumbers};
 ghost use Rattle.pie_link.specs.CallerExcerpts.{FillsExcerpt, TriesToFillExcerpt};
 
 use crate::call_result::{Told, Tried};
@@ -40,7 +40,7 @@ impl Link {
     ) -> Result<Told<Answer>, Tried<Refusal>>
         requires own { caller.old.lock ≡ self.now }
         ensures answered { TriesToAnswer self.now caller.old (Arrive moment packet word) result caller.new }
-        ensures stays { StaysOne caller.old caller.new }
+        ensures stays { HasSameNumbers caller.old caller.new }
     {
         let request = (self, moment, packet, word);
         replace_with(&mut caller.pass, request, turn::try_arrive)
@@ -59,7 +59,7 @@ impl Link {
     ) -> Result<Told<Answer>, Tried<Refusal>>
         requires own { caller.old.lock ≡ self.now }
         ensures answered { TriesToAnswer self.now caller.old (Depart moment) result caller.new }
-        ensures stays { StaysOne caller.old caller.new }
+        ensures stays { HasSameNumbers caller.old caller.new }
     {
         replace_with(&mut caller.pass, (self, moment), turn::try_depart)
     }
@@ -77,7 +77,7 @@ impl Link {
     ) -> Result<Told<Answer>, Tried<Refusal>>
         requires own { caller.old.lock ≡ self.now }
         ensures answered { TriesToAnswer self.now caller.old (Update moment) result caller.new }
-        ensures stays { StaysOne caller.old caller.new }
+        ensures stays { HasSameNumbers caller.old caller.new }
     {
         let request = (self, &Command::Update { moment });
         replace_with(&mut caller.pass, request, turn::try_apply)
@@ -96,7 +96,7 @@ impl Link {
     ) -> Result<Told<Answer>, Tried<Refusal>>
         requires own { caller.old.lock ≡ self.now }
         ensures answered { TriesToAnswer self.now caller.old (Reset moment) result caller.new }
-        ensures stays { StaysOne caller.old caller.new }
+        ensures stays { HasSameNumbers caller.old caller.new }
     {
         let request = (self, &Command::Reset { moment });
         replace_with(&mut caller.pass, request, turn::try_apply)
@@ -116,7 +116,7 @@ impl Link {
     ) -> Result<Told<Answer>, Tried<Refusal>>
         requires own { caller.old.lock ≡ self.now }
         ensures answered { TriesToAnswer self.now caller.old (SetParams moment params) result caller.new }
-        ensures stays { StaysOne caller.old caller.new }
+        ensures stays { HasSameNumbers caller.old caller.new }
     {
         let request = (self, &Command::SetParams { moment, params });
         replace_with(&mut caller.pass, request, turn::try_apply)
@@ -138,7 +138,7 @@ impl Link {
     ) -> Result<Told<Answer>, Refusal>
         requires own { caller.old.lock ≡ self.now }
         ensures answered { Answers self.now caller.old (Arrive moment packet word) result caller.new }
-        ensures stays { StaysOne caller.old caller.new }
+        ensures stays { HasSameNumbers caller.old caller.new }
     {
         let request = (self, rt, moment, packet, word);
         replace_with(&mut caller.pass, request, turn::wait_and_arrive)
@@ -157,7 +157,7 @@ impl Link {
     ) -> Result<Told<Answer>, Refusal>
         requires own { caller.old.lock ≡ self.now }
         ensures answered { Answers self.now caller.old (Depart moment) result caller.new }
-        ensures stays { StaysOne caller.old caller.new }
+        ensures stays { HasSameNumbers caller.old caller.new }
     {
         replace_with(&mut caller.pass, (self, rt, moment), turn::wait_and_depart)
     }
@@ -175,7 +175,7 @@ impl Link {
     ) -> Result<Told<Answer>, Refusal>
         requires own { caller.old.lock ≡ self.now }
         ensures answered { Answers self.now caller.old (Update moment) result caller.new }
-        ensures stays { StaysOne caller.old caller.new }
+        ensures stays { HasSameNumbers caller.old caller.new }
     {
         let request = (self, rt, &Command::Update { moment });
         replace_with(&mut caller.pass, request, turn::wait_and_apply)
@@ -195,7 +195,7 @@ impl Link {
     ) -> Result<Told<Answer>, Refusal>
         requires own { caller.old.lock ≡ self.now }
         ensures answered { Answers self.now caller.old (Reset moment) result caller.new }
-        ensures stays { StaysOne caller.old caller.new }
+        ensures stays { HasSameNumbers caller.old caller.new }
     {
         let request = (self, rt, &Command::Reset { moment });
         replace_with(&mut caller.pass, request, turn::wait_and_apply)
@@ -216,7 +216,7 @@ impl Link {
     ) -> Result<Told<Answer>, Refusal>
         requires own { caller.old.lock ≡ self.now }
         ensures answered { Answers self.now caller.old (SetParams moment params) result caller.new }
-        ensures stays { StaysOne caller.old caller.new }
+        ensures stays { HasSameNumbers caller.old caller.new }
     {
         let request = (self, rt, &Command::SetParams { moment, params });
         replace_with(&mut caller.pass, request, turn::wait_and_apply)
@@ -236,7 +236,7 @@ impl Link {
     ) -> Result<Told<Vec<Recorded>>, Tried<FoldRefusal>>
         requires own { caller.old.lock ≡ self.now }
         ensures folded { TriesToFold self.now caller.old n result caller.new }
-        ensures stays { StaysOne caller.old caller.new }
+        ensures stays { HasSameNumbers caller.old caller.new }
     {
         replace_with(&mut caller.pass, (self, n), turn::try_fold)
     }
@@ -257,7 +257,7 @@ impl Link {
     ) -> Result<Told<Vec<Recorded>>, FoldRefusal>
         requires own { caller.old.lock ≡ self.now }
         ensures folded { Folds self.now caller.old n result caller.new }
-        ensures stays { StaysOne caller.old caller.new }
+        ensures stays { HasSameNumbers caller.old caller.new }
     {
         replace_with(&mut caller.pass, (self, rt, n), turn::wait_and_fold)
     }
@@ -285,7 +285,7 @@ impl Link {
             events.new.items caller.new }
         ensures within { vec_len events.new ≤ vec_len events.old + most }
         ensures capacity { vec_capacity events.new ≡ vec_capacity events.old }
-        ensures stays { StaysOne caller.old caller.new }
+        ensures stays { HasSameNumbers caller.old caller.new }
     {
         let buffer = replace(events, Vec::new(self.alloc));
         let (buffer, result) = replace_with(
@@ -305,7 +305,7 @@ impl Link {
     pub fn try_registers(&self, caller: &mut Caller) -> Result<Told<Registers>, Tried<Refusal>>
         requires own { caller.old.lock ≡ self.now }
         ensures read { TriesToRead registers_after self.now caller.old result caller.new }
-        ensures stays { StaysOne caller.old caller.new }
+        ensures stays { HasSameNumbers caller.old caller.new }
     {
         replace_with(&mut caller.pass, self, turn::try_read)
     }
@@ -314,7 +314,7 @@ impl Link {
     pub fn registers<R: Wait>(&self, rt: &R, caller: &mut Caller) -> Told<Registers>
         requires own { caller.old.lock ≡ self.now }
         ensures read { Reads registers_after self.now caller.old result caller.new }
-        ensures stays { StaysOne caller.old caller.new }
+        ensures stays { HasSameNumbers caller.old caller.new }
     {
         replace_with(&mut caller.pass, (self, rt), turn::wait_and_read)
     }
@@ -327,7 +327,7 @@ impl Link {
     pub fn try_stats(&self, caller: &mut Caller) -> Result<Told<Stats>, Tried<Refusal>>
         requires own { caller.old.lock ≡ self.now }
         ensures read { TriesToRead stats_after self.now caller.old result caller.new }
-        ensures stays { StaysOne caller.old caller.new }
+        ensures stays { HasSameNumbers caller.old caller.new }
     {
         replace_with(&mut caller.pass, self, turn::try_read)
     }
@@ -336,7 +336,7 @@ impl Link {
     pub fn stats<R: Wait>(&self, rt: &R, caller: &mut Caller) -> Told<Stats>
         requires own { caller.old.lock ≡ self.now }
         ensures read { Reads stats_after self.now caller.old result caller.new }
-        ensures stays { StaysOne caller.old caller.new }
+        ensures stays { HasSameNumbers caller.old caller.new }
     {
         replace_with(&mut caller.pass, (self, rt), turn::wait_and_read)
     }
@@ -357,7 +357,7 @@ impl Link {
     ) -> Result<(), TooSmall>
         requires own { caller.old.lock ≡ self.now }
         ensures filled { FillsExcerpt self.now caller.old result excerpt.old excerpt.new caller.new }
-        ensures stays { StaysOne caller.old caller.new }
+        ensures stays { HasSameNumbers caller.old caller.new }
     {
         let request = (self, rt, excerpt.take(self.alloc));
         let (filled, result) = replace_with(&mut caller.pass, request, turn::wait_and_fill);
@@ -378,7 +378,7 @@ impl Link {
     ) -> Result<(), Tried<TooSmall>>
         requires own { caller.old.lock ≡ self.now }
         ensures filled { TriesToFillExcerpt self.now caller.old result excerpt.old excerpt.new caller.new }
-        ensures stays { StaysOne caller.old caller.new }
+        ensures stays { HasSameNumbers caller.old caller.new }
     {
         let request = (self, excerpt.take(self.alloc));
         let (filled, result) = replace_with(&mut caller.pass, request, turn::try_fill);

@@ -13,7 +13,7 @@ use crate::kept_book::KeptBook;
 use crate::refusal::LinkRefusal;
 use atomic_table::TableRule;
 use pie_book::{Book, Limits, OpenRefusal, Opening, registers_look_back};
-use pie_lock::{LockOpening, LockRule, OneNumber, Pass, Place, RuledLock, StillHeld};
+use pie_lock::{LockOpening, LockRule, OneNumber, Pass, RuledLock, SeatKnowledge, StillHeld};
 use pie_params::Params;
 use std::alloc::Global;
 use std::marker::Model;
@@ -62,7 +62,7 @@ impl Link {
         ensures callers { IfOk result (λ opened. opened.0.numbers ≡ callers) }
         ensures caller { IfOk result (λ opened. opened.1 ≡ first_pass opened.0 callers) }
         ensures headline { IfOk result (λ opened. KeepsOneHistory
-            ⟦<LockRule as TableRule<Option<KeptBook>, Place<Entry, Opening>, LockOpening<KeptBook>>>⟧.holds opened.0) }
+            ⟦<LockRule as TableRule<Option<KeptBook>, SeatKnowledge<Entry, Opening>, LockOpening<KeptBook>>>⟧.holds opened.0) }
     {
         Link::open_with(alloc, Opening::usual(limits, params, moment), callers)
     }
@@ -85,7 +85,7 @@ impl Link {
         ensures callers { IfOk result (λ opened. opened.0.numbers ≡ callers) }
         ensures caller { IfOk result (λ opened. opened.1 ≡ first_pass opened.0 callers) }
         ensures headline { IfOk result (λ opened. KeepsOneHistory
-            ⟦<LockRule as TableRule<Option<KeptBook>, Place<Entry, Opening>, LockOpening<KeptBook>>>⟧.holds opened.0) }
+            ⟦<LockRule as TableRule<Option<KeptBook>, SeatKnowledge<Entry, Opening>, LockOpening<KeptBook>>>⟧.holds opened.0) }
     {
         are_in_range(&opening);
         let book = match Book::open_with(alloc, opening) {

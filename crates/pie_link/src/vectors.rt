@@ -32,7 +32,7 @@ impl Burst for Arrivals<'_> {
 
     ghost continues = { λ b. always };
 
-    ghost shows = { λ first b replies. b.replies.items ≡ replies };
+    ghost received = { λ first b replies. b.replies.items ≡ replies };
 
     ghost room = { λ b. vec_capacity b.replies };
 
@@ -61,7 +61,7 @@ impl Burst for Departures {
 
     ghost continues = { λ b. has_left };
 
-    ghost shows = { λ first b replies. b.replies.items ≡ replies };
+    ghost received = { λ first b replies. b.replies.items ≡ replies };
 
     ghost room = { λ b. vec_capacity b.replies };
 

@@ -7,7 +7,7 @@ use atomic_table::TableRule;
 use pie_abi::PieOpening;
 use pie_event::Opening;
 use pie_link::{Entry, KeptBook};
-use pie_lock::{LockOpening, LockRule, Place};
+use pie_lock::{LockOpening, LockRule, SeatKnowledge};
 use pie_port::PiePort;
 use std::alloc::Global;
 
@@ -26,7 +26,7 @@ pub extern "C" fn pie_link_open_port(
     ensures kept { result ≢ 0 → port.new.port ≡ port.old.port }
     ensures done { open_refusal port.old.port opening.now callers ≡ 0 → result ≢ 123 → result ≡ 0 }
     ensures opened { result ≡ 0 → IsOpened (KeepsOneHistory
-        ⟦<LockRule as TableRule<Option<KeptBook>, Place<Entry, Opening>, LockOpening<KeptBook>>>⟧.holds) opening.now callers port.new.port }
+        ⟦<LockRule as TableRule<Option<KeptBook>, SeatKnowledge<Entry, Opening>, LockOpening<KeptBook>>>⟧.holds) opening.now callers port.new.port }
 {
     pie_port::open(alloc, opening, callers, port)
 }

@@ -7,8 +7,8 @@ pub use Rattle.pie_lock.specs.Rule.{Agreed, EachPass, Follows, IsNumberAt, IsNum
 pub use Rattle.pie_lock.specs.Seating.{IsIdle, IsLeaving}
 pub use Rattle.pie_lock.specs.Steps.{AreAdjacent, Extends, HasAll, Won, all_but_highest, freed, highest, longer, looked, made_one, meeting, merged}
 pub use Rattle.pie_lock.specs.Steps.{pass_at, taken, with_front, with_numbers}
-pub use Rattle.pie_lock.specs.declared.view.Place.{Place}
-pub use Rattle.pie_lock.specs.declared.view.Place.TheVariants.{Holds, HasTwo, Spent, Waits}
+pub use Rattle.pie_lock.specs.declared.view.SeatKnowledge.{SeatKnowledge}
+pub use Rattle.pie_lock.specs.declared.view.SeatKnowledge.TheVariants.{Holds, HasTwo, Spent, Idle}
 pub use Rattle.pie_lock.specs.declared.view.PassKnowledge.{PassKnowledge}
 pub use Rattle.std.proofs.Common.{Bool, List, None, Option, Some, [], ap, append_assoc, arith, cond, false, get_or, get_or-set_same, inl, inr, length}
 pub use Rattle.std.proofs.Common.{length-set, max, min, refl, rules, set, subst, suc, sym, true, zero, ℕ, ⊎_elim, ◌++◌, ◌+◌, ◌-◌, ◌<◌, ◌==◌, ◌∙◌, ◌∷◌}

@@ -4,7 +4,7 @@ use Rattle.pie_lock.proofs.Names.{◌≡◌, ℕ, ◌≤◌, false, List, [], �
 use Rattle.pie_lock.proofs.Names.{All-drop, All-head, All-nil, All-tail, All-take, filter-append, All, is_within, own, Extends, ◌≢◌, zero}
 use Rattle.pie_lock.proofs.Names.{suc, ◌<◌, ◌⊎◌, Bool, true, cond, Option, get_or, min, max, set, ap, sym, ◌∙◌, inl, inr, ⊎_elim, append_assoc}
 use Rattle.pie_lock.proofs.Names.{All-append, at_set, set_else, Agreed, EachPass, Follows, IsNumberAt, IsNumberOf, IsSeated, AreAdjacent, HasAll}
-use Rattle.pie_lock.proofs.Names.{longer, made_one, with_front, with_numbers, Place, Holds, HasTwo, Spent, Waits, PassKnowledge}
+use Rattle.pie_lock.proofs.Names.{longer, made_one, with_front, with_numbers, SeatKnowledge, Holds, HasTwo, Spent, Idle, PassKnowledge}
 use Rattle.std.proofs.Math.Seq.{take-append_seam, drop-append_seam}
 use Rattle.std.proofs.Math.Dec.{ltb}
 use lib.ListN.{get_elem?}
@@ -145,11 +145,11 @@ module _ {E O : Type 0} (number : E → ℕ) (origin : O) (numbers : ℕ) where
       (All-append (λ e. is_within p.first p.limit (number e) ≡ false) on.0 added on.2
       (λ i d within. is_other p.first p.limit k (number (get_or added i d)) (is i d within) not))) f.nonempty f.below
 
-  pub each_longer : (history : List E) (k : ℕ) (u : Place E O) (added : List E) → All (λ e. number e ≡ k) added
+  pub each_longer : (history : List E) (k : ℕ) (u : SeatKnowledge E O) (added : List E) → All (λ e. number e ≡ k) added
       → EachPass (Follows number origin numbers history) u → (IsNumberAt u k → ⊥)
       → EachPass (Follows number origin numbers (history ++ added)) u
   each_longer history k Spent added is f not = tt
-  each_longer history k (Waits p) added is f not = follows_longer history k p added is f not
+  each_longer history k (Idle p) added is f not = follows_longer history k p added is f not
   each_longer history k (Holds p) added is f not = follows_longer history k p added is f not
   each_longer history k (HasTwo p q) added is f not =
       (follows_longer history k p added is f.0 (λ h. not (inl h)), follows_longer history k q added is f.1 (λ h. not (inr h)))
@@ -199,9 +199,9 @@ module _ {E O : Type 0} (number : E → ℕ) (origin : O) (numbers : ℕ) where
   -- ---- all seats
 
   -- the view of one seat changes, and perhaps the history, the holder and the owners of numbers
-  pub agreed_set : (next : List E) (holder : Option ℕ) (owner : ℕ → ℕ) (views : List (Place E O)) (id : ℕ) (w : Place E O)
+  pub agreed_set : (next : List E) (holder : Option ℕ) (owner : ℕ → ℕ) (views : List (SeatKnowledge E O)) (id : ℕ) (w : SeatKnowledge E O)
       → IsSeated number origin numbers next holder owner id w
-      → ((j : ℕ) (u : Place E O) → j ≢ id → get_elem? views j ≡ some u → IsSeated number origin numbers next holder owner j u)
+      → ((j : ℕ) (u : SeatKnowledge E O) → j ≢ id → get_elem? views j ≡ some u → IsSeated number origin numbers next holder owner j u)
       → All (λ e. number e < numbers) next → Agreed number origin numbers next holder owner (set views id w)
   agreed_set next holder owner views id w mine others below = record {
     seated = λ j u e. ⊎_elim
@@ -211,7 +211,7 @@ module _ {E O : Type 0} (number : E → ℕ) (origin : O) (numbers : ℕ) where
   }
 
   -- a new seat is added
-  pub agreed_longer : (history : List E) (holder : Option ℕ) (owner : ℕ → ℕ) (views : List (Place E O)) (w : Place E O)
+  pub agreed_longer : (history : List E) (holder : Option ℕ) (owner : ℕ → ℕ) (views : List (SeatKnowledge E O)) (w : SeatKnowledge E O)
       → Agreed number origin numbers history holder owner views → IsSeated number origin numbers history holder owner (length views) w
       → Agreed number origin numbers history holder owner (views ++ w ∷ [])
   agreed_longer history holder owner views w agreed new = record {

@@ -4,7 +4,7 @@ use Rattle.pie_lock.proofs.Names.{length, get_or, set, refl, ap, sym, subst, ◌
 use Rattle.pie_lock.proofs.Names.{All-nil, All, at_longer, at_set, exchanged, set_again, set_else, Act, Allows, Joins, Me, Splits, State, Valid}
 use Rattle.pie_lock.proofs.Names.{carried_after, gives, keeps, opening, step, stepped, takes, Agreed, EachPass, Follows, IsSeated, Ruled, WhileFree}
 use Rattle.pie_lock.proofs.Names.{WhileHeld, opened, IsIdle, IsLeaving, AreAdjacent, HasAll, Won, all_but_highest, freed, highest, looked, made_one}
-use Rattle.pie_lock.proofs.Names.{meeting, merged, pass_at, taken, with_front, with_numbers, Place, Holds, HasTwo, Spent, Waits, PassKnowledge}
+use Rattle.pie_lock.proofs.Names.{meeting, merged, pass_at, taken, with_front, with_numbers, SeatKnowledge, Holds, HasTwo, Spent, Idle, PassKnowledge}
 use lib.ListN.{get_elem?}
 use mathlib.Core.Option.{none, some}
 use prog.Atomic.{either}
@@ -33,7 +33,7 @@ given_else owner test value new n other = grind (arith, nat_tests)
 
 module _ {S E O : Type 0} (number : E → ℕ) (origin_of : S → O) (represents_list : S → List E → Type 0) (origin : O) (numbers : ℕ) where
   abbrev Table : Type 0
-  Table = State (Option S) (Place E O)
+  Table = State (Option S) (SeatKnowledge E O)
 
   abbrev Rule : Table → Type 0
   Rule s = Ruled number origin_of represents_list origin numbers s
@@ -44,7 +44,7 @@ module _ {S E O : Type 0} (number : E → ℕ) (origin_of : S → O) (represents
   abbrev IsHeld : Option ℕ → Table → Type 0
   IsHeld holder s = WhileHeld number origin_of represents_list origin numbers holder s
 
-  abbrev Sits : List E → Option ℕ → (ℕ → ℕ) → ℕ → Place E O → Type 0
+  abbrev Sits : List E → Option ℕ → (ℕ → ℕ) → ℕ → SeatKnowledge E O → Type 0
   Sits history holder owner seat view = IsSeated number origin numbers history holder owner seat view
 
   -- ---- the opening
@@ -61,21 +61,21 @@ module _ {S E O : Type 0} (number : E → ℕ) (origin_of : S → O) (represents
 
   -- ---- a look at the word, and the exchange of FREE for HELD, won or lost
 
-  wins : (id : ℕ) (p : PassKnowledge E O) (s : Table) → Rule s → get_elem? s.views id ≡ some (Waits p) → get_or s.words 0 0 ≡ 0
-      → (w : Place E O) × (a : Act (Option S)) × Valid s.homes [] a × Rule (stepped s 0 1 id [] w a)
+  wins : (id : ℕ) (p : PassKnowledge E O) (s : Table) → Rule s → get_elem? s.views id ≡ some (Idle p) → get_or s.words 0 0 ≡ 0
+      → (w : SeatKnowledge E O) × (a : Act (Option S)) × Valid s.homes [] a × Rule (stepped s 0 1 id [] w a)
       × Won number origin_of represents_list p (w, carried_after [] a)
   wins id p s rule at hit =
       let history : List E = rule.1.0 in
       let agreed : Agreed number origin numbers history rule.1.1 rule.1.2 s.views = rule.1.3 in
       let free : IsFree history rule.1.1 s = ⊎_elim (λ t. t) (λ held. let one = held.0 in absurd (omega arith)) rule.1.4 in
-      let w : Place E O = Holds (with_front p history) in
-      let f : Follows number origin numbers history p = (agreed.seated id (Waits p) at).follows in
+      let w : SeatKnowledge E O = Holds (with_front p history) in
+      let f : Follows number origin numbers history p = (agreed.seated id (Idle p) at).follows in
       let now = agreed_set number origin numbers history (Some id) rule.1.2 s.views id w
-      (let mine = agreed.seated id (Waits p) at in grind (arith, follows_whole number origin numbers history p f history))
+      (let mine = agreed.seated id (Idle p) at in grind (arith, follows_whole number origin numbers history p f history))
       (λ j u ne e. let a = agreed.seated j u e in grind arith) agreed.entries_below in
       let held : IsHeld (Some id) (stepped s 0 1 id [] w (takes 0 (Some free.2.0))) = (
         (let one = rule.0 in grind (arith, get_or-set_same)),
-        (id, with_front p history, refl, set_at s.views id w (Waits p) at),
+        (id, with_front p history, refl, set_at s.views id w (Idle p) at),
         set_at s.homes 0 none (some (Some free.2.0)) free.2.1,
       ) in
       let shown = all_shown number origin numbers history p f agreed.entries_below in (
@@ -87,38 +87,38 @@ module _ {S E O : Type 0} (number : E → ℕ) (origin_of : S → O) (represents
       )
 
   -- if a seat has all numbers, no other seat has the state
-  not_all : (id : ℕ) (p : PassKnowledge E O) (s : Table) → Rule s → get_elem? s.views id ≡ some (Waits p) → get_or s.words 0 0 ≢ 0 → HasAll p → ⊥
+  not_all : (id : ℕ) (p : PassKnowledge E O) (s : Table) → Rule s → get_elem? s.views id ≡ some (Idle p) → get_or s.words 0 0 ≢ 0 → HasAll p → ⊥
   not_all id p s rule at ne all =
       let agreed : Agreed number origin numbers rule.1.0 rule.1.1 rule.1.2 s.views = rule.1.3 in
-      let mine : Sits rule.1.0 rule.1.1 rule.1.2 id (Waits p) = agreed.seated id (Waits p) at in
+      let mine : Sits rule.1.0 rule.1.1 rule.1.2 id (Idle p) = agreed.seated id (Idle p) at in
       ⊎_elim (λ free. ne free.0) (λ held.
       let its : Sits rule.1.0 rule.1.1 rule.1.2 held.1.0 (Holds held.1.1) = agreed.seated held.1.0 (Holds held.1.1) held.1.3 in
       grind (arith, mine.owned held.1.1.first, its.owned held.1.1.first)) rule.1.4
 
   -- a step that leaves the word leaves the rest
-  stays : (id : ℕ) (p : PassKnowledge E O) (s : Table) → Rule s → get_elem? s.views id ≡ some (Waits p)
-      → Rule (stepped s 0 (get_or s.words 0 0) id [] (Waits p) keeps)
+  stays : (id : ℕ) (p : PassKnowledge E O) (s : Table) → Rule s → get_elem? s.views id ≡ some (Idle p)
+      → Rule (stepped s 0 (get_or s.words 0 0) id [] (Idle p) keeps)
   stays id p s rule at = grind (arith, nat_tests, word_again, set_again)
 
-  pub looks_keep : (slots id : ℕ) (me : Me (Option S) (Place E O)) → IsIdle me
+  pub looks_keep : (slots id : ℕ) (me : Me (Option S) (SeatKnowledge E O)) → IsIdle me
       → Allows Rule slots id me 0 (λ n. n) (looked (step slots 0 0 0 none) me)
   looks_keep slots id me idle = rw idle (λ s rule sized at wide.
-      let p : PassKnowledge E O = pass_at me.0 in (Waits p, keeps, tt, stays id p s rule at, (refl, not_all id p s rule at)))
+      let p : PassKnowledge E O = pass_at me.0 in (Idle p, keeps, tt, stays id p s rule at, (refl, not_all id p s rule at)))
 
-  pub takes_keep : (slots id : ℕ) (me : Me (Option S) (Place E O)) → IsIdle me
+  pub takes_keep : (slots id : ℕ) (me : Me (Option S) (SeatKnowledge E O)) → IsIdle me
       → Allows Rule slots id me 0 (λ n. either (n == 0) 1 n) (taken number origin_of represents_list (step slots 0 0 1 none) me)
   takes_keep slots id me idle = rw idle (λ s rule sized at wide.
       let n : ℕ = get_or s.words 0 0 in
       let p : PassKnowledge E O = pass_at me.0 in
-      exchanged n 0 1 (λ k. (w : Place E O) × (a : Act (Option S)) × Valid s.homes [] a × Rule (stepped s 0 k id [] w a)
-      × taken number origin_of represents_list (step slots 0 0 1 none) (Waits p, []) n (w, carried_after [] a))
+      exchanged n 0 1 (λ k. (w : SeatKnowledge E O) × (a : Act (Option S)) × Valid s.homes [] a × Rule (stepped s 0 k id [] w a)
+      × taken number origin_of represents_list (step slots 0 0 1 none) (Idle p, []) n (w, carried_after [] a))
       (λ hit. let won = wins id p s rule at hit in (won.0, won.1, won.2, won.3, (λ _. won.4, λ ne. absurd (ne hit))))
-      (λ miss. (Waits p, keeps, tt, stays id p s rule at, (λ e. absurd (miss e), λ ne. (refl, not_all id p s rule at ne)))))
+      (λ miss. (Idle p, keeps, tt, stays id p s rule at, (λ e. absurd (miss e), λ ne. (refl, not_all id p s rule at ne)))))
 
   -- ---- the store of FREE, by the seat that has the state
 
   -- the fact that the store of FREE gives a seat with this pass and state
-  abbrev Frees : ℕ → ℕ → List E → Me (Option S) (Place E O) → Type 0
+  abbrev Frees : ℕ → ℕ → List E → Me (Option S) (SeatKnowledge E O) → Type 0
   Frees slots id added me = Allows Rule slots id me 0 (λ _. 0) (λ _. freed added (step slots 0 0 0 none) me 0)
 
   frees : (slots id : ℕ) (p : PassKnowledge E O) (stored : S) (added : List E) → p.origin ≡ Some (origin_of stored)
@@ -132,7 +132,7 @@ module _ {S E O : Type 0} (number : E → ℕ) (origin_of : S → O) (represents
       let f : Follows number origin numbers history p = mine.follows in
       let next : List E = p.front ++ added in
       let next_is : history ++ added ≡ next = ap (λ l. l ++ added) (sym has.1) in
-      let w : Place E O = Waits (with_front p next) in
+      let w : SeatKnowledge E O = Idle (with_front p next) in
       let low = f.nonempty in
       let high = f.below in
       let now = agreed_set number origin numbers next None rule.1.2 s.views id w (grind (arith, follows_whole number origin numbers history p f next))
@@ -148,32 +148,32 @@ module _ {S E O : Type 0} (number : E → ℕ) (origin_of : S → O) (represents
       ) in
       (w, gives, tt, (length-set s.words 0 0 ∙ rule.0, (next, None, rule.1.2, now, inl free)), refl)
 
-  pub frees_keep : (slots id : ℕ) (me : Me (Option S) (Place E O)) (stored : S) (named added : List E) → named ≡ added
+  pub frees_keep : (slots id : ℕ) (me : Me (Option S) (SeatKnowledge E O)) (stored : S) (named added : List E) → named ≡ added
       → IsLeaving number origin_of represents_list added stored me → Frees slots id named me
   frees_keep slots id me stored named added same leaving =
       rw (same, leaving.holds) (frees slots id (pass_at me.0) stored added leaving.origin leaving.represents leaving.own)
 
   -- ---- seats that are split and joined: the word and the slot stay, and so does who has the state
 
-  same_word : (s : Table) (views : List (Place E O)) (history : List E) (holder : Option ℕ) → IsFree history holder s ⊎ IsHeld holder s
+  same_word : (s : Table) (views : List (SeatKnowledge E O)) (history : List E) (holder : Option ℕ) → IsFree history holder s ⊎ IsHeld holder s
       → ((j : ℕ) (q : PassKnowledge E O) → get_elem? s.views j ≡ some (Holds q) → get_elem? views j ≡ some (Holds q))
       → IsFree history holder (record { words = s.words; homes = s.homes; views = views })
       ⊎ IsHeld holder (record { words = s.words; homes = s.homes; views = views })
   same_word s views history holder now keeps_it = grind arith
 
-  pub splits_keep : (id : ℕ) (v : Place E O) → v ≡ Waits (pass_at v) → (pass_at v).first + 1 < (pass_at v).limit
+  pub splits_keep : (id : ℕ) (v : SeatKnowledge E O) → v ≡ Idle (pass_at v) → (pass_at v).first + 1 < (pass_at v).limit
       → Splits Rule id v (all_but_highest v) (highest v)
   splits_keep id v is two = rw is (λ s rule at.
       let p : PassKnowledge E O = pass_at v in
       let history : List E = rule.1.0 in
       let agreed : Agreed number origin numbers history rule.1.1 rule.1.2 s.views = rule.1.3 in
-      let mine : Sits history rule.1.1 rule.1.2 id (Waits p) = agreed.seated id (Waits p) at in
+      let mine : Sits history rule.1.1 rule.1.2 id (Idle p) = agreed.seated id (Idle p) at in
       let f : Follows number origin numbers history p = mine.follows in
       let last : ℕ = p.limit - 1 in
       let new : ℕ = length s.views in
-      let left : Place E O = Waits (with_numbers p p.first last) in
-      let right : Place E O = Waits (with_numbers p last p.limit) in
-      let views : List (Place E O) = set s.views id left in
+      let left : SeatKnowledge E O = Idle (with_numbers p p.first last) in
+      let right : SeatKnowledge E O = Idle (with_numbers p last p.limit) in
+      let views : List (SeatKnowledge E O) = set s.views id left in
       let owner : ℕ → ℕ = given rule.1.2 (λ n. n) last new in
       let cut : Agreed number origin numbers history rule.1.1 owner views = agreed_set number origin numbers history rule.1.1 owner s.views id left
       (grind (arith, given_else, follows_fewer number origin numbers history p p.first last f (omega arith) (omega arith) (omega arith)))
@@ -181,43 +181,43 @@ module _ {S E O : Type 0} (number : E → ℕ) (origin_of : S → O) (represents
       let all = agreed_longer number origin numbers history rule.1.1 owner views right cut
       (grind (arith, given_new, length-set, follows_fewer number origin numbers history p last p.limit f (omega arith) (omega arith) (omega arith))) in
       let now = same_word s (views ++ right ∷ []) history rule.1.1 rule.1.4
-      (λ j q e. at_longer views (right ∷ []) j (Holds q) (set_beside s.views id j left (Waits p) (Holds q) at e (λ h. cc h))) in
+      (λ j q e. at_longer views (right ∷ []) j (Holds q) (set_beside s.views id j left (Idle p) (Holds q) at e (λ h. cc h))) in
       (rule.0, (history, rule.1.1, owner, all, now)))
 
   -- the load of a seat with two passes
 
-  pub merges_keep : (slots id : ℕ) (me : Me (Option S) (Place E O)) (p q : PassKnowledge E O) → AreAdjacent p q
-      → ◌≡◌ {A = Me (Option S) (Place E O)} me (HasTwo p q, [])
+  pub merges_keep : (slots id : ℕ) (me : Me (Option S) (SeatKnowledge E O)) (p q : PassKnowledge E O) → AreAdjacent p q
+      → ◌≡◌ {A = Me (Option S) (SeatKnowledge E O)} me (HasTwo p q, [])
       → Allows Rule slots id me 0 (λ n. n) (merged number (step slots 0 0 0 none) me)
   merges_keep slots id me p q adjacent is = rw is (λ s rule sized at wide.
       let history : List E = rule.1.0 in
       let agreed : Agreed number origin numbers history rule.1.1 rule.1.2 s.views = rule.1.3 in
       let mine : Sits history rule.1.1 rule.1.2 id (HasTwo p q) = agreed.seated id (HasTwo p q) at in
       let both : EachPass (Follows number origin numbers history) (HasTwo p q) = mine.follows in
-      let w : Place E O = Waits (made_one p q) in
+      let w : SeatKnowledge E O = Idle (made_one p q) in
       let facts = follows_both number origin numbers history p q both.0 both.1 adjacent in
       let now = agreed_set number origin numbers history rule.1.1 rule.1.2 s.views id w (grind (arith, nat_tests)) (λ j u ne e. agreed.seated j u e)
       agreed.entries_below in
       let word = same_word s (set s.views id w) history rule.1.1 rule.1.4 (λ j r e. set_beside s.views id j w (HasTwo p q) (Holds r) at e (λ h. cc h)) in
       (w, keeps, tt, rw (word_again s.words rule.0) (rule.0, (history, rule.1.1, rule.1.2, now, word)), (refl, facts.1, facts.2)))
 
-  pub joins_keep : (id other : ℕ) (v w : Place E O) → v ≡ Waits (pass_at v) → w ≡ Waits (pass_at w) → Joins Rule id v other w (meeting v w) Spent
+  pub joins_keep : (id other : ℕ) (v w : SeatKnowledge E O) → v ≡ Idle (pass_at v) → w ≡ Idle (pass_at w) → Joins Rule id v other w (meeting v w) Spent
   joins_keep id other v w is its_is = rw (is, its_is) (λ s rule at ne there.
       let p : PassKnowledge E O = pass_at v in
       let q : PassKnowledge E O = pass_at w in
       let history : List E = rule.1.0 in
       let agreed : Agreed number origin numbers history rule.1.1 rule.1.2 s.views = rule.1.3 in
-      let both : Place E O = HasTwo p q in
-      let spent : Place E O = Spent in
-      let its_place : get_elem? s.views other ≡ some (Waits q) = sym (set_else s.views id other both ne) ∙ there in
-      let mine : Sits history rule.1.1 rule.1.2 id (Waits p) = agreed.seated id (Waits p) at in
-      let its : Sits history rule.1.1 rule.1.2 other (Waits q) = agreed.seated other (Waits q) its_place in
+      let both : SeatKnowledge E O = HasTwo p q in
+      let spent : SeatKnowledge E O = Spent in
+      let its_place : get_elem? s.views other ≡ some (Idle q) = sym (set_else s.views id other both ne) ∙ there in
+      let mine : Sits history rule.1.1 rule.1.2 id (Idle p) = agreed.seated id (Idle p) at in
+      let its : Sits history rule.1.1 rule.1.2 other (Idle q) = agreed.seated other (Idle q) its_place in
       let owner : ℕ → ℕ = given rule.1.2 rule.1.2 other id in
       let gathered : Sits history rule.1.1 owner id both = grind (arith, given_else, given_new) in
       let now = agreed_set number origin numbers history rule.1.1 owner (set s.views id both) other spent (grind arith)
       (λ j u apart e. ⊎_elim (λ t. rw (t.0, ← t.1) gathered) (λ t. let a = agreed.seated j u t.1 in grind (arith, given_else)) (at_set s.views id j both u e))
       agreed.entries_below in
       let word = same_word s (set (set s.views id both) other spent) history rule.1.1 rule.1.4
-      (λ j r e. set_beside (set s.views id both) other j spent (Waits q) (Holds r) there
-      (set_beside s.views id j both (Waits p) (Holds r) at e (λ h. cc h)) (λ h. cc h)) in
+      (λ j r e. set_beside (set s.views id both) other j spent (Idle q) (Holds r) there
+      (set_beside s.views id j both (Idle p) (Holds r) at e (λ h. cc h)) (λ h. cc h)) in
       (rule.0, (history, rule.1.1, owner, now, word)))

@@ -25,7 +25,7 @@
 //!   and the pass unchanged.
 //! - Every call except `take` and `take_for` returns. Only `new` allocates.
 //!
-//! `LockRule`, the rule of the lock's table, is public with the types that it names (`Place`, `LockOpening`). So the
+//! `LockRule`, the rule of the lock's table, is public with the types that it names (`SeatKnowledge`, `LockOpening`). So the
 //! contract of a crate above can name the state of its lock. No other crate makes a value of these types.
 //!
 //! Not promised:
@@ -54,4 +54,4 @@ pub use lock::RuledLock;
 pub use pass::{Held, Pass, WakeDue};
 pub use refusal::{LockRefusal, OneNumber, StillHeld};
 pub use rule::LockRule;
-pub use view::{LockOpening, Place};
+pub use view::{LockOpening, SeatKnowledge};

@@ -8,7 +8,7 @@ use crate::refusal::{LockRefusal, OneNumber, StillHeld};
 use crate::rule::{
     Adding, FreeStep, JoinTwo, LockRule, LookStep, MergeStep, SplitHighest, TakeStep,
 };
-use crate::view::{LockOpening, Place};
+use crate::view::{LockOpening, SeatKnowledge};
 use atomic_table::{Refused, Seat, Table};
 use crossbeam_utils::Backoff;
 use std::alloc::Global;
@@ -55,7 +55,7 @@ const LOOKS: usize = 32;
 /// In contracts it is its identity, the origin of its first state, and its number of callers' numbers.
 #[derive(Drop)]
 pub struct RuledLock<S: Kept> {
-    table: Table<Option<S>, Place<S::Entry, S::Origin>, LockOpening<S>, LockRule, Global>,
+    table: Table<Option<S>, SeatKnowledge<S::Entry, S::Origin>, LockOpening<S>, LockRule, Global>,
     // AWAITED while a thread may sleep until a put. No clause names it.
     awaited: AtomicU64,
 }
@@ -78,7 +78,7 @@ impl<S: Kept> Model for RuledLock<S> {
 impl<S: Kept> RuledLock<S> {
     ghost use Rattle.pie_lock.specs.Views.{HoldsAll};
     ghost use Rattle.pie_lock.specs.Steps.{Extends, HasMerged, pass_at, with_front, AreAdjacent};
-    ghost use Rattle.pie_lock.specs.declared.view.Place.TheVariants.{Waits};
+    ghost use Rattle.pie_lock.specs.declared.view.SeatKnowledge.TheVariants.{Idle};
     ghost use Rattle.pie_lock.specs.Seating.{IsIdle, IsLeaving};
     ghost use Rattle.pie_lock.specs.Promises.{first_pass, HasTaken, pass_after, without_highest, highest_alone, IsBeside, IsBothOf};
 
@@ -126,7 +126,7 @@ impl<S: Kept> RuledLock<S> {
     }
 
     // Takes the state out of the seat's slot.
-    fn take_from_slot(&self, seat: &mut Seat<Option<S>, Place<S::Entry, S::Origin>>) -> S
+    fn take_from_slot(&self, seat: &mut Seat<Option<S>, SeatKnowledge<S::Entry, S::Origin>>) -> S
         requires table { seat.old.table_id ≡ self.now.id }
         requires slot { (stored : S) × (seat.old.me.1 ≡ (0, Some stored) ∷ []) }
         ensures seat { (seat.new.table_id ≡ seat.old.table_id) × (seat.new.id ≡ seat.old.id) × (seat.new.me ≡ (seat.old.me.0, (0, None) ∷ [])) }
@@ -139,7 +139,11 @@ impl<S: Kept> RuledLock<S> {
     }
 
     // Puts `state` into the seat's slot.
-    fn put_into_slot(&self, seat: &mut Seat<Option<S>, Place<S::Entry, S::Origin>>, state: S)
+    fn put_into_slot(
+        &self,
+        seat: &mut Seat<Option<S>, SeatKnowledge<S::Entry, S::Origin>>,
+        state: S,
+    )
         requires table { seat.old.table_id ≡ self.now.id }
         requires slot { seat.old.me.1 ≡ (0, None) ∷ [] }
         ensures seat { (seat.new.table_id ≡ seat.old.table_id) × (seat.new.id ≡ seat.old.id) }
@@ -154,14 +158,14 @@ impl<S: Kept> RuledLock<S> {
     // entries name the step; they are not stored.
     fn free<J: Adding<S::Entry>>(
         &self,
-        seat: &mut Seat<Option<S>, Place<S::Entry, S::Origin>>,
+        seat: &mut Seat<Option<S>, SeatKnowledge<S::Entry, S::Origin>>,
         added: &Snapshot<Entries<S::Entry>>,
     )
         requires table { seat.old.table_id ≡ self.now.id }
         requires added { J.added ≡ added.now.value }
         requires slot { (state : S) × IsLeaving S.number_of S.origin_of S.represents_list added.now.value state seat.old.me }
         ensures seat { (seat.new.table_id ≡ seat.old.table_id) × (seat.new.id ≡ seat.old.id) }
-        ensures front { seat.new.me ≡ (Waits (with_front (pass_at seat.old.me.0) ((pass_at seat.old.me.0).front ++ added.now.value)), []) }
+        ensures front { seat.new.me ≡ (Idle (with_front (pass_at seat.old.me.0) ((pass_at seat.old.me.0).front ++ added.now.value)), []) }
     {
         let _ = added;
         self.table.shared.store::<FreeStep<J>>(seat, WORD, FREE);
@@ -310,9 +314,9 @@ impl<S: Kept> RuledLock<S> {
     }
 
     /// Wakes one thread that sleeps until the state is put back, if there is one. It is the last step of a turn that
-    /// began with [`RuledLock::take`] or [`RuledLock::take_for`]; `pass` is the result of the put. It is a call of its
-    /// own, because a static library cannot contain it: programs that never wait do not need it. A sleeping thread that
-    /// is not woken looks again after a millisecond.
+    /// began with [`RuledLock::take`] or [`RuledLock::take_for`]; `pass` is the result of the put. It is
+    /// separate from the put, because a static library cannot contain a function that wakes threads; programs that never
+    /// wait do not call it. A sleeping thread that is not woken looks again after a millisecond.
     pub fn wake(&self, pass: &Pass<S>, due: WakeDue)
         requires own { pass.now.lock ≡ self.now }
     {
@@ -376,8 +380,8 @@ impl<S: Kept> RuledLock<S> {
     // Joins two seats whose passes have adjacent ranges.
     fn join(
         &self,
-        seat: &mut Seat<Option<S>, Place<S::Entry, S::Origin>>,
-        other: Seat<Option<S>, Place<S::Entry, S::Origin>>,
+        seat: &mut Seat<Option<S>, SeatKnowledge<S::Entry, S::Origin>>,
+        other: Seat<Option<S>, SeatKnowledge<S::Entry, S::Origin>>,
     )
         requires tables { (seat.old.table_id ≡ self.now.id) × (other.table_id ≡ self.now.id) }
         requires waiting { IsIdle seat.old.me × IsIdle other.me }

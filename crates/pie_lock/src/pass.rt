@@ -2,7 +2,7 @@
 ghost use Rattle.std.specs.Prelude.{◌≡◌, ◌<◌};
 
 use crate::kept::Kept;
-use crate::view::Place;
+use crate::view::SeatKnowledge;
 use atomic_table::Seat;
 use std::marker::Model;
 
@@ -14,7 +14,7 @@ use std::marker::Model;
 pub struct Pass<S: Kept> {
     pub(crate) first: u16,
     pub(crate) limit: u16,
-    pub(crate) seat: Seat<Option<S>, Place<S::Entry, S::Origin>>,
+    pub(crate) seat: Seat<Option<S>, SeatKnowledge<S::Entry, S::Origin>>,
 }
 
 impl<S: Kept> Model for Pass<S> {
@@ -22,11 +22,11 @@ impl<S: Kept> Model for Pass<S> {
 
     ghost Value = { PassView S.Entry S.Origin };
 
-    ghost use Rattle.pie_lock.specs.Seating.{pass_of_seat, IsWaiting};
+    ghost use Rattle.pie_lock.specs.Seating.{pass_of_seat, IsIdleWithNumbers};
 
     ghost view = { λ p. pass_of_seat p.first p.limit p.seat };
 
-    ghost invariant = { λ p. IsWaiting p.first p.limit p.seat.me };
+    ghost invariant = { λ p. IsIdleWithNumbers p.first p.limit p.seat.me };
 }
 
 impl<S: Kept> Pass<S> {
@@ -52,7 +52,7 @@ pub struct Held<S: Kept> {
     pub(crate) state: S,
     pub(crate) first: u16,
     pub(crate) limit: u16,
-    pub(crate) seat: Seat<Option<S>, Place<S::Entry, S::Origin>>,
+    pub(crate) seat: Seat<Option<S>, SeatKnowledge<S::Entry, S::Origin>>,
 }
 
 impl<S: Kept> Model for Held<S> {

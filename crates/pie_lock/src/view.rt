@@ -13,11 +13,11 @@ pub struct PassKnowledge<E, O> {
 }
 
 /// A seat's knowledge at the lock's table. No value of this type exists.
-pub enum Place<E, O> {
+pub enum SeatKnowledge<E, O> {
     /// The seat was joined to another seat, and has no pass.
     Spent,
-    /// The seat has a pass.
-    Waits(PassKnowledge<E, O>),
+    /// The seat has a pass, and not the slot.
+    Idle(PassKnowledge<E, O>),
     /// The seat has the state.
     Holds(PassKnowledge<E, O>),
     /// The seat has two passes, which the next load makes one.

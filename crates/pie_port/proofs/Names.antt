@@ -1,5 +1,5 @@
 -- Names of lower crates that the files of this folder import.
-pub use Rattle.pie_port.specs.{PieEvent, RawParams, Event, CallerView, LinkView, StaysOne, params_after, params_in, struct_of}
+pub use Rattle.pie_port.specs.{PieEvent, RawParams, Event, CallerView, LinkView, HasSameNumbers, params_after, params_in, struct_of}
 pub use Rattle.pie_port.specs.Owned.{owns_port_if, owns_text_if}
 pub use Rattle.std.proofs.Common.{List, [], add-one, ap, arith, get_or, length, lit<, map, min, refl, slice_set, subst, suc, sym, take, zero, ℕ, ◌++◌}
 pub use Rattle.std.proofs.Common.{◌+◌, ◌-◌, ◌<◌, ◌∙◌, ◌∷◌, ◌≡◌, ◌≤◌}

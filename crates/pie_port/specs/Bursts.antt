@@ -1,9 +1,9 @@
 -- Promises of bursts at a port: several events of its caller, one after another, in one turn.
 use Rattle.std.specs.Prelude.{ℕ, ◌≡◌, ◌==◌, ◌⊎◌, Bool, true, false, List, [], ◌∷◌, map, length, Option, Some, None, Ok, Err, if◌then◌else◌}
-use Rattle.pie_port.specs.Names.{Command, Reply, AnswersWithin, CallerView, StaysOne, WasBusy, PieEvent, EventCall, Update}
+use Rattle.pie_port.specs.Names.{Command, Reply, AnswersWithin, CallerView, HasSameNumbers, WasBusy, PieEvent, EventCall, Update}
 use Rattle.pie_event.specs.declared.command.Command.TheVariants as command
 use Rattle.pie_port.specs.Calls.{AtPort}
-use Rattle.pie_port.specs.Events.{refusal_number, answered_event, command_in, has_bad_ecn, numbered_event, packet_in, under}
+use Rattle.pie_port.specs.Events.{refusal_code, answered_event, command_in, has_bad_ecn, event_with_code, packet_in, under}
 
 -- ---- an event of a burst
 
@@ -23,11 +23,11 @@ command_by call e = command_unless (has_bad_ecn (call_of_event call e) e) (call_
 -- the event after a result, with the caller's number
 abbrev pub replied : EventCall → ℕ → PieEvent → Reply → PieEvent
 replied call caller e (Ok reply) = under caller (answered_event call e reply.answer)
-replied call caller e (Err why) = under caller (numbered_event call e (refusal_number why))
+replied call caller e (Err why) = under caller (event_with_code call e (refusal_code why))
 
 -- the event after a result, unless its ECN field is invalid
 abbrev pub event_answered_unless : Bool → EventCall → ℕ → PieEvent → Reply → PieEvent
-event_answered_unless true call caller e reply = under caller (numbered_event call e 111)
+event_answered_unless true call caller e reply = under caller (event_with_code call e 111)
 event_answered_unless false call caller e reply = replied call caller e reply
 
 abbrev pub event_answered : EventCall → ℕ → PieEvent → Reply → PieEvent
@@ -53,7 +53,7 @@ pub record IsAnswered (call : EventCall) (budget : Option ℕ) (continues : Repl
     (written : List PieEvent) (after : CallerView) : Type 0 where
   pub replies : List Reply
   pub answered : AnswersWithin budget continues before.lock before (map (command_by call) events) [] replies after
-  pub stays : StaysOne before after
+  pub stays : HasSameNumbers before after
   pub written_is : written ≡ events_answered call before.first events replies
   pub counted : count ≡ length replies
   pub done : code ≡ 0

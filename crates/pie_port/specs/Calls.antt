@@ -1,9 +1,9 @@
 -- Promises of the calls at a port. In contracts an open port is its caller.
 use Rattle.std.specs.Prelude.{ℕ, ◌≡◌, ◌≢◌, ◌==◌, ◌+◌, ◌⊎◌, ◌↔◌, Bool, true, false, Option, Some, None, Result, Ok, Err, if◌then◌else◌}
 use Rattle.pie_port.specs.Names.{first_pass, without_highest, highest_alone, IsBeside, IsBothOf, Answer, Command, SetParams, Refusal, number_of}
-use Rattle.pie_port.specs.Names.{Told, TriesToAnswer, CallerView, LinkView, StaysOne, Tried, Busy, Refused, PieEvent, PieOpening, RawParams}
+use Rattle.pie_port.specs.Names.{Told, TriesToAnswer, CallerView, LinkView, HasSameNumbers, Tried, Busy, Refused, PieEvent, PieOpening, RawParams}
 use Rattle.pie_port.specs.Names.{bare_event, opening_in, opening_refusal, are_in_range, EventCall}
-use Rattle.pie_port.specs.Events.{answer_number, code_of, refusal_number, command_in, filled, has_bad_ecn, numbered_event, under}
+use Rattle.pie_port.specs.Events.{answer_code, code_of, refusal_code, command_in, filled, has_bad_ecn, event_with_code, under}
 
 -- ---- opening
 
@@ -22,7 +22,7 @@ pub record IsOpened (KeepsHistory : LinkView → Type 0) (o : PieOpening) (calle
 
 -- ---- a call for one event
 
--- a call at a port: a closed port returns that code and changes nothing; for an open one `comes` relates its caller
+-- a call at a port: a closed port returns the code of a closed port, 122, and changes nothing; for an open one `comes` relates its caller
 -- before and after
 unfoldable pub AtPort : Option CallerView → ℕ → Option CallerView → Type 0 → (CallerView → CallerView → Type 0) → Type 0
 AtPort None code after stays comes = (code ≡ 122) × stays × (after ≡ None)
@@ -33,14 +33,14 @@ pub record IsTried (command : Command) (fills : Result (Told Answer) (Tried Refu
     (after : CallerView) : Type 0 where
   pub reply : Result (Told Answer) (Tried Refusal)
   pub tried : TriesToAnswer before.lock before command reply after
-  pub stays : StaysOne before after
+  pub stays : HasSameNumbers before after
   pub code_is : code ≡ code_of reply
   pub filled : written ≡ fills reply
 
 -- the event's call; an ECN field above 3 is refused before it
 abbrev pub IsTriedUnless : Bool → EventCall → CallerView → PieEvent → ℕ → PieEvent → CallerView → Type 0
 IsTriedUnless true call before e code written after =
-    (code ≡ 111) × (written ≡ under before.first (numbered_event call e 111)) × (after ≡ before)
+    (code ≡ 111) × (written ≡ under before.first (event_with_code call e 111)) × (after ≡ before)
 IsTriedUnless false call before e code written after = IsTried (command_in call e) (filled call before.first e) before code written after
 
 abbrev pub Tries : EventCall → Option CallerView → PieEvent → ℕ → PieEvent → Option CallerView → Type 0
@@ -51,9 +51,9 @@ Tries call port e code written after =
 
 -- the event after a call for new parameters with this result
 abbrev pub set_event : ℕ → PieEvent → Result (Told Answer) (Tried Refusal) → PieEvent
-set_event caller e (Ok reply) = under caller (bare_event 5 e (answer_number reply.answer))
+set_event caller e (Ok reply) = under caller (bare_event 5 e (answer_code reply.answer))
 set_event caller e (Err Busy) = e
-set_event caller e (Err (Refused why)) = under caller (bare_event 5 e (refusal_number why))
+set_event caller e (Err (Refused why)) = under caller (bare_event 5 e (refusal_code why))
 
 -- parameters out of their ranges are refused before the call
 abbrev pub IsSetUnless : Bool → RawParams → CallerView → PieEvent → ℕ → PieEvent → CallerView → Type 0

@@ -9,31 +9,31 @@ use Rattle.pie_event.specs.declared.refusal.Refusal.TheVariants.{Moment, Size, T
 
 -- ---- codes
 
--- the number of an answer
-abbrev pub answer_number : Answer → ℕ
-answer_number Enqueued = 0
-answer_number Marked = 1
-answer_number DroppedEarly = 2
-answer_number DroppedBytes = 3
-answer_number DroppedPackets = 4
-answer_number Empty = 5
-answer_number (Left packet) = 0
-answer_number (Updated delay prob burst) = 0
-answer_number Done = 0
+-- the code of an answer
+abbrev pub answer_code : Answer → ℕ
+answer_code Enqueued = 0
+answer_code Marked = 1
+answer_code DroppedEarly = 2
+answer_code DroppedBytes = 3
+answer_code DroppedPackets = 4
+answer_code Empty = 5
+answer_code (Left packet) = 0
+answer_code (Updated delay prob burst) = 0
+answer_code Done = 0
 
--- the number of a refusal: that of its record plus 100
-abbrev pub refusal_number : Refusal → ℕ
-refusal_number Moment = 101
-refusal_number Size = 102
-refusal_number (TooSoon due) = 103
-refusal_number Exhausted = 104
-refusal_number HistoryFull = 105
+-- the code of a refusal: the number in its record plus 100
+abbrev pub refusal_code : Refusal → ℕ
+refusal_code Moment = 101
+refusal_code Size = 102
+refusal_code (TooSoon due) = 103
+refusal_code Exhausted = 104
+refusal_code HistoryFull = 105
 
 -- the code of a call that may be busy
 abbrev pub code_of : Result (Told Answer) (Tried Refusal) → ℕ
-code_of (Ok reply) = answer_number reply.answer
+code_of (Ok reply) = answer_code reply.answer
 code_of (Err Busy) = 121
-code_of (Err (Refused why)) = refusal_number why
+code_of (Err (Refused why)) = refusal_code why
 
 -- ---- commands
 
@@ -55,19 +55,19 @@ has_bad_ecn _ e = false
 
 -- ---- fields that a call writes
 
--- the event with this number as its result: the packet of an arrival is unchanged, and fields that other calls do not
+-- the event with this code as its answer: the packet of an arrival is unchanged, and fields that other calls do not
 -- use are 0
-abbrev pub numbered_event : EventCall → PieEvent → ℕ → PieEvent
-numbered_event Arrive e number = arrived_event e number
-numbered_event Depart e number = bare_event 2 e number
-numbered_event Update e number = bare_event 3 e number
-numbered_event Reset e number = bare_event 4 e number
+abbrev pub event_with_code : EventCall → PieEvent → ℕ → PieEvent
+event_with_code Arrive e code = arrived_event e code
+event_with_code Depart e code = bare_event 2 e code
+event_with_code Update e code = bare_event 3 e code
+event_with_code Reset e code = bare_event 4 e code
 
 -- the event with an answer: a departure's packet, an update's numbers
 abbrev pub answered_event : EventCall → PieEvent → Answer → PieEvent
-answered_event call e (Left packet) = record (numbered_event call e 0) { tag = packet.tag; size = packet.size; ecn = bits_of packet.ecn }
-answered_event call e (Updated delay prob burst) = record (numbered_event call e 0) { delay = delay; prob = prob; burst = burst }
-answered_event call e answer = numbered_event call e (answer_number answer)
+answered_event call e (Left packet) = record (event_with_code call e 0) { tag = packet.tag; size = packet.size; ecn = bits_of packet.ecn }
+answered_event call e (Updated delay prob burst) = record (event_with_code call e 0) { delay = delay; prob = prob; burst = burst }
+answered_event call e answer = event_with_code call e (answer_code answer)
 
 -- the event with the caller's number
 abbrev pub under : ℕ → PieEvent → PieEvent
@@ -77,4 +77,4 @@ under caller e = record e { caller = caller }
 abbrev pub filled : EventCall → ℕ → PieEvent → Result (Told Answer) (Tried Refusal) → PieEvent
 filled call caller e (Ok reply) = under caller (answered_event call e reply.answer)
 filled call caller e (Err Busy) = e
-filled call caller e (Err (Refused why)) = under caller (numbered_event call e (refusal_number why))
+filled call caller e (Err (Refused why)) = under caller (event_with_code call e (refusal_code why))

@@ -1,7 +1,7 @@
 -- Promises of the calls for an excerpt: the end of the history with its preamble, in memory that was taken beforehand,
 -- and its text.
 use Rattle.std.specs.Prelude.{ℕ, ◌≡◌, ◌==◌, ◌+◌, List, [], Option, Some, None, Result, Ok, Err, slice_get, true, if◌then◌else◌}
-use Rattle.pie_port.specs.Names.{option_map_or, Ends, ExcerptView, has_room, text_of, CallerView, StaysOne, Tried, Busy, Refused, Opening}
+use Rattle.pie_port.specs.Names.{option_map_or, Ends, ExcerptView, has_room, text_of, CallerView, HasSameNumbers, Tried, Busy, Refused, Opening}
 use Rattle.pie_port.specs.Names.{PieOpening, opening_refusal, after_writing, count_written, ExcerptText}
 use Rattle.pie_event.specs.declared.refusal.TooSmall.{TooSmall}
 use Rattle.pie_excerpt.specs.Written.{excerpt_rows}
@@ -44,11 +44,11 @@ written_after (Err why) written = written
 pub record IsFilledAt (before : CallerView) (text : ExcerptText) (code : ℕ) (after : CallerView) (filled : ExcerptText) : Type 0 where
   pub reply : Result (Unit {0}) (Tried TooSmall)
   pub tried : TriesToFillExcerpt before.lock before reply text.excerpt filled.excerpt after
-  pub stays : StaysOne before after
+  pub stays : HasSameNumbers before after
   pub code_is : code ≡ excerpt_code reply
   pub written : filled.written ≡ written_after reply text.written
 
--- if one of the two is closed, the call returns that code, and both are unchanged
+-- if one of the two is closed, the call returns 122, and both are unchanged
 abbrev pub TriesToFill : Option CallerView → Option ExcerptText → ℕ → Option CallerView → Option ExcerptText → Type 0
 TriesToFill None text code after filled = (code ≡ 122) × (after ≡ None) × (filled ≡ text)
 TriesToFill (Some before) None code after filled = (code ≡ 122) × (after ≡ Some before) × (filled ≡ None)

@@ -1,11 +1,11 @@
 -- Promises of a fold at a port, and the form of an event of the history in a caller's struct.
 use Rattle.std.specs.Prelude.{ℕ, ◌≡◌, List, [], ◌∷◌, ◌++◌, Option, Result, Ok, Err, drop, length, map, min}
-use Rattle.pie_port.specs.Names.{bits_of, Answer, Command, SetParams, Event, Refusal, TriesToFoldInto, CallerView, StaysOne, Tried, PieEvent}
+use Rattle.pie_port.specs.Names.{bits_of, Answer, Command, SetParams, Event, Refusal, TriesToFoldInto, CallerView, HasSameNumbers, Tried, PieEvent}
 use Rattle.pie_port.specs.Names.{RawParams, Told, arrived_event, bare_event}
 use Rattle.pie_event.specs.declared.command.Command.TheVariants.{Arrive, Depart, Update, Reset}
 use Rattle.pie_port.specs.declared.event_results.EventCall.TheVariants as call
 use Rattle.pie_port.specs.Calls.{AtPort}
-use Rattle.pie_port.specs.Events.{answer_number, answered_event}
+use Rattle.pie_port.specs.Events.{answer_code, answered_event}
 
 -- ---- an event in a struct
 
@@ -29,11 +29,11 @@ blank moment caller = record {
 -- an event of this command and answer
 abbrev pub struct_with : ℕ → Answer → Command → PieEvent
 struct_with caller a (Arrive moment packet word) =
-    arrived_event (record (blank moment caller) { tag = packet.tag; word = word; size = packet.size; ecn = bits_of packet.ecn }) (answer_number a)
+    arrived_event (record (blank moment caller) { tag = packet.tag; word = word; size = packet.size; ecn = bits_of packet.ecn }) (answer_code a)
 struct_with caller a (Depart moment) = answered_event call.Depart (blank moment caller) a
 struct_with caller a (Update moment) = answered_event call.Update (blank moment caller) a
-struct_with caller a (Reset moment) = bare_event 4 (blank moment caller) (answer_number a)
-struct_with caller a (SetParams moment params) = bare_event 5 (blank moment caller) (answer_number a)
+struct_with caller a (Reset moment) = bare_event 4 (blank moment caller) (answer_code a)
+struct_with caller a (SetParams moment params) = bare_event 5 (blank moment caller) (answer_code a)
 
 abbrev pub struct_of : Event → PieEvent
 struct_of event = struct_with event.caller event.answer event.command
@@ -71,7 +71,7 @@ pub record IsFolded (before : CallerView) (structs : List PieEvent) (l : ℕ) (p
   pub reply : Result (Told ℕ) (Tried Refusal)
   pub events : List Event
   pub tried : TriesToFoldInto before.lock before (min (length structs) 64) reply [] events after
-  pub stays : StaysOne before after
+  pub stays : HasSameNumbers before after
   pub code_is : code ≡ fold_code reply events
   pub count : folded ≡ length events
   pub number : last ≡ last_after l reply

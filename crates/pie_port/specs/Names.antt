@@ -26,7 +26,7 @@ unfoldable pub use Rattle.pie_link.specs.CallerBursts.{AnswersWithin}
 unfoldable pub use Rattle.pie_link.specs.Commands.{TriesToAnswer}
 unfoldable pub use Rattle.pie_link.specs.CallerFolds.{TriesToFoldInto}
 unfoldable pub use Rattle.pie_link.specs.Headline.{KeepsOneHistory}
-pub use Rattle.pie_link.specs.Views.{CallerView, LinkView, StaysOne, WasBusy}
+pub use Rattle.pie_link.specs.Views.{CallerView, LinkView, HasSameNumbers, WasBusy}
 pub use Rattle.pie_link.specs.declared.call_result.Tried.{Tried}
 pub use Rattle.pie_link.specs.declared.call_result.Tried.TheVariants.{Busy, Refused}
 pub use Rattle.pie_port.specs.declared.excerpt.ExcerptText.{ExcerptText}

@@ -1,6 +1,6 @@
 -- Promises of a reading at a port, and the form of registers and statistics in a caller's struct.
 use Rattle.std.specs.Prelude.{ℕ, ◌≡◌, ◌+◌, ◌-◌, ◌^◌, Bool, true, false, List, Option, Result, Ok, Err, min}
-use Rattle.pie_port.specs.Names.{Event, Opening, Refusal, Told, CallerView, StaysOne, Tried}
+use Rattle.pie_port.specs.Names.{Event, Opening, Refusal, Told, CallerView, HasSameNumbers, Tried}
 use Rattle.pie_event.specs.declared.registers.Registers.{Registers}
 use Rattle.pie_event.specs.declared.stats.Stats.{Stats}
 use Rattle.pie_link.specs.CallerReadings.{TriesToRead}
@@ -54,7 +54,7 @@ module _ {A B : Type 0} (value_after : Opening → List Event → A) (struct_of 
   pub record IsReadInto (before : CallerView) (held : B) (code : ℕ) (written : B) (after : CallerView) : Type 0 where
     pub reply : Result (Told A) (Tried Refusal)
     pub tried : TriesToRead value_after before.lock before reply after
-    pub stays : StaysOne before after
+    pub stays : HasSameNumbers before after
     pub code_is : code ≡ read_code reply
     pub filled : written ≡ read_into struct_of held reply
 

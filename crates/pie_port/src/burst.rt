@@ -167,7 +167,7 @@ impl<K: BurstKind> Burst for PortBurst<'_, K> {
 
     ghost continues = { λ b. K.continues };
 
-    ghost shows = { λ first b replies. (b.events.ghost_name ≡ first.events.ghost_name)
+    ghost received = { λ first b replies. (b.events.ghost_name ≡ first.events.ghost_name)
         × Took K.call first.caller b.caller first.events.now b.events.now b.done replies };
 
     ghost room = { λ b. b.events.ghost_name };
@@ -271,11 +271,11 @@ fn try_all<K: BurstKind>(
 ) -> (u32, usize)
     ensures { TriesAll K.call budget K.continues port.old.port events.old result.1 result.0 events.new port.new.port }
 {
-    let Some(mut held) = port.take(alloc) else {
+    let Some(mut port_box) = port.take_box(alloc) else {
         return (CLOSED, 0);
     };
-    let tried = held.try_all::<K>(budget, events);
-    port.put(held);
+    let tried = port_box.try_all::<K>(budget, events);
+    port.put_box(port_box);
     tried
 }
 

@@ -14,11 +14,11 @@ use std::alloc::Global;
 pub fn try_event(alloc: Global, port: &mut PiePort, call: EventCall, event: &mut PieEvent) -> u32
     ensures { Tries call port.old.port event.old result event.new port.new.port }
 {
-    let Some(mut held) = port.take(alloc) else {
+    let Some(mut port_box) = port.take_box(alloc) else {
         return CLOSED;
     };
-    let code = held.try_event(call, event);
-    port.put(held);
+    let code = port_box.try_event(call, event);
+    port.put_box(port_box);
     code
 }
 
@@ -33,10 +33,10 @@ pub fn try_set_params(
 ) -> u32
     ensures { TriesToSet params.now port.old.port event.old result event.new port.new.port }
 {
-    let Some(mut held) = port.take(alloc) else {
+    let Some(mut port_box) = port.take_box(alloc) else {
         return CLOSED;
     };
-    let code = held.try_set_params(params, event);
-    port.put(held);
+    let code = port_box.try_set_params(params, event);
+    port.put_box(port_box);
     code
 }

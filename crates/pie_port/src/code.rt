@@ -1,6 +1,6 @@
 //! Codes of the calls at a port, beside those of pie_abi.
 ghost use Rattle.std.specs.Prelude.{◌≡◌};
-ghost use Rattle.pie_port.specs.{answer_number, code_of, refusal_number};
+ghost use Rattle.pie_port.specs.{answer_code, code_of, refusal_code};
 
 use pie_abi::code::{
     BAD_MOMENT, BAD_SIZE, DONE, EARLY, MARK, NONE, OVER_BYTES, OVER_PACKETS, TOO_SOON,
@@ -44,7 +44,7 @@ pub(crate) const TOO_SMALL: u32 = 129;
 /// Returns the number of an answer.
 #[inline(always)]
 pub(crate) fn code_of_answer(answer: &Answer) -> u32
-    ensures { result ≡ answer_number answer.now }
+    ensures { result ≡ answer_code answer.now }
 {
     match answer {
         Answer::Enqueued | Answer::Left(_) | Answer::Updated { .. } | Answer::Done => DONE,
@@ -58,7 +58,7 @@ pub(crate) fn code_of_answer(answer: &Answer) -> u32
 
 /// Returns the number of a refusal.
 pub(crate) fn code_of_refusal(why: &Refusal) -> u32
-    ensures { result ≡ refusal_number why.now }
+    ensures { result ≡ refusal_code why.now }
 {
     match why {
         Refusal::Moment => BAD_MOMENT,

@@ -1,6 +1,6 @@
 //! The calls for one event, and the fields that they write.
 ghost use Rattle.std.specs.Prelude.{◌≡◌};
-ghost use Rattle.pie_port.specs.{set_event, code_of, answered_event, numbered_event, under};
+ghost use Rattle.pie_port.specs.{set_event, code_of, answered_event, event_with_code, under};
 ghost use Rattle.pie_port.specs.Events.{filled};
 
 use crate::code::{BUSY, code_of_answer, code_of_refusal, code_of_reply};
@@ -22,16 +22,16 @@ pub enum EventCall {
     Reset,
 }
 
-/// Writes the number `number`, and 0 to the numbers that the call does not use.
+/// Writes `code` as the answer, and 0 to the fields that the call does not use.
 #[inline(always)]
-pub(crate) fn fill_code(event: &mut PieEvent, call: EventCall, number: u32)
-    ensures { event.new ≡ numbered_event call event.old number }
+pub(crate) fn fill_code(event: &mut PieEvent, call: EventCall, code: u32)
+    ensures { event.new ≡ event_with_code call event.old code }
 {
     match call {
-        EventCall::Arrive => event.fill_arrival(number),
-        EventCall::Depart => event.fill_other(DEPART, number),
-        EventCall::Update => event.fill_other(UPDATE, number),
-        EventCall::Reset => event.fill_other(RESET, number),
+        EventCall::Arrive => event.fill_arrival(code),
+        EventCall::Depart => event.fill_other(DEPART, code),
+        EventCall::Update => event.fill_other(UPDATE, code),
+        EventCall::Reset => event.fill_other(RESET, code),
     }
 }
 
@@ -40,8 +40,7 @@ pub(crate) fn fill_code(event: &mut PieEvent, call: EventCall, number: u32)
 pub(crate) fn fill_answer(event: &mut PieEvent, call: EventCall, answer: &Answer)
     ensures { event.new ≡ answered_event call event.old answer.now }
 {
-    let number = code_of_answer(answer);
-    fill_code(event, call, number);
+    fill_code(event, call, code_of_answer(answer));
     match answer {
         Answer::Left(packet) => {
             event.tag = packet.tag;
@@ -77,10 +76,10 @@ pub(crate) fn fill(
         }
         Err(Tried::Busy) => BUSY,
         Err(Tried::Refused(why)) => {
-            let number = code_of_refusal(why);
-            fill_code(event, call, number);
+            let code = code_of_refusal(why);
+            fill_code(event, call, code);
             event.caller = caller;
-            number
+            code
         }
     }
 }
@@ -94,10 +93,10 @@ pub(crate) fn fill_set(
     ensures code { result ≡ code_of reply.now }
     ensures event { event.new ≡ set_event caller event.old reply.now }
 {
-    let number = code_of_reply(reply);
+    let code = code_of_reply(reply);
     if !matches!(reply, Err(Tried::Busy)) {
-        event.fill_other(PARAMS, number);
+        event.fill_other(PARAMS, code);
         event.caller = caller;
     }
-    number
+    code
 }

@@ -86,7 +86,7 @@ impl PiePort {
 
     /// Takes the box out of an open port, which is closed then; otherwise returns `None`.
     #[inline(always)]
-    pub(crate) fn take(&mut self, alloc: Global) -> Option<Box<Port>>
+    pub(crate) fn take_box(&mut self, alloc: Global) -> Option<Box<Port>>
         ensures before { MatchOption result (self.old.port ≡ None) (λ b. self.old.port ≡ Some b.value) }
         ensures after { self.new.port ≡ None }
     {
@@ -96,14 +96,14 @@ impl PiePort {
         }
     }
 
-    /// Opens the port with `held`.
+    /// Opens the port with `port_box`.
     #[inline(always)]
-    pub(crate) fn put(&mut self, held: Box<Port>)
-        ensures { self.new.port ≡ Some held.value }
+    pub(crate) fn put_box(&mut self, port_box: Box<Port>)
+        ensures { self.new.port ≡ Some port_box.value }
     {
         if let Some(pointer) = replace(
             self,
-            PiePort::of_pointer(BoxPointer::of(held)),
+            PiePort::of_pointer(BoxPointer::of(port_box)),
         ).into_pointer()
         {
             drop(pointer.into_box());
@@ -158,7 +158,7 @@ impl PieExcerpt {
     }
 
     /// Takes the box out of an open excerpt, which is closed then; otherwise returns `None`.
-    pub(crate) fn take(&mut self, alloc: Global) -> Option<Box<ExcerptText>>
+    pub(crate) fn take_box(&mut self, alloc: Global) -> Option<Box<ExcerptText>>
         ensures before { MatchOption result (self.old.text ≡ None) (λ b. self.old.text ≡ Some b.value) }
         ensures after { self.new.text ≡ None }
     {
@@ -168,13 +168,13 @@ impl PieExcerpt {
         }
     }
 
-    /// Opens the excerpt with `held`.
-    pub(crate) fn put(&mut self, held: Box<ExcerptText>)
-        ensures { self.new.text ≡ Some held.value }
+    /// Opens the excerpt with `text_box`.
+    pub(crate) fn put_box(&mut self, text_box: Box<ExcerptText>)
+        ensures { self.new.text ≡ Some text_box.value }
     {
         if let Some(pointer) = replace(
             self,
-            PieExcerpt::of_pointer(BoxPointer::of(held)),
+            PieExcerpt::of_pointer(BoxPointer::of(text_box)),
         ).into_pointer()
         {
             drop(pointer.into_box());

@@ -11,7 +11,7 @@ use pie_abi::code::DONE;
 use pie_abi::opening::checked;
 use pie_event::Opening;
 use pie_link::{Entry, KeptBook};
-use pie_lock::{LockOpening, LockRule, Place};
+use pie_lock::{LockOpening, LockRule, SeatKnowledge};
 use std::alloc::Global;
 
 /// Opens a link, and the closed port `port` with all its numbers.
@@ -21,15 +21,15 @@ pub fn open(alloc: Global, opening: &PieOpening, callers: u16, port: &mut PiePor
     ensures kept { result ≢ 0 → port.new.port ≡ port.old.port }
     ensures done { open_refusal port.old.port opening.now callers ≡ 0 → result ≢ 123 → result ≡ 0 }
     ensures opened { result ≡ 0 → IsOpened (KeepsOneHistory
-        ⟦<LockRule as TableRule<Option<KeptBook>, Place<Entry, Opening>, LockOpening<KeptBook>>>⟧.holds) opening.now callers port.new.port }
+        ⟦<LockRule as TableRule<Option<KeptBook>, SeatKnowledge<Entry, Opening>, LockOpening<KeptBook>>>⟧.holds) opening.now callers port.new.port }
 {
-    if let Some(held) = port.take(alloc) {
-        port.put(held);
+    if let Some(port_box) = port.take_box(alloc) {
+        port.put_box(port_box);
         return OPEN;
     }
     match opened(alloc, opening, callers) {
-        Ok(held) => {
-            port.put(held);
+        Ok(port_box) => {
+            port.put_box(port_box);
             DONE
         }
         Err(code) => code,
@@ -42,8 +42,8 @@ fn opened(alloc: Global, opening: &PieOpening, callers: u16) -> Result<Box<Port>
     ensures memory { IfErr result (λ code. open_refusal None opening.now callers ≡ 0 → code ≡ 123) }
     ensures none { IfErr result (λ code. code ≢ 0) }
     ensures allowed { OnOk result (open_refusal None opening.now callers ≡ 0) }
-    ensures opened { IfOk result (λ held. IsOpened (KeepsOneHistory
-        ⟦<LockRule as TableRule<Option<KeptBook>, Place<Entry, Opening>, LockOpening<KeptBook>>>⟧.holds) opening.now callers (Some held.value)) }
+    ensures opened { IfOk result (λ port_box. IsOpened (KeepsOneHistory
+        ⟦<LockRule as TableRule<Option<KeptBook>, SeatKnowledge<Entry, Opening>, LockOpening<KeptBook>>>⟧.holds) opening.now callers (Some port_box.value)) }
 {
     let opening = match checked(opening) {
         Ok(opening) => opening,

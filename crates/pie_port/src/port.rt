@@ -15,7 +15,7 @@ use pie_abi::packet::ecn;
 use pie_book::Recorded;
 use pie_event::{Answer, Opening, Refusal};
 use pie_link::{Caller, Entry, KeptBook, Link, Told, Tried};
-use pie_lock::{LockOpening, LockRule, Place};
+use pie_lock::{LockOpening, LockRule, SeatKnowledge};
 use pie_params::{Params, RawParams};
 use pie_queue::Packet;
 use std::alloc::{AllocFailed, Global};
@@ -44,7 +44,7 @@ impl Model for Port {
 
 impl Port {
     ghost use Rattle.pie_port.specs.{first_pass, without_highest, highest_alone, IsBeside, IsBothOf, number_of, are_in_range, TriesToAnswer};
-    ghost use Rattle.pie_port.specs.{KeepsOneHistory, StaysOne, IsSetUnless, IsTriedUnless, IsFolded, command_in, has_bad_ecn};
+    ghost use Rattle.pie_port.specs.{KeepsOneHistory, HasSameNumbers, IsSetUnless, IsTriedUnless, IsFolded, command_in, has_bad_ecn};
 
     /// Returns the boxed port with all numbers of a new link, or `None` if there is no memory or `callers` is 0.
     pub(crate) fn of_opening(alloc: Global, opening: Opening, callers: u16) -> Option<Box<Port>>
@@ -52,7 +52,7 @@ impl Port {
         ensures numbers { IfSome result (λ port. port.value.lock.numbers ≡ callers) }
         ensures first { IfSome result (λ port. port.value ≡ first_pass port.value.lock callers) }
         ensures headline { IfSome result (λ port. KeepsOneHistory
-            ⟦<LockRule as TableRule<Option<KeptBook>, Place<Entry, Opening>, LockOpening<KeptBook>>>⟧.holds port.value.lock) }
+            ⟦<LockRule as TableRule<Option<KeptBook>, SeatKnowledge<Entry, Opening>, LockOpening<KeptBook>>>⟧.holds port.value.lock) }
     {
         let Some(folded) = room(alloc) else {
             return None;
@@ -90,7 +90,7 @@ impl Port {
     fn apply(&mut self, call: EventCall, event: &PieEvent) -> Result<Told<Answer>, Tried<Refusal>>
         requires ecn { has_bad_ecn call event.now ≡ false }
         ensures tried { TriesToAnswer self.old.lock self.old (command_in call event.now) result self.new }
-        ensures stays { StaysOne self.old self.new }
+        ensures stays { HasSameNumbers self.old self.new }
     {
         match call {
             EventCall::Arrive => {

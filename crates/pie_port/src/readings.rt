@@ -121,11 +121,11 @@ impl Port {
 pub fn try_registers(alloc: Global, port: &mut PiePort, registers: &mut PieRegisters) -> u32
     ensures { TriesToReadInto registers_after registers_of port.old.port registers.old result registers.new port.new.port }
 {
-    let Some(mut held) = port.take(alloc) else {
+    let Some(mut port_box) = port.take_box(alloc) else {
         return CLOSED;
     };
-    let code = held.try_registers(registers);
-    port.put(held);
+    let code = port_box.try_registers(registers);
+    port.put_box(port_box);
     code
 }
 
@@ -135,10 +135,10 @@ pub fn try_registers(alloc: Global, port: &mut PiePort, registers: &mut PieRegis
 pub fn try_stats(alloc: Global, port: &mut PiePort, totals: &mut PieTotals) -> u32
     ensures { TriesToReadInto stats_after totals_of port.old.port totals.old result totals.new port.new.port }
 {
-    let Some(mut held) = port.take(alloc) else {
+    let Some(mut port_box) = port.take_box(alloc) else {
         return CLOSED;
     };
-    let code = held.try_stats(totals);
-    port.put(held);
+    let code = port_box.try_stats(totals);
+    port.put_box(port_box);
     code
 }

@@ -12,19 +12,19 @@ use std::alloc::Global;
 pub fn share(alloc: Global, port: &mut PiePort, new: &mut PiePort) -> u32
     ensures { Shares port.old.port new.old.port result port.new.port new.new.port }
 {
-    let Some(mut held) = port.take(alloc) else {
+    let Some(mut port_box) = port.take_box(alloc) else {
         return CLOSED;
     };
-    if let Some(other) = new.take(alloc) {
-        new.put(other);
-        port.put(held);
+    if let Some(other) = new.take_box(alloc) {
+        new.put_box(other);
+        port.put_box(port_box);
         return OPEN;
     }
-    let shared = held.share(alloc);
-    port.put(held);
+    let shared = port_box.share(alloc);
+    port.put_box(port_box);
     match shared {
         Ok(other) => {
-            new.put(other);
+            new.put_box(other);
             DONE
         }
         Err(code) => code,
@@ -37,19 +37,19 @@ pub fn gather(alloc: Global, port: &mut PiePort, other: &mut PiePort) -> u32
     requires own { AreOfOneLink port.old.port other.old.port }
     ensures { Gathers port.old.port other.old.port result port.new.port other.new.port }
 {
-    let Some(mut held) = port.take(alloc) else {
+    let Some(mut port_box) = port.take_box(alloc) else {
         return CLOSED;
     };
-    let Some(given) = other.take(alloc) else {
-        port.put(held);
+    let Some(given) = other.take_box(alloc) else {
+        port.put_box(port_box);
         return CLOSED;
     };
-    let gathered = held.gather(given);
-    port.put(held);
+    let gathered = port_box.gather(given);
+    port.put_box(port_box);
     match gathered {
         Ok(()) => DONE,
         Err(back) => {
-            other.put(back);
+            other.put_box(back);
             APART
         }
     }
@@ -61,9 +61,9 @@ pub fn close(alloc: Global, port: &mut PiePort) -> u32
     ensures answer { result ≡ close_code port.old.port }
     ensures closed { port.new.port ≡ None }
 {
-    match port.take(alloc) {
-        Some(held) => {
-            drop(held);
+    match port.take_box(alloc) {
+        Some(port_box) => {
+            drop(port_box);
             DONE
         }
         None => CLOSED,

@@ -92,7 +92,7 @@ impl ByteQueue {
         ensures copied { OnTrue result (self.new ≡ record self.old { waiting = other.now.waiting }) }
         ensures kept { OnFalse result (self.new ≡ self.old) }
     {
-        if self.packets() < other.len() {
+        if self.capacity() < other.len() {
             return false;
         }
         let (oldest, newest) = other.ring.as_slices();
@@ -128,7 +128,7 @@ impl ByteQueue {
     }
 
     /// Returns the greatest number of packets that the ring holds, 1 to `2^20`.
-    pub fn packets(&self) -> usize
+    pub fn capacity(&self) -> usize
         ensures { result ≡ self.now.packets }
     {
         self.ring.capacity()

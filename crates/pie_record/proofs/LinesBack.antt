@@ -24,7 +24,7 @@ use Rattle.pie_record.specs.declared.command.CommandFields.TheVariants as fields
 use Rattle.pie_record.specs.declared.fault.RecordFault.TheVariants as flaw
 use Rattle.pie_record.specs.declared.history_record.Line.TheVariants as line
 use Rattle.pie_record.specs.declared.trace_record.Request.TheVariants as request
-use Rattle.pie_record.specs.declared.words.AnswerWord.TheVariants as said
+use Rattle.pie_record.specs.declared.words.AnswerKeyword.TheVariants as said
 use Rattle.pie_record.specs.declared.command.CommandKind.TheVariants as kind
 
 -- ---- the command that was read

@@ -19,7 +19,7 @@ unfoldable pub use Rattle.csv.specs.Records.{field_at}
 pub use Rattle.csv.specs.Writing.{default_writer, needs_quotes, read_back, row_text, with_flexible}
 unfoldable pub use Rattle.csv.specs.Writing.{escaped, fields_text, is_blank}
 pub use Rattle.csv.specs.declared.{parser.State.State, reader.Reader.Reader}
-pub use Rattle.pie_event.specs.Deed.{fits}
+pub use Rattle.pie_event.specs.Effect.{fits}
 pub use Rattle.pie_event.specs.Opening.{are_of_version_two, opening_refusal}
 pub use Rattle.pie_event.specs.Ranges.{AnswerFits, CommandFits, PacketFits, ParamsFit, RegistersFit, StatsFit}
 pub use Rattle.pie_event.specs.declared.{command.Answer.Answer, command.Command.Command, command.Event.Event, opening.Choices.Choices}

@@ -51,7 +51,7 @@ fn read_behind<R: Read>(reader: &mut R, bytes: &mut [u8], kept: usize) -> io::Re
 }
 
 // Makes room for one read.
-fn write_if_full(bytes: &mut Vec<u8>) -> Result<(), ReadFailure>
+fn allocate_if_empty(bytes: &mut Vec<u8>) -> Result<(), ReadFailure>
     ensures long { length bytes.old.items ≤ length bytes.new.items }
     ensures same { 0 < length bytes.old.items → bytes.new.items ≡ bytes.old.items }
 {
@@ -84,7 +84,7 @@ impl<R: Read> Input<R> {
         ensures keeps { OnOk result (Keeps self.old self.new) }
         ensures end { IfOk result (λ found. found ≡ Found.Nothing → IsAtEnd self.new) }
     {
-        match write_if_full(&mut self.bytes) {
+        match allocate_if_empty(&mut self.bytes) {
             Ok(()) => {}
             Err(why) => return Err(why),
         }

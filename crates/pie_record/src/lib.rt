@@ -7,7 +7,7 @@
 //!
 //! `Records` reads one record after another from any reader, and `HistoryLines` the opening and the lines of a history. `Rows` writes records that
 //! were read, and the text of other records, to any writer, many at a time. Both use memory for one record and one page. A reader never returns
-//! `Write`, and a writer never `Read` (clauses `input` and `device`).
+//! `Write`, and a writer never `Read` (clauses `input` and `io`).
 //!
 //! Crates above use these definitions through laws: `answers_are_read_back`, `requests_are_written_again`, `texts_are_read_back`,
 //! `openings_are_checked`.

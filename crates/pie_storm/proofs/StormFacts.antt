@@ -22,7 +22,7 @@ use Rattle.std.proofs.lemmas.List.FromFn.{get_or-map-range_with_len, length-map-
 use Rattle.std.specs.Prelude.{OnOk}
 use Rattle.std.specs.Io.KnownBytes.{Appends}
 use Rattle.pie_aqm.specs.Places.{Place, after, places}
-use Rattle.pie_event.specs.Deed.{fits}
+use Rattle.pie_event.specs.Effect.{fits}
 use Rattle.pie_event.specs.Opening.{opening_refusal}
 use Rattle.pie_record.specs.ReadBack.{IsHistoryText}
 use Rattle.pie_record.specs.Text.{Row, records_of, rows_text}

@@ -7,7 +7,7 @@ use Rattle.pie_event.specs.declared.command.Command.TheVariants.{Depart, Update,
 use Rattle.pie_event.specs.declared.opening.Mode.TheVariants.{Bounded}
 use Rattle.pie_event.specs.declared.opening.Opening.{Opening}
 use Rattle.pie_event.specs.Opening.{last_moment}
-use Rattle.pie_event.specs.Deed.{caller_moment}
+use Rattle.pie_event.specs.Effect.{caller_moment}
 use Rattle.pie_book.specs.Decision.{has_bad_size}
 use Rattle.pie_link.specs.declared.arrival.Arrival.{Arrival}
 use Rattle.pie_link.specs.Bursts.{arrive}

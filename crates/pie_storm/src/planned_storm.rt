@@ -6,7 +6,7 @@ ghost use Rattle.pie_audit.specs.Auditor.{Audits};
 ghost use Rattle.pie_storm.specs.Plans.{opening_of};
 ghost use Rattle.pie_book.specs.Registers.{registers_after};
 ghost use Rattle.pie_book.specs.Statistics.{stats_after};
-ghost use Rattle.pie_record.specs.Fault.{IsWrite};
+ghost use Rattle.pie_record.specs.Fault.{IsWriteOrMemory};
 ghost use Rattle.pie_storm.specs.Storms.{CanStop, HasFault, IsEndOf, IsStorm};
 ghost use Rattle.pie_storm.specs.StormHistory.{WritesHistory};
 ghost use Rattle.pie_storm.specs.StormPlan.{HasStormRange, IsStormPlan};
@@ -102,7 +102,7 @@ pub fn write_storm<W: Write>(
     requires legal { IsLegal (opening_of plan.now) events.now }
     requires limits { plan.now.limits.events ≡ plan.now.limits.tail }
     ensures written { OnOk result (WritesHistory plan.now events.now (W.contents output.old) (W.contents output.new)) }
-    ensures device { IfErr result IsWrite }
+    ensures io { IfErr result IsWriteOrMemory }
 {
     all_numbers_fit();
     events_are_lines();

@@ -1,7 +1,7 @@
 //! The workers of a storm: each makes the calls of one caller, one after another.
 ghost use Rattle.std.specs.Prelude.{◌≡◌, ◌+◌, ◌<◌, ◌≤◌, ◌-◌, [], false, Some, IfSome, length};
 ghost use Rattle.pie_link.specs.Commands.{Answers};
-ghost use Rattle.pie_link.specs.Views.{StaysOne};
+ghost use Rattle.pie_link.specs.Views.{HasSameNumbers};
 ghost use Rattle.pie_storm.specs.Plans.{calls_of, senders, turn_of};
 ghost use Rattle.pie_storm.specs.Storms.{AddedByAll, Begins, IsAt, IsFor, IsWell, IsWorkOf, TakenIn, TakesTurn, added_by};
 
@@ -88,7 +88,7 @@ fn apply<R: Wait>(
 ) -> Result<Told<Answer>, Refusal>
     requires own { caller.old.lock ≡ link.now }
     ensures answered { Answers link.now caller.old command.now result caller.new }
-    ensures stays { StaysOne caller.old caller.new }
+    ensures stays { HasSameNumbers caller.old caller.new }
 {
     match *command {
         Command::Arrive {

@@ -4,7 +4,7 @@ pub use Rattle.std.specs.Prelude.{All, Bool, Err, IfErr, IfOk, IfSome, List, Non
 pub use Rattle.std.specs.Prelude.{if◌then◌else◌, length, map, nat_lt, not, true, ℕ, ◌&&◌, ◌*◌, ◌++◌, ◌+◌, ◌<◌, ◌^◌, ◌∷◌, ◌≡◌, ◌≢◌, ◌≤◌}
 pub use Rattle.csv.specs.Writing.{field_text, needs_byte, needs_quotes}
 unfoldable pub use Rattle.csv.specs.Writing.{fields_text, is_blank}
-pub use Rattle.pie_event.specs.Deed.{fits}
+pub use Rattle.pie_event.specs.Effect.{fits}
 pub use Rattle.pie_event.specs.Opening.{opening_refusal}
 pub use Rattle.pie_event.specs.Ranges.{AnswerFits, CommandFits, PacketFits, ParamsFit}
 pub use Rattle.pie_event.specs.Verdict.{answer_of}

@@ -12,10 +12,10 @@ pub use Rattle.pie_record.specs.{ReadBack.TextsAreReadBack, Text.TakesRow, Text.
 pub use Rattle.pie_text.proofs.{LostFacts.lost-later, WriteFacts.contents-read}
 pub use Rattle.pie_trace.specs.{Answer, Appends, Apply, BadParams, Begins, BookRepresents, BookView, Bounded, Clean, Clock, CoreView, Err, Event}
 pub use Rattle.pie_trace.specs.{FirstKind, RecordFault, Fold, FoldRefusal, HasField, HasOutcome, HaveSameLines, IfErr, IfOk, IfSome, IsAt, IsHistoryText}
-pub use Rattle.pie_trace.specs.{IsProgressOf, IsWrite, Line, NoDeviceFailed, None, Ok, OnOk, One, Opening, Option, Progress, Promises, Refusal}
+pub use Rattle.pie_trace.specs.{IsProgressOf, IsWriteOrMemory, Line, NoIoOrMemoryFailed, None, Ok, OnOk, One, Opening, Option, Progress, Promises, Refusal}
 pub use Rattle.pie_trace.specs.{Registers, RemainingLines, Replies, Represents, Request, Result, Rolling, Row, Show, Some, Stats, Tally, Three}
 pub use Rattle.pie_trace.specs.{TraceFault, Two, Version, after, append_known, apply_in, beginning_of_preamble, after_flush, code_of, core_after, end_at}
-pub use Rattle.pie_trace.specs.{end_left, events_in, fault_at, fold_outcome, fold_reply, history_row, is_device, is_kind, later_records_pass}
+pub use Rattle.pie_trace.specs.{end_left, events_in, fault_at, fold_outcome, fold_reply, history_row, is_io_or_memory, is_kind, later_records_pass}
 pub use Rattle.pie_trace.specs.{later_rows, line_in, line_of_reply, lines_left, migrated_text, migrated_version, migration_pass, opening_refusal}
 pub use Rattle.pie_trace.specs.{outcome, progress_at_end, queued_row, records_of, refused, refused_count, registers_of, reply, reply_to_command}
 pub use Rattle.pie_trace.specs.{reply_to_fold, request_in, resumed_progress, resumed_within, rows_left, rows_without_fault, run_by, runs_on, start}

@@ -7,8 +7,8 @@ pub use Rattle.pie_event.specs.declared.{command.Answer.Answer, command.Event.Ev
 pub use Rattle.pie_event.specs.declared.{refusal.Refusal.Refusal, registers.Registers.Registers, stats.Stats.Stats}
 pub use Rattle.pie_event.specs.declared.opening.Mode.TheVariants.{Bounded, Rolling}
 pub use Rattle.pie_excerpt.specs.{Preamble.Preamble, Preamble.Resumes, Preamble.is_resumed, Preamble.resumed_of, Rows.queued_row}
-pub use Rattle.pie_record.specs.{Answer.code_of, Answer.code_of_fold, Answer.code_of_params, Fault.IsWrite, Fault.NoDeviceFailed, Fault.after_flush}
-pub use Rattle.pie_record.specs.{Fault.fault_at, Fault.is_device, Field.and_then, Field.is_kind, ReadBack.Begins, ReadBack.IsHistoryText}
+pub use Rattle.pie_record.specs.{Answer.code_of, Answer.code_of_fold, Answer.code_of_params, Fault.IsWriteOrMemory, Fault.NoIoOrMemoryFailed, Fault.after_flush}
+pub use Rattle.pie_record.specs.{Fault.fault_at, Fault.is_io_or_memory, Field.and_then, Field.is_kind, ReadBack.Begins, ReadBack.IsHistoryText}
 pub use Rattle.pie_record.specs.{Text.HasField, Text.Row, Text.records_of, Text.text_of, Write.command_fields, Write.version_two_row}
 pub use Rattle.pie_record.specs.HistoryLines.{RemainingLines, event_count, events_in, fault_from, history_lines, line_in, lines_from}
 pub use Rattle.pie_record.specs.HistoryLines.{remaining_after_opening}

@@ -1,6 +1,6 @@
 -- A pass over records, and its progress; and the pass of a run of a trace.
 use Rattle.pie_trace.specs.Names.{Appends, BookRepresents, BookView, Err, List, None, Ok, Opening, Option, Progress, Request, Result, Row, Some}
-use Rattle.pie_trace.specs.Names.{TraceFault, Version, cond, false, is_device, length, opening_refusal, request_of, text_of, ℕ}
+use Rattle.pie_trace.specs.Names.{TraceFault, Version, cond, false, is_io_or_memory, length, opening_refusal, request_of, text_of, ℕ}
 use Rattle.pie_trace.specs.{History.first_fault, Reply.Reply, Reply.history_row, Reply.is_refused, declared.run.RunEnd.RunEnd}
 use Rattle.pie_trace.specs.RunState.{RunState, Running, end_after, looking_back, reply_at, running, state_after, text_at}
 use Rattle.std.specs.Prelude.{◌+◌, ◌≡◌}
@@ -23,7 +23,7 @@ Writes {X} pass before now = (past : X) → pass.may_follow past → Appends bef
 abbrev pub HasOutcome : {X A : Type 0} → Pass X A → Result A TraceFault → Option (List ℕ) → Option (List ℕ) → Type 0
 HasOutcome {X} pass (Ok value) before now =
     (pass.found ≡ None) × ((past : X) → pass.may_follow past → pass.gives past ≡ Some value) × Writes pass before now
-HasOutcome pass (Err why) before now = is_device why ≡ false → (pass.found ≡ Some why) × Writes pass before now
+HasOutcome pass (Err why) before now = is_io_or_memory why ≡ false → (pass.found ≡ Some why) × Writes pass before now
 
 -- the progress of a pass: some records are left, and the outcome for these gives the outcome for all
 pub record IsProgressOf {X A : Type 0} (all : Pass X A) (others : List Row → Pass X A) (left : Option (List Row)) (before now : Option (List ℕ))

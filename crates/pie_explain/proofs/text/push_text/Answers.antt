@@ -6,5 +6,5 @@ pub returns : goal.returns
 unfolding words_by
 returns c =
     rw (← c.turned_text.ensures)
-    (simp append_assoc at (rw (c.in_ok-push_str.ensures.bytes, c.in_ok-push_reason.ensures, c.in_ok-write.ensures.bytes, c.in_ok-push_deed.ensures)
+    (simp append_assoc at (rw (c.in_ok-push_str.ensures.bytes, c.in_ok-push_reason.ensures, c.in_ok-write.ensures.bytes, c.in_ok-push_effect.ensures)
     at c.push_before.ensures))

@@ -9,7 +9,7 @@ returns-clause-represents c opening history shows =
     let raw = c.self.inside.raw in
     let controller_events = rw (← c.self.view_is) at shows in
     let taken = rw (← c.self.view_is) at c.requires.taken in
-    rw (c.record_queue.ensures, c.decide-recorded.ensures.after, c.decide-recorded.ensures.event)
+    rw (c.update_largest_queue.ensures, c.decide-recorded.ensures.after, c.decide-recorded.ensures.event)
     (next-shows opening raw history controller_events c.args.caller c.args.command c.decide-recorded.ensures.threshold taken)
 
 pub invariant_of-self : goal.invariant_of-self

@@ -4,4 +4,4 @@ use Rattle.pie_lock.proofs.lock.RuledLock.exchange.Goals as goal
 
 pub compare_exchange-found-requires : goal.compare_exchange-found-requires
 compare_exchange-found-requires g c =
-    (search rules, search rules, takes_keep _ _ _ _ _ _ _ _ c.pass.invariant.waits)
+    (search rules, search rules, takes_keep _ _ _ _ _ _ _ _ c.pass.invariant.idle)

@@ -8,8 +8,8 @@ pub returns-clause-commands : goal.returns-clause-commands
 returns-clause-commands g c =
     later_stay g.K.BurstKind.call c.args.self.now.events.now c.fill_event_at.new.events c.args.place _ (c.fill_event_at.ensures (blank 0 0))
 
-pub returns-clause-shown : goal.returns-clause-shown
-returns-clause-shown g c = λ first replies shown. (
+pub returns-clause-received : goal.returns-clause-received
+returns-clause-received g c = λ first replies shown. (
   shown.0,
   took g.K.BurstKind.call first.caller c.args.self.now.caller first.events.now c.args.self.now.events.now c.fill_event_at.new.events c.args.place
       c.args.self.now.done replies c.args.reply (blank 0 0) shown.1 c.requires.room

@@ -1,5 +1,5 @@
 use Rattle.pie_port.specs.{AnswersWithin, WasBusy, command_by, events_answered}
-use Rattle.pie_port.proofs.Names.{◌≡◌, ◌∙◌, ℕ, [], refl, ap, subst, length, map, List, CallerView, LinkView, StaysOne, PieEvent}
+use Rattle.pie_port.proofs.Names.{◌≡◌, ◌∙◌, ℕ, [], refl, ap, subst, length, map, List, CallerView, LinkView, HasSameNumbers, PieEvent}
 use Rattle.std.proofs.Common.{inl, inr, rules}
 use Rattle.pie_port.proofs.Bursting.{begun}
 use Rattle.pie_port.proofs.port.Port.decide_burst.Goals as goal
@@ -22,7 +22,7 @@ returns-clause-tried g c =
             replies = has_result.0;
             answered = subst (λ (b : CallerView). AnswersWithin c.args.budget continues b.lock b (map (command_by call) events) [] has_result.0 after) same
                 (subst (λ (l : LinkView). AnswersWithin c.args.budget continues l inside (map (command_by call) events) [] has_result.0 after) lock has_result.2);
-            stays = subst (λ (b : CallerView). StaysOne b after) same w.in-Ok.ensures.stays;
+            stays = subst (λ (b : CallerView). HasSameNumbers b after) same w.in-Ok.ensures.stays;
             written_is = has_result.1.1.events_are ∙ ap (λ (n : ℕ). events_answered call n events has_result.0) c.requires.caller;
             counted = has_result.1.1.counted;
             done = w.code-is;

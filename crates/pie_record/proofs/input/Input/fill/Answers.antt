@@ -7,7 +7,7 @@ pub returns-then-count-gt0-clause-keeps : goal.returns-then-count-gt0-clause-kee
 returns-then-count-gt0-clause-keeps g c =
     let i = c.self.inside in
     let n : ℕ = i.end - i.at in
-    let made = c.write_if_full.new.bytes.items in
+    let made = c.allocate_if_empty.new.bytes.items in
     let moved = c.copy_within.new.self in
     let now = c.read_behind.new.bytes in
     let inside : i.end ≤ length made = search rules in

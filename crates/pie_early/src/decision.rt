@@ -90,9 +90,9 @@ fn is_low(params: &RawParams, control: &RawControl) -> bool
     control.old_delay < half(params.target) && control.prob < LOW_PROB
 }
 
-/// Decides on a considered arrival at the probability `prob`, whose effective value is `effective`.
-/// With accumulation the sum with `effective` and the word decide (RFC 8033, section 5.4), otherwise the word alone (section 4.1). A sum that
-/// exceeds `u64` is above 8.5.
+/// Decides on a considered arrival at the probability `prob`, whose effective value is `effective`. With accumulation
+/// the sum with `effective` and the word decide (RFC 8033, section 5.4), otherwise the word alone (section 4.1). A sum
+/// that exceeds `u64` is above 8.5.
 #[inline(always)]
 #[tactic(auto, using(std::proofs::lemmas::Bool::Decides::nat_tests), unfolding(crate::specs::Cause::considered_cause, crate::specs::Decision::is_picked))]
 fn decide_considered(

@@ -1,5 +1,5 @@
 # Builds the libraries and the program from dist/, which contains the assembly of the proved code
-# (dist/README.md). Only a C compiler is needed.
+# (dist/README.md). A C compiler, and xz or python3 are needed.
 #
 #   make                 the libraries and the program, in build/
 #   make check           runs the worked rows and the examples with them; reports what cannot run here

@@ -705,7 +705,7 @@ static int pr_init(struct Qdisc *sch, struct nlattr *opt, struct netlink_ext_ack
 	opening.moment = ktime_get_ns();
 	opening.packets = pr_number(tb[TCA_PIE_LIMIT], 1000);
 	opening.params.mean_pkt = clamp_t(u32, psched_mtu(qdisc_dev(sch)), 1, PIE_MAX_SIZE);
-	/* so large that only the limit in packets applies */
+	/* so large that only the limit in packets applies, up to 16384 packets */
 	opening.params.limit_bytes = min_t(u64, opening.packets * PIE_MAX_SIZE, PIE_MAX_BYTES);
 	opening.tail = 1 << 20;
 	if (pr_flag(tb[TCA_PIE_DQ_RATE_ESTIMATOR], false))

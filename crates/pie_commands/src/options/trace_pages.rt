@@ -31,7 +31,7 @@ The first record opens the controller:
                  stalls.
       <picking>  derandomized: probabilities accumulate (5.4). random: the random word alone
                  decides.
-      <step>     capped: a rise is at most 2 % from a probability of 10 % on (5.5). uncapped: it has
+      <step>     capped: a rise is at most 0.02 from a probability of 0.1 on (5.5). uncapped: it has
                  no such limit.
       <size>     unscaled. scaled: a packet below mean_pkt is picked less often.
       <decay>    zero: the probability decays if both delays are 0 (4.2). half: if both are below
@@ -173,7 +173,7 @@ Example: three senders with ten packets each, and the audit of the history:
         row!("profile": Number(1, 2), "1: the controller is always active; 2: it turns itself on and off (5.3). Default: 1"),
         row!("delay": Value("rate|stamp"), "Source of the delay: departure rate (5.2) or time stamps (4.3). Default: rate"),
         row!("picking": Value("derandomized|random"), "Probabilities accumulate (5.4), or the random word alone decides. Default: derandomized"),
-        row!("step": Value("capped|uncapped"), "A rise is at most 2 % from a probability of 10 % on (5.5), or has no limit. Default: capped"),
+        row!("step": Value("capped|uncapped"), "A rise is at most 0.02 from a probability of 0.1 on (5.5), or has no limit. Default: capped"),
         row!("size": Value("unscaled|scaled"), "scaled: packets below mean_pkt are picked less often, in proportion. Default: unscaled"),
         row!("decay": Value("zero|half"), "The probability decays at delays of 0 (4.2), or below half the target. Default: zero"),
         row!("count": Nothing, "Print the numbers of events and of changes of caller to standard error. Default: off"),

@@ -4,7 +4,7 @@ pub use Rattle.pie_audit.specs.{All, Answer, Appends, AreLegal, AuditorView, Aud
 pub use Rattle.pie_audit.specs.{CanBeMade, Clean, Command, CoreSnapshot, CoreView, Differs, Err, Event, EventFits, FaultedBy, FindsAfter, FindsBy}
 pub use Rattle.pie_audit.specs.{Replays, ReplaysFrom, Going, HasField, IfErr, IfOk, IfSome, Invalid, IsAccepted, IsExcerptText, IsFirstWrong, IsFound}
 pub use Rattle.pie_audit.specs.{IsHistoryText, IsLegal, IsLegalAt, IsSetterAfter, IsWriteOrMemory, IsWrong, Line, LinePlace, LinesAt, LinesRead, LinesView}
-pub use Rattle.pie_audit.specs.{NoDeviceFailedBy, None, Note, Ok, OnOk, Opening, Option, ParamsFit, Preamble, ProcessedBy, RemainingLines, Represents}
+pub use Rattle.pie_audit.specs.{NoIoOrMemoryFailedBy, None, Note, Ok, OnOk, Opening, Option, ParamsFit, Preamble, ProcessedBy, RemainingLines, Represents}
 pub use Rattle.pie_audit.specs.{RepresentsAfter, Result, Resumes, Row, Setter, Some, TakesRow, TextProcessedBy, Three, TraceFault, Valid, VisitedFrom}
 pub use Rattle.pie_audit.specs.{active_after, after_line, agrees_after, at_core, at_opening, count_after, counted_with, decision, differs, differs_at}
 pub use Rattle.pie_audit.specs.{differs_from, event_in, event_row, fault_after, fault_by, filter_map, find, finding, finding_after, finding_at}

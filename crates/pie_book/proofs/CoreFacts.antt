@@ -326,7 +326,7 @@ next-core opening core history event shows good next =
 -- a core that represents these events and satisfies P
 pub record IsRun (P : List Event → CoreView → Type 0) (opening : Opening) (history : List Event) : Type 0 where
   pub core : CoreView
-  pub shows : Represents opening core history
+  pub represents : Represents opening core history
   pub good : first_bad core.controller.params ≡ None
   pub holds : P history core
 
@@ -340,18 +340,18 @@ module _ (P : List Event → CoreView → Type 0) (opening : Opening) (stays : S
   run-next : (history : List Event) (event : Event) → IsRun P opening history → IsLegalAt opening (place_of history event)
       → CommandFits event.command → IsRun P opening (history ++ event ∷ [])
   run-next history event run here fit =
-      let next = next-legal opening run.core history event run.shows here in
+      let next = next-legal opening run.core history event run.represents here in
       record {
         core = core_after run.core event.command;
-        shows = next-core opening run.core history event run.shows run.good next;
+        represents = next-core opening run.core history event run.represents run.good next;
         good = good-next run.core event.command run.good fit;
-        holds = stays run.core history event run.shows run.holds fit next.taken;
+        holds = stays run.core history event run.represents run.holds fit next.taken;
       }
 
   pub run_of : (history : List Event) → P [] (first_core opening) → first_bad opening.params ≡ None → IsLegal opening history
       → All (λ event. CommandFits event.command) history → IsRun P opening history
   run_of history first good legal fit = legal-all opening (λ h. All (λ event. CommandFits event.command) h → IsRun P opening h)
-      (λ none. record { core = first_core opening; shows = first_shows opening; good = good; holds = first })
+      (λ none. record { core = first_core opening; represents = first_shows opening; good = good; holds = first })
       (λ before event run here fits.
       let both = All-pop (λ (e : Event). CommandFits e.command) (before ++ event ∷ []) before (Some event) refl fits in
       run-next before event (run both.0) here both.1)
@@ -387,7 +387,7 @@ pub run_beside : (opening : Opening) (history : List Event) (command : Command) 
 run_beside opening history command good legal fit free =
     let run = run_of (HoldsCalls opening) opening (call-next opening) history (none-called opening) good legal fit in
     ap (λ (h : ControllerState). answer_by h (waiting_after opening history) opening.limits.packets command)
-    (sym run.holds ∙ state-is opening run.core history run.shows)
+    (sym run.holds ∙ state-is opening run.core history run.represents)
 
 -- ---- Events that follow from a core are legal after each history that the core represents
 

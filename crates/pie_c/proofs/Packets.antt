@@ -64,7 +64,7 @@ pub makes : KeepsSound → LooksBack → (s t : PieState) (call : Call) (refusal
 makes keeps looks s t call refusal sound left taken = record {
   after = left;
   sound = λ _. stays-sound s t call refusal keeps looks sound left taken;
-  shows = represents-call s t call refusal keeps looks sound left;
+  represents = represents-call s t call refusal keeps looks sound left;
 }
 
 -- the three facts after a refused call
@@ -72,7 +72,7 @@ pub unmade : (s : PieState) (call : Call) (refusal : ℕ) → (refusal == 0) ≡
 unmade s call refusal some = record {
   after = rw some refl;
   sound = λ sound. sound;
-  shows = λ o events free. let none : (refusal == 0) ≡ true = rw free refl in cc;
+  represents = λ o events free. let none : (refusal == 0) ≡ true = rw free refl in cc;
 }
 
 -- a refused arrival leaves the state unchanged

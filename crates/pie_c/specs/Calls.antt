@@ -52,7 +52,7 @@ arrival_of queued size room bits word = record { queued = queued; is_full = room
 pub record Makes (before : PieState) (call : Call) (refusal : ℕ) (left : PieState) : Type 0 where
   pub after : left ≡ if_taken refusal before (state_of (after_call (controller_state before) call))
   pub sound : is_sound before ≡ true → is_sound left ≡ true
-  pub shows : (opened : Opened) (events : List ControllerEvent) → refusal ≡ 0 → Represents opened events (controller_state before)
+  pub represents : (opened : Opened) (events : List ControllerEvent) → refusal ≡ 0 → Represents opened events (controller_state before)
       → Represents opened (events ++ event_of_call (controller_state before) call ∷ []) (controller_state left)
 
 -- the state after a call for a packet, if it was sound

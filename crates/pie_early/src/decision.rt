@@ -259,10 +259,10 @@ fn considered_cause(
     let fate = fate_of(params, control.prob, offered.ecn);
     match decide_considered(params, elements.picking, control.prob, offered, prob, accu).name {
         CauseName::LittleAccumulated => Cause::LittleAccumulated { accu, prob },
-        CauseName::PickedBySum
+        CauseName::PickedBySumMarked
         | CauseName::PickedBySumNotCapable
         | CauseName::PickedBySumNotBelow => Cause::PickedBySum { accu, prob, fate },
-        CauseName::PickedByWord
+        CauseName::PickedByWordMarked
         | CauseName::PickedByWordNotCapable
         | CauseName::PickedByWordNotBelow => Cause::PickedByWord {
             accu,

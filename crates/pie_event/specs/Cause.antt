@@ -2,8 +2,8 @@
 use Rattle.pie_event.specs.CauseName.{name_of}
 use Rattle.pie_event.specs.declared.cause.Cause.{Cause}
 use Rattle.pie_event.specs.declared.cause_name.CauseName.{CauseName}
-use Rattle.pie_event.specs.declared.cause_name.CauseName.TheVariants.{NoRoomInBytes, NoRoomInPackets, PickedBySum, PickedBySumNotCapable}
-use Rattle.pie_event.specs.declared.cause_name.CauseName.TheVariants.{PickedBySumNotBelow, PickedByWord, PickedByWordNotCapable, PickedByWordNotBelow}
+use Rattle.pie_event.specs.declared.cause_name.CauseName.TheVariants.{NoRoomInBytes, NoRoomInPackets, PickedBySumMarked, PickedBySumNotCapable}
+use Rattle.pie_event.specs.declared.cause_name.CauseName.TheVariants.{PickedBySumNotBelow, PickedByWordMarked, PickedByWordNotCapable, PickedByWordNotBelow}
 use Rattle.pie_event.specs.declared.verdict.Verdict.{Verdict}
 use Rattle.pie_event.specs.declared.verdict.Verdict.TheVariants.{Enqueued, Marked, DroppedEarly, DroppedBytes, DroppedPackets}
 
@@ -11,8 +11,8 @@ use Rattle.pie_event.specs.declared.verdict.Verdict.TheVariants.{Enqueued, Marke
 abbrev pub verdict_named : CauseName → Verdict
 verdict_named NoRoomInBytes = DroppedBytes
 verdict_named NoRoomInPackets = DroppedPackets
-verdict_named PickedBySum = Marked
-verdict_named PickedByWord = Marked
+verdict_named PickedBySumMarked = Marked
+verdict_named PickedByWordMarked = Marked
 verdict_named PickedBySumNotCapable = DroppedEarly
 verdict_named PickedBySumNotBelow = DroppedEarly
 verdict_named PickedByWordNotCapable = DroppedEarly

@@ -5,8 +5,8 @@ use Rattle.pie_event.specs.declared.cause.Cause.TheVariants as cause
 use Rattle.pie_event.specs.declared.cause.Fate.TheVariants as fate
 use Rattle.pie_event.specs.declared.cause_name.CauseName.{CauseName}
 use Rattle.pie_event.specs.declared.cause_name.CauseName.TheVariants.{NoRoomInBytes, NoRoomInPackets, Inactive, BurstAllowed, LowDelay, ShortQueue}
-use Rattle.pie_event.specs.declared.cause_name.CauseName.TheVariants.{NoProbability, LittleAccumulated, PickedBySum, PickedBySumNotCapable}
-use Rattle.pie_event.specs.declared.cause_name.CauseName.TheVariants.{PickedBySumNotBelow, PickedByWord, PickedByWordNotCapable}
+use Rattle.pie_event.specs.declared.cause_name.CauseName.TheVariants.{NoProbability, LittleAccumulated, PickedBySumMarked, PickedBySumNotCapable}
+use Rattle.pie_event.specs.declared.cause_name.CauseName.TheVariants.{PickedBySumNotBelow, PickedByWordMarked, PickedByWordNotCapable}
 use Rattle.pie_event.specs.declared.cause_name.CauseName.TheVariants.{PickedByWordNotBelow, WordNotBelow}
 
 -- the name of a cause; for a picked packet it depends on the fate
@@ -19,10 +19,10 @@ name_of (cause.LowDelay old_delay target prob) = LowDelay
 name_of (cause.ShortQueue bytes mean_pkt) = ShortQueue
 name_of cause.NoProbability = NoProbability
 name_of (cause.LittleAccumulated accu prob) = LittleAccumulated
-name_of (cause.PickedBySum accu prob (fate.Marked threshold)) = PickedBySum
+name_of (cause.PickedBySum accu prob (fate.Marked threshold)) = PickedBySumMarked
 name_of (cause.PickedBySum accu prob fate.NotCapable) = PickedBySumNotCapable
 name_of (cause.PickedBySum accu prob (fate.NotBelow threshold)) = PickedBySumNotBelow
-name_of (cause.PickedByWord accu prob word (fate.Marked threshold)) = PickedByWord
+name_of (cause.PickedByWord accu prob word (fate.Marked threshold)) = PickedByWordMarked
 name_of (cause.PickedByWord accu prob word fate.NotCapable) = PickedByWordNotCapable
 name_of (cause.PickedByWord accu prob word (fate.NotBelow threshold)) = PickedByWordNotBelow
 name_of (cause.WordNotBelow accu prob word) = WordNotBelow
@@ -31,7 +31,7 @@ name_of (cause.WordNotBelow accu prob word) = WordNotBelow
 abbrev pub cause_names : List CauseName
 cause_names =
     NoRoomInBytes ∷ NoRoomInPackets ∷ Inactive ∷ BurstAllowed ∷ LowDelay ∷ ShortQueue ∷ NoProbability ∷ LittleAccumulated
-    ∷ PickedBySum ∷ PickedBySumNotCapable ∷ PickedBySumNotBelow ∷ PickedByWord ∷ PickedByWordNotCapable ∷ PickedByWordNotBelow
+    ∷ PickedBySumMarked ∷ PickedBySumNotCapable ∷ PickedBySumNotBelow ∷ PickedByWordMarked ∷ PickedByWordNotCapable ∷ PickedByWordNotBelow
     ∷ WordNotBelow ∷ []
 
 -- the position of a name in `cause_names`
@@ -44,10 +44,10 @@ place_of_cause LowDelay = 4
 place_of_cause ShortQueue = 5
 place_of_cause NoProbability = 6
 place_of_cause LittleAccumulated = 7
-place_of_cause PickedBySum = 8
+place_of_cause PickedBySumMarked = 8
 place_of_cause PickedBySumNotCapable = 9
 place_of_cause PickedBySumNotBelow = 10
-place_of_cause PickedByWord = 11
+place_of_cause PickedByWordMarked = 11
 place_of_cause PickedByWordNotCapable = 12
 place_of_cause PickedByWordNotBelow = 13
 place_of_cause WordNotBelow = 14
@@ -62,10 +62,10 @@ word_of_cause LowDelay = codes "low_delay"
 word_of_cause ShortQueue = codes "short_queue"
 word_of_cause NoProbability = codes "no_probability"
 word_of_cause LittleAccumulated = codes "little_accumulated"
-word_of_cause PickedBySum = codes "picked_by_sum"
+word_of_cause PickedBySumMarked = codes "picked_by_sum"
 word_of_cause PickedBySumNotCapable = codes "picked_by_sum_not_capable"
 word_of_cause PickedBySumNotBelow = codes "picked_by_sum_not_below"
-word_of_cause PickedByWord = codes "picked_by_word"
+word_of_cause PickedByWordMarked = codes "picked_by_word"
 word_of_cause PickedByWordNotCapable = codes "picked_by_word_not_capable"
 word_of_cause PickedByWordNotBelow = codes "picked_by_word_not_below"
 word_of_cause WordNotBelow = codes "word_not_below"

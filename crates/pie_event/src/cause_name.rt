@@ -25,13 +25,13 @@ pub enum CauseName {
     /// Queued: the accumulated probability is small.
     LittleAccumulated,
     /// Picked by the accumulated probability, and marked.
-    PickedBySum,
+    PickedBySumMarked,
     /// Picked by the accumulated probability, and dropped: the packet's endpoints do not understand a mark.
     PickedBySumNotCapable,
     /// Picked by the accumulated probability, and dropped: the probability is at least `mark_ecnth`.
     PickedBySumNotBelow,
     /// Picked by the random word, and marked.
-    PickedByWord,
+    PickedByWordMarked,
     /// Picked by the random word, and dropped: the packet's endpoints do not understand a mark.
     PickedByWordNotCapable,
     /// Picked by the random word, and dropped: the probability is at least `mark_ecnth`.
@@ -55,10 +55,10 @@ impl CauseName {
             CauseName::ShortQueue => "short_queue",
             CauseName::NoProbability => "no_probability",
             CauseName::LittleAccumulated => "little_accumulated",
-            CauseName::PickedBySum => "picked_by_sum",
+            CauseName::PickedBySumMarked => "picked_by_sum",
             CauseName::PickedBySumNotCapable => "picked_by_sum_not_capable",
             CauseName::PickedBySumNotBelow => "picked_by_sum_not_below",
-            CauseName::PickedByWord => "picked_by_word",
+            CauseName::PickedByWordMarked => "picked_by_word",
             CauseName::PickedByWordNotCapable => "picked_by_word_not_capable",
             CauseName::PickedByWordNotBelow => "picked_by_word_not_below",
             CauseName::WordNotBelow => "word_not_below",
@@ -73,7 +73,7 @@ impl CauseName {
         match self {
             CauseName::NoRoomInBytes => Verdict::DroppedBytes,
             CauseName::NoRoomInPackets => Verdict::DroppedPackets,
-            CauseName::PickedBySum | CauseName::PickedByWord => Verdict::Marked,
+            CauseName::PickedBySumMarked | CauseName::PickedByWordMarked => Verdict::Marked,
             CauseName::PickedBySumNotCapable
             | CauseName::PickedBySumNotBelow
             | CauseName::PickedByWordNotCapable
@@ -107,12 +107,12 @@ impl Cause {
             Cause::NoProbability => CauseName::NoProbability,
             Cause::LittleAccumulated { .. } => CauseName::LittleAccumulated,
             Cause::PickedBySum { fate, .. } => match fate {
-                Fate::Marked { .. } => CauseName::PickedBySum,
+                Fate::Marked { .. } => CauseName::PickedBySumMarked,
                 Fate::NotCapable => CauseName::PickedBySumNotCapable,
                 Fate::NotBelow { .. } => CauseName::PickedBySumNotBelow,
             },
             Cause::PickedByWord { fate, .. } => match fate {
-                Fate::Marked { .. } => CauseName::PickedByWord,
+                Fate::Marked { .. } => CauseName::PickedByWordMarked,
                 Fate::NotCapable => CauseName::PickedByWordNotCapable,
                 Fate::NotBelow { .. } => CauseName::PickedByWordNotBelow,
             },

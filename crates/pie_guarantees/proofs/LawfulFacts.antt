@@ -28,13 +28,13 @@ is_free opening before command e = grind (arith, nat_tests)
 -- a core represents these events, and its numbers are sound
 pub record IsSteadyAt (opening : Opening) (history : List Event) : Type 0 where
   pub core : CoreView
-  pub shows : Represents opening core history
+  pub represents : Represents opening core history
   pub sound : IsSound core.controller
 
 steady-first : (opening : Opening) → Opens.opening_refusal opening.limits opening.moment ≡ None → first_bad opening.params ≡ None → IsSteadyAt opening []
 steady-first opening good params = record {
   core = first_core opening;
-  shows = first_shows opening;
+  represents = first_shows opening;
   sound = Sound_opened opening.choices.profile opening.choices.elements opening.params opening.moment params
       (let within : opening.moment ≤ Opens.last_moment = grind (arith, good) in omega (arith, within));
 }
@@ -51,7 +51,7 @@ steady-next opening before event old here fit =
     let handed = (is_free opening before event.command here.taken).moment in
     record {
       core = largest_queue_updated (after_command core event.command);
-      shows = next-core opening core before event old.shows old.sound.params (next-legal opening core before event old.shows here);
+      represents = next-core opening core before event old.represents old.sound.params (next-legal opening core before event old.represents here);
       sound = Sound_call core.controller old.sound (call_in core event.command) (call-taken core event.command handed fit);
     }
 
@@ -80,19 +80,19 @@ unfolding steady-next
 step-of opening before event old here fit =
     let next = steady-next opening before event old here fit in
     let core = old.core in
-    let is : core.controller ≡ state_after opening before = state-is opening core before old.shows in
+    let is : core.controller ≡ state_after opening before = state-is opening core before old.represents in
     record {
       here = here;
       free = is_free opening before event.command here.taken;
       sound = subst (λ (h : ControllerState). IsSound h) is old.sound;
-      state = sym (state-is opening next.core (before ++ event ∷ []) next.shows)
+      state = sym (state-is opening next.core (before ++ event ∷ []) next.represents)
           ∙ ap (λ (h : ControllerState). after_call h (call_of core.waiting core.packets event.command)) is
-          ∙ ap (λ (w : List Waiting). after_call (state_after opening before) (call_of w core.packets event.command)) old.shows.waiting
-          ∙ ap (λ (n : ℕ). after_call (state_after opening before) (call_of (waiting_after opening before) n event.command)) old.shows.packets;
-      waiting = waiting_after-push opening before event (departed-of-legal opening before old.shows.legal)
+          ∙ ap (λ (w : List Waiting). after_call (state_after opening before) (call_of w core.packets event.command)) old.represents.waiting
+          ∙ ap (λ (n : ℕ). after_call (state_after opening before) (call_of (waiting_after opening before) n event.command)) old.represents.packets;
+      waiting = waiting_after-push opening before event (departed-of-legal opening before old.represents.legal)
           ∙ ap (λ (m : ℕ). waiting_next (waiting_after opening before) m (effect_of event)) (sym (effective_moment-push opening before event));
-      same_moment = sym (ap (λ (h : ControllerState). h.moment) is) ∙ old.shows.moment;
-      next_moment = sym (ap (λ (h : ControllerState). h.moment) (state-is opening next.core (before ++ event ∷ []) next.shows)) ∙ next.shows.moment;
+      same_moment = sym (ap (λ (h : ControllerState). h.moment) is) ∙ old.represents.moment;
+      next_moment = sym (ap (λ (h : ControllerState). h.moment) (state-is opening next.core (before ++ event ∷ []) next.represents)) ∙ next.represents.moment;
     }
 
 -- ---- a whole history
@@ -198,8 +198,8 @@ pub sound_at : (opening : Opening) (before later : List Event) → IsLawful open
     → IsSound (state_after opening before) × ((state_after opening before).moment ≡ effective_moment opening before)
 sound_at opening before later lawful =
     let it = steady_at opening before later lawful in
-    let is : it.core.controller ≡ state_after opening before = state-is opening it.core before it.shows in
-    (subst (λ (h : ControllerState). IsSound h) is it.sound, sym (ap (λ (h : ControllerState). h.moment) is) ∙ it.shows.moment)
+    let is : it.core.controller ≡ state_after opening before = state-is opening it.core before it.represents in
+    (subst (λ (h : ControllerState). IsSound h) is it.sound, sym (ap (λ (h : ControllerState). h.moment) is) ∙ it.represents.moment)
 
 -- the beginning of a lawful history is lawful
 pub beginning : (opening : Opening) (before later : List Event) → IsLawful opening (before ++ later) → IsLawful opening before
@@ -208,7 +208,7 @@ beginning opening before later lawful = record {
   params = lawful.params;
   set = rw (take-append_seam before later) at
       (All-take (λ (e : Event). SetsInRange e.command) (length before) (before ++ later) lawful.set);
-  legal = (steady_at opening before later lawful).shows.legal;
+  legal = (steady_at opening before later lawful).represents.legal;
 }
 
 -- at each place the command is accepted and has its answer

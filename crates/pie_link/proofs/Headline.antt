@@ -49,7 +49,7 @@ while_free look_back opening numbers lock history holder owner agreed free =
       (
         history,
         rw (← free.2.2) (
-            let begins = at_all (Follows number_of opening numbers history) (BeginsWith history) (λ p f. f.shown) lock.views follow in
+            let begins = at_all (Follows number_of opening numbers history) (BeginsWith history) (λ p f. f.front_is_prefix) lock.views follow in
             let calls = at_all (Follows number_of opening numbers history) (HasCallsOf history) (λ p f. f.owned) lock.views follow in
             let registers = look_back book.opening book.running (events_in history) represents.running in grind arith),
       ),

@@ -109,7 +109,7 @@ module _ {E O : Type 0} (number : E → ℕ) (origin : O) (numbers : ℕ) where
   pub follows_fewer : (history : List E) (p : PassKnowledge E O) (first limit : ℕ) → Fits history p → p.first ≤ first → limit ≤ p.limit → first < limit
       → Fits history (with_numbers p first limit)
   follows_fewer history p first limit f low high some_left =
-      let on = gone_on number p.first p.limit p.front history (f.shown, f.owned) in
+      let on = gone_on number p.first p.limit p.front history (f.front_is_prefix, f.owned) in
       follows history history p (with_numbers p first limit) f refl refl
       (goes_on number first limit p.front on.0 history on.1
       (λ k d within. in_fewer p.first p.limit first limit (number (get_or on.0 k d)) low high (on.2 k d within))) some_left
@@ -123,7 +123,7 @@ module _ {E O : Type 0} (number : E → ℕ) (origin : O) (numbers : ℕ) where
   -- with all numbers its holder has seen the whole history
   pub all_shown : (history : List E) (p : PassKnowledge E O) → Fits history p → All (λ e. number e < numbers) history → HasAll p → history ≡ p.front
   all_shown history p f low all =
-      let on = gone_on number p.first p.limit p.front history (f.shown, f.owned) in
+      let on = gone_on number p.first p.limit p.front history (f.front_is_prefix, f.owned) in
       let rest_low = all_parts (λ e. number e < numbers) p.front on.0 (subst (All (λ e. number e < numbers)) (sym on.1) low) in
       sym on.1 ∙ (ap (λ l. p.front ++ l) (nothing on.0 on.2 rest_low.1) ∙ append-nil p.front)
     where
@@ -138,7 +138,7 @@ module _ {E O : Type 0} (number : E → ℕ) (origin : O) (numbers : ℕ) where
   follows_longer : (history : List E) (k : ℕ) (p : PassKnowledge E O) (added : List E) → All (λ e. number e ≡ k) added → Fits history p
       → (IsNumberOf p k → ⊥) → Fits (history ++ added) p
   follows_longer history k p added is f not =
-      let on = gone_on number p.first p.limit p.front history (f.shown, f.owned) in
+      let on = gone_on number p.first p.limit p.front history (f.front_is_prefix, f.owned) in
       follows history (history ++ added) p p f refl refl
       (goes_on number p.first p.limit p.front (on.0 ++ added) (history ++ added)
       (sym (append_assoc p.front on.0 added) ∙ ap (λ l. l ++ added) on.1)
@@ -166,8 +166,8 @@ module _ {E O : Type 0} (number : E → ℕ) (origin : O) (numbers : ℕ) where
   longer_facts : (history : List E) (p q : PassKnowledge E O) → Fits history p → Fits history q → AreAdjacent p q → length p.front ≤ length q.front
       → Extends number (min p.first q.first) (max p.limit q.limit) q.front history × Extends number p.first p.limit p.front q.front
   longer_facts history p q f g adjacent less =
-      let a = gone_on number p.first p.limit p.front history (f.shown, f.owned) in
-      let b = gone_on number q.first q.limit q.front history (g.shown, g.owned) in
+      let a = gone_on number p.first p.limit p.front history (f.front_is_prefix, f.owned) in
+      let b = gone_on number q.first q.limit q.front history (g.front_is_prefix, g.owned) in
       let m = between p.front a.0 q.front b.0 (a.1 ∙ sym b.1) less in
       let out = all_parts (λ e. is_within p.first p.limit (number e) ≡ false) m.0 b.0 (subst (NoneOwn number p.first p.limit) m.2 a.2) in (
         goes_on number (min p.first q.first) (max p.limit q.limit) q.front b.0 history b.1

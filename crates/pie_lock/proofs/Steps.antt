@@ -83,7 +83,7 @@ module _ {S E O : Type 0} (number : E → ℕ) (origin_of : S → O) (represents
         takes 0 (Some free.2.0),
         free.2.1,
         (length-set s.words 0 1 ∙ rule.0, (history, Some id, rule.1.2, now, inr held)),
-        (free.2.0, history, refl, (f.shown, f.owned), cc (f.of_origin, free.2.2), free.2.3, rw f.of_all agreed.entries_below, shown),
+        (free.2.0, history, refl, (f.front_is_prefix, f.owned), cc (f.of_origin, free.2.2), free.2.3, rw f.of_all agreed.entries_below, shown),
       )
 
   -- if a seat has all numbers, no other seat has the state

@@ -36,7 +36,7 @@ module _ {E O : Type 0} where
   -- the history begins with the pass's front, and has under its numbers only the entries of its front. The pass knows
   -- the lock's origin and its number of numbers; its own numbers are some of these
   pub record Follows (number : E → ℕ) (origin : O) (numbers : ℕ) (history : List E) (p : PassKnowledge E O) : Type 0 where
-    pub shown : IsPrefix p.front history
+    pub front_is_prefix : IsPrefix p.front history
     pub owned : own number p.first p.limit history ≡ own number p.first p.limit p.front
     pub nonempty : p.first < p.limit
     pub below : p.limit ≤ numbers

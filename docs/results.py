@@ -270,7 +270,7 @@ def scenarios_table():
 def suite():
     """Returns the number of runs of RFC 7928's suite, and the processor time that they take, in words."""
     runs, stored, hours = estimate(ROWS)
-    return f"{runs} runs, {'all' if stored == runs else stored} of them stored, which take {hours:.1f} processor hours in all"
+    return f"{runs} runs, {'all' if stored == runs else stored} of them in results.csv, which take {hours:.1f} processor hours together"
 
 
 def version_of(row):
@@ -493,7 +493,7 @@ def base_text():
         found = [1e3 * float(row["base"]) for row in rows if (row["audit"] != "-") == is_ours]
         least, most = f"{min(found):.0f}", f"{max(found):.0f}"
         parts.append(f"{least} µs" if least == most else f"{least} to {most} µs")
-    grants = f" ({min(granted):.1f} to {max(granted):.1f} ms with the grants of `grant30`)" if granted else ""
+    grants = f" ({min(granted):.1f} to {max(granted):.1f} ms if it sends only every 30 ms, `grant30`)" if granted else ""
     return f"{parts[0]} at the link{grants}, and by {parts[1]}"
 
 
@@ -634,7 +634,7 @@ def burst_sentence():
         rows = [row for mbit in ("10", "50") for row in ns3_rows(queue, mbit, "4", "0").values()]
         if rows:
             parts.append(f"{sum(float(row['wait_mean_ms']) > 20 for row in rows)} of {len(rows)} with {name}")
-    return f"In some runs of four flows without ECN the mean wait is above 20 ms: {', '.join(parts)}."
+    return f"Of the runs of four flows without ECN, these have a mean wait above 20 ms: {', '.join(parts)}."
 
 
 # ---- the picture ----

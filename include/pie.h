@@ -119,8 +119,8 @@ enum {
     PIE_ROLLING = 1  /* discards its oldest event */
 };
 
-/* The configuration of a new controller. The last four fields do not affect decisions. They are written to the first record
- * of the history and bound the memory of a replay. The defaults of pie_default_opening are in parentheses. */
+/* The configuration of a new controller. The last four fields do not affect the decisions of this header's calls. They are written to the first
+ * record of the history, bound the memory of a replay, and limit a link (pie_link.h). The defaults of pie_default_opening are in parentheses. */
 struct pie_opening {
     struct pie_params params; /* the parameters */
     uint64_t moment;          /* moment of the opening, at most 2^60 - 1 ns (0) */
@@ -234,7 +234,7 @@ struct pie_meter {
     uint64_t burst;               /* the burst allowance after the last event */
 };
 
-#define PIE_RANGES 1720 /* ranges of waiting times: a range has the same first two decimal digits and number of digits */
+#define PIE_RANGES 1720 /* ranges: waiting times with equal first two decimal digits and equal numbers of digits */
 
 /* Statistics of the current interval, computed while the controller decides, about 14 KB. Read any field between calls; write
  * none. */
@@ -450,8 +450,8 @@ size_t pie_write_params(const struct pie_event *event, const struct pie_params *
 /* Writes the first record of a history, for the opening that was passed to pie_open. Returns 0 if pie_open rejects it. */
 size_t pie_write_opening(const struct pie_opening *opening, unsigned char *out, size_t room);
 
-/* Writes that the command with the number `record` was refused, counted from 1 for the opening. `code` is one of the errors that
- * histories contain: PIE_BAD_MOMENT, PIE_BAD_SIZE, PIE_TOO_SOON or PIE_BAD_PARAMS. */
+/* Writes that the command with the number `record` (the opening has 1) was refused. `code` is PIE_BAD_MOMENT, PIE_BAD_SIZE, PIE_TOO_SOON or
+ * PIE_BAD_PARAMS; the call writes no other error. */
 size_t pie_write_refused(uint64_t record, uint32_t code, unsigned char *out, size_t room);
 
 /* Writes that the wall-clock time was `unix_time` (ns since 1970-01-01T00:00:00Z, as CLOCK_REALTIME) at `moment`, at most

@@ -106,10 +106,10 @@ static inline void pie_flight_follow_begin(struct pie_flight_follower *follower,
     follower->is_begun = 1;
 }
 
-/* Writes the history while it is kept, of a recorder that uses pie_flight_keep and was opened right after pie_open. Each call writes the text of
- * the events since the last call, the first call from the opening on. If events were overwritten, the line `lost,<count>` has their number.
- * An audit ends at that line. The text after it is an excerpt, which can be audited alone (`sed 1,/^lost,/d`). `scratch` is memory for a copy
- * as in pie_flight_dump.
+/* Writes the history of a recorder while events are kept. The recorder uses pie_flight_keep and was opened right after pie_open. Each call writes the
+ * text of the events since the last call, the first call from the opening on. If events were overwritten, the line `lost,<count>` has their number.
+ * An audit ends at that line. The text after it is an excerpt, which can be audited alone (`sed 1,/^lost,/d`). `scratch` is memory for a copy as in
+ * pie_flight_dump.
  * Returns PIE_FLIGHT_DONE or PIE_FLIGHT_STOPPED; PIE_FLIGHT_BROKEN as pie_flight_dump; PIE_FLIGHT_GONE if the excerpt cannot start yet: call
  * again later. */
 static inline int pie_flight_follow_text(struct pie_flight_follower *follower, void *scratch, pie_flight_write write, void *user) {

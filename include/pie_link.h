@@ -16,8 +16,8 @@
  *
  * Proved, for all interleavings of any number of threads: while no port has the turn, all events of the link form one history. It
  * contains the calls of each port exactly once and in the port's order, and every result is RFC 8033's at its place. A bounded link
- * (PIE_BOUNDED) loses no event. A rolling link (PIE_ROLLING, the default) discards its oldest event when its log is full; the number
- * that pie_link_fold returns shows the gap. The proof covers the calls with `try` in their name, the calls for excerpts, and the calls
+ * (PIE_BOUNDED) loses no event. A rolling link (PIE_ROLLING, the default) discards its oldest event when its log is full; `last` of pie_link_fold
+ * shows the gap. The proof covers the calls with `try` in their name, the calls for excerpts, and the calls
  * whose name ends in `port` or `ports`, with the fields of events and the text of excerpts. The inline functions of this header are
  * tested, not proved. It is not proved that a waiting call returns.
  *
@@ -39,8 +39,8 @@
  *   call exec.
  * - Asynchronous cancellation (PTHREAD_CANCEL_ASYNCHRONOUS), and longjmp out of a handler that interrupted a call: the link may stay
  *   busy for ever. No call is a cancellation point, so deferred cancellation is safe.
- * - Real-time priorities: a waiting thread keeps its processor for about 500 rounds before it sleeps, and the thread that has the turn
- *   inherits no priority. Give all threads of a link the same priority, or use `try` calls in those with a higher one.
+ * - Real-time priorities: for about 500 rounds before it sleeps, a waiting thread yields to no thread of lower priority, and the thread that has the
+ *   turn inherits no priority. Give all threads of a link the same priority, or use `try` calls in those with a higher one.
  * - Moments: a moment below an earlier one counts as the greatest so far. If the clock of one caller is ahead, the updates of the
  *   others are too soon for that time. Use one clock that never goes back, such as CLOCK_MONOTONIC, for all callers.
  * - Bursts read the kind of each event. Before you reuse the event of an update, set its kind to 0; otherwise it is an update again.
@@ -165,7 +165,7 @@ static inline void pie_link_default_opening(struct pie_opening *opening, uint64_
  * Returns PIE_DONE.
  * Errors, in this order: PIE_OPEN, those of pie_open, PIE_NO_CALLERS, PIE_NO_MEMORY. The port is then unchanged.
  * Notes: the link takes about 72 bytes for each of `packets` and 128 bytes for each of `packets` or `tail`, whichever is more: 209.7 MB
- * with the 2^20 packets of pie_default_opening. One event in that many copies the queued packets, 24 bytes each. */
+ * with the 2^20 packets of pie_default_opening. One event in each such number of events copies the queued packets, 24 bytes each. */
 static inline uint32_t pie_link_open(const struct pie_opening *opening, uint16_t callers, struct pie_port *port) {
     uint32_t code = pie_link_open_port(opening, callers, port);
     if (code != PIE_DONE)

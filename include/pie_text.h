@@ -24,7 +24,7 @@ extern "C" {
 /* The progress of a history that is being written. Initialize it with {0}, then call pie_text_opening. */
 struct pie_history {
     uint64_t records; /* records written so far */
-    uint64_t untold;  /* refused calls whose code histories do not contain */
+    uint64_t untold;  /* refused calls whose code pie_write_refused does not write */
     uint64_t lost;    /* events that are missing */
 };
 
@@ -45,8 +45,8 @@ static inline size_t pie_text_clock(struct pie_history *text, uint64_t moment, u
 }
 
 /* Writes the record of an event; `params` are the parameters of an event of kind PIE_EVENT_PARAMS. `room` is at least PIE_RECORD_ROOM.
- * Returns the number of bytes; 0 for a refusal whose code histories do not contain.
- * Notes: an event that cannot be written is reported as a missing one, by a `lost` record. */
+ * Returns the number of bytes; 0 for a refusal whose code pie_write_refused does not write.
+ * Notes: an event that cannot be written is reported as a missing one, by a line `lost,1`. */
 static inline size_t pie_text_event(struct pie_history *text, const struct pie_event *event, const struct pie_params *params,
                                     unsigned char *out, size_t room) {
     size_t count;

@@ -31,7 +31,7 @@ static const char usage[] =
     "  list     Print the records of this network namespace: number, device, handle, parent, events so far, file\n"
     "  dump     Write the last events as an excerpt that `pie audit` and `pie explain` read\n"
     "  follow   Write a history from the last snapshot on, of a new queue from its opening on, until the queue is removed or a signal\n"
-    "           ends it. If events were overwritten before they were read, a record `lost,N` says how many, and an excerpt follows\n"
+    "           ends it. If events were overwritten before they were read, a line `lost,N` has their number, and an excerpt follows\n"
     "  record   Decide each event again, and write a CSV record for each period of EVERY (1s), as `pie explain --every EVERY --csv\n"
     "           --wall` does. Standard error names an event that was decided differently, and the status is 2\n"
     "\n"

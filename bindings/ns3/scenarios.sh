@@ -12,7 +12,7 @@
 #   SCENARIO   one scenario alone, such as '4 40 0 0' below
 set -eu
 if [ $# -lt 1 ] || [ "$1" = --help ]; then
-    sed -n '2,10s/^# //p' "$0"
+    sed -n '2,12s/^# //p' "$0"
     exit 1
 fi
 here=$(cd "$(dirname "$0")" && pwd)

@@ -13,7 +13,7 @@ rose by more than its bound of --worse; otherwise 0."""
 
 
 def arguments(words):
-    parser = argparse.ArgumentParser(prog="pie-fleet", description=__doc__, epilog=HELP)
+    parser = argparse.ArgumentParser(prog="python3 -m pie_fleet", description=__doc__, epilog=HELP)
     parser.add_argument("histories", nargs="*", metavar="PATTERN", help="histories on storage that all workers see, as shell patterns ('**' too)")
     parser.add_argument("--list", metavar="FILE", help="a file with histories that only one machine has, as lines 'host: path'")
     parser.add_argument("--scheduler", metavar="ADDRESS", help="the Dask scheduler, such as tcp://10.0.0.1:8786 (default: run in this process)")

@@ -33,7 +33,7 @@ pub struct Packet {
 #[repr(transparent)]
 pub struct Event(RawEvent);
 
-/// New parameters: an event with these.
+/// An event that sets parameters, with these parameters.
 #[derive(Clone, Copy, Debug, PartialEq, Eq, Hash)]
 pub struct ParamsEvent {
     event: Event,

@@ -91,7 +91,7 @@ impl Drop for Port {
 /// The result of an update at a link.
 #[derive(Clone, Copy, Debug, PartialEq, Eq, Hash)]
 pub struct LinkUpdated {
-    /// The queueing delay that it took, in ns (section 5.2); 0 while the controller is inactive.
+    /// The queueing delay that it used, in ns (section 5.2); 0 while the controller is inactive.
     pub delay: u64,
     /// The probability after it.
     pub prob: u64,
@@ -154,7 +154,7 @@ pub struct Folds {
 /// let written = 0; // the number of the last event that this thread has written
 /// let folds = port.fold()?;
 /// assert_eq!((folds.first_number(), folds.last_number()), (4, 5));
-/// assert_eq!(folds.first_number() - 1 - written, 3); // events that no fold handed out
+/// assert_eq!(folds.first_number() - 1 - written, 3); // events that no fold returned
 /// # Ok(())
 /// # }
 /// ```
@@ -320,7 +320,7 @@ impl Port {
         packet_of(code, &event)
     }
 
-    /// Computes the probability anew.
+    /// Updates probability and burst allowance.
     ///
     /// # Errors
     /// In this order: `Busy`; `Refused` by `Moment`; `TooSoon`, `Exhausted`, `Full`.

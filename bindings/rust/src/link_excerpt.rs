@@ -28,8 +28,8 @@ impl Drop for Excerpt {
 }
 
 impl Excerpt {
-    /// Takes memory for the excerpts of every link with this opening: 24 bytes for each of its `packets`, and 128 for each of `packets` or of
-    /// `tail`, the greater of the two. It is an excerpt of no events.
+    /// Allocates memory for excerpts of every link with this opening: 24 bytes for each of its `packets`, and 128 for each of `packets` or `tail`,
+    /// whichever is more. The excerpt then contains no event.
     ///
     /// # Errors
     /// Those of [`State::open`](crate::State::open), then `NoMemory`.
@@ -41,7 +41,7 @@ impl Excerpt {
         Ok(excerpt)
     }
 
-    /// Writes the records of its text that were not written since it was filled.
+    /// Writes the records of its text that were not written since the last [`Port::try_excerpt`].
     ///
     /// # Errors
     /// Those of the writer; the record that it refused is not written again.

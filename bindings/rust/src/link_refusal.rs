@@ -15,17 +15,17 @@ pub enum LinkRefusal {
     TooSoon,
     /// The number of events is at the limit of the opening.
     Exhausted,
-    /// The event log of a link that lets none go ([`Mode::Bounded`](crate::Mode::Bounded)) is full: fold some.
+    /// The event log of a bounded link ([`Mode::Bounded`](crate::Mode::Bounded)) is full: fold some events.
     Full,
     /// A fold of an empty log.
     NoEvent,
-    /// There was no memory.
+    /// Out of memory.
     NoMemory,
     /// A link for no callers.
     NoCallers,
-    /// A port that has one caller's number has none to share.
+    /// The port has only one caller number.
     OneNumber,
-    /// An excerpt with less room than those of the link may need.
+    /// The excerpt has less room than an excerpt of this link may need.
     TooSmall,
     /// An error that the calls of a [`State`](crate::State) return too.
     Refused(Refusal),

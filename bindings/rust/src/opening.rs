@@ -6,14 +6,14 @@ use crate::{Choices, Params, Profile};
 /// Behavior of a full event log.
 #[derive(Clone, Copy, Debug, PartialEq, Eq, Hash)]
 pub enum Mode {
-    /// It takes no event more.
+    /// It refuses further events.
     Bounded = 0,
-    /// Its oldest event goes.
+    /// It discards its oldest event.
     Rolling = 1,
 }
 
-/// The configuration of a new controller. The last four fields do not affect decisions. They are written to the first record of
-/// the history and bound the memory of a replay. The defaults of [`Opening::for_rate`] are in parentheses.
+/// The configuration of a new controller. The last four fields do not affect the decisions of a [`State`](crate::State). They are written to the
+/// first record of the history, bound the memory of a replay, and limit a `Link`. The defaults of [`Opening::for_rate`] are in parentheses.
 ///
 /// ```
 /// use juniperbowls::{Choices, Opening, Profile, State};

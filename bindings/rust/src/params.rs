@@ -106,8 +106,8 @@ impl Params {
         dq_threshold: 0,
     };
 
-    /// Returns the default parameters for a link of this rate, in bits per second. `limit_bytes` is at least 200 ms at that rate, up to
-    /// 42.9 Gbit/s, the end of its range; at 100 Gbit/s it is 86 ms.
+    /// Returns the default parameters for a link of this rate, in bits per second. `limit_bytes` is 200 ms at that rate, but at least its default and
+    /// at most 2^30: 86 ms at 100 Gbit/s.
     #[must_use]
     pub fn for_rate(rate: u64) -> Params {
         let mut params = Params::UNSET;

@@ -20,13 +20,13 @@ pub enum Refusal {
     },
     /// This parameter is out of its range, and those before it are not.
     Params(Parameter),
-    /// A state that these calls did not leave: a field was written to. Open anew.
+    /// A state that is not valid, because the caller changed it. Open anew.
     State,
     /// More than 2^30 bytes in the queue.
     Queue,
     /// A packet that arrived later than the state's moment.
     Arrived,
-    /// A departure by `depart` where delays come from time stamps: `depart_waited` says when the packet arrived.
+    /// A call of `depart` with `delay_stamp` set, which needs `depart_waited`.
     NotWaited,
     /// The `packets`, `tail` or `events` of an opening out of their ranges.
     Limits,

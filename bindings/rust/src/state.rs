@@ -7,7 +7,7 @@ use crate::library::{
 use crate::refusal::{done, done_with, refusal};
 use crate::{Opening, Params, Refusal};
 
-/// The controller's state. Its fields are there to be read; one that was written to may be refused, as [`State::check`] says.
+/// The controller's state. Read its fields, but write none: a changed state may be refused ([`State::check`]).
 #[repr(C)]
 #[derive(Clone, Copy, Debug, PartialEq, Eq, Hash)]
 pub struct State {
@@ -31,7 +31,7 @@ pub struct State {
     pub measuring: u64,
     /// Moment at which the cycle began; 0 if none is open.
     pub cycle_start: u64,
-    /// The bytes that it counted, below `dq_threshold`, 0 with none.
+    /// Bytes that departed in the cycle, below `dq_threshold`; 0 if none is open.
     pub cycle_count: u64,
     /// The number of the [`Profile`].
     pub profile: u64,
@@ -39,7 +39,7 @@ pub struct State {
     pub active: u64,
     /// The flags of the [`Choices`], at most 31.
     pub choices: u64,
-    /// Waiting time of the packet that departed last, at most 2^40 ns; 0 if delays are not measured by time stamps.
+    /// Waiting time of the packet that departed last, at most 2^40 ns; 0 if it left the queue empty, and without `delay_stamp`.
     pub waited: u64,
 }
 
@@ -51,11 +51,11 @@ pub struct Choices {
     pub delay_stamp: bool,
     /// Packets are picked by the random word alone, not de-randomized (section 5.4).
     pub pick_random: bool,
-    /// An update raises the probability as far as the control law says (section 5.5).
+    /// The step of the probability at an update is not capped (section 5.5).
     pub step_uncapped: bool,
     /// A packet below `mean_pkt` is picked less often, in proportion to its size.
     pub size_scaled: bool,
-    /// The probability decays where this delay and the one before are below half the target, not where both are 0 (section 4.2).
+    /// The probability decays if this delay and the last one are below half the target (appendix B), not only if both are 0.
     pub decay_half: bool,
 }
 
@@ -146,7 +146,7 @@ impl Verdict {
 pub struct Updated {
     /// The moment from which the next update is not too soon.
     pub due: u64,
-    /// The queueing delay that it took, in ns (section 5.2); 0 while the controller is inactive.
+    /// The queueing delay that it used, in ns (section 5.2); 0 while the controller is inactive.
     pub delay: u64,
     /// The probability after it.
     pub prob: u64,
@@ -206,7 +206,7 @@ impl State {
         Verdict::of(unsafe { pie_arrive(self, queued, size, room, ecn as u32, word, moment) })
     }
 
-    /// Adds the departure of a packet of this size, with `left` bytes in the queue after it (section 5.2), if delays come from the departure rate.
+    /// Records the departure of a packet of this size, with `left` bytes in the queue after it (section 5.2), if delays come from the departure rate.
     /// With the default choices call [`State::depart_waited`].
     ///
     /// # Errors
@@ -216,8 +216,8 @@ impl State {
         done(unsafe { pie_depart(self, size, left, moment) })
     }
 
-    /// Takes in that a packet of this size left the queue, with `left` bytes after it. `arrived` is the `moment` of this state right after the
-    /// packet's `arrive`. With time stamps the next update takes the packet's wait as the delay (section 4.3); else this is [`State::depart`].
+    /// Records that a packet of this size left the queue, with `left` bytes after it. `arrived` is the `moment` of this state right after the
+    /// packet's `arrive`. With time stamps the next update uses the packet's wait as the delay (section 4.3); otherwise this is [`State::depart`].
     ///
     /// # Errors
     /// In this order: `Moment`, `Size`, `Queue`, `Arrived`.
@@ -226,7 +226,7 @@ impl State {
         done(unsafe { pie_depart_waited(self, size, left, arrived, moment) })
     }
 
-    /// Takes in that a departure found the queue empty: its moment counts, and nothing else.
+    /// Records that a departure found the queue empty: advances the moment and changes nothing else.
     ///
     /// # Errors
     /// `Moment`.
@@ -235,8 +235,8 @@ impl State {
         done(unsafe { pie_empty(self, moment) })
     }
 
-    /// Makes an update, with `queued` bytes in the queue (sections 4.2, 4.4 and 5.5). Call it when [`State::due`] has come, or soon
-    /// after; those that were missed are not made up for.
+    /// Makes an update, with `queued` bytes in the queue (sections 4.2, 4.4 and 5.5). Call it at the moment [`State::due`], or soon after. Missed
+    /// updates are not repeated.
     ///
     /// # Errors
     /// In this order: `State`, `Moment`, `Queue`, `TooSoon`.
@@ -263,7 +263,7 @@ impl State {
         done(unsafe { pie_reset(self, moment) })
     }
 
-    /// Puts new parameters in force and clears the rate estimate; the other registers stay.
+    /// Sets new parameters and clears the rate estimate. The other registers are unchanged.
     ///
     /// # Errors
     /// In this order: `State`, `Params`, `Moment`.

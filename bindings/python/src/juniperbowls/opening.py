@@ -121,19 +121,19 @@ class Params:
 
 @dataclass(frozen=True)
 class Opening:
-    """The configuration of a controller. The last four fields do not affect decisions; they are written to the
-    history and bound the memory of a replay."""
+    """The configuration of a controller. The last four fields do not affect the decisions of a `Controller`; they are written to the history, bound
+    the memory of a replay, and limit a `Queue`."""
     params: Params
-    #: of the opening, in ns
+    #: moment of the opening, in ns
     moment: int
     profile: Profile
     choices: Choices
     mode: Mode
-    #: that the queue holds at most
+    #: capacity of the queue in packets
     packets: int
-    #: events that the log holds
+    #: capacity of the event log in events
     tail: int
-    #: events that there may be in all
+    #: the most events of the history
     events: int
 
     @classmethod

@@ -205,8 +205,8 @@ class Queue(StateOwner):
     def decide(self, asked: Events, keeps_refused: bool = False) -> Events:
         """Decides events (made by `events`) in order and returns them with their results: departures with the
         packet that left, or answer 5 if the queue was empty. At the first error `Refused` has its `index`, and
-        `events` has the earlier events with their results. With `keeps_refused` the event's `answer` is above 100,
-        and the next event is decided."""
+        `events` has the earlier events with their results. With `keeps_refused` a refused event has an `answer` above 100, and the next event is
+        decided."""
         made = np.array(asked, dtype=EVENT, ndmin=1)
         strange = np.flatnonzero((made["kind"] < Kind.ARRIVE) | (made["kind"] > Kind.RESET))
         if len(strange):
@@ -224,8 +224,8 @@ class Queue(StateOwner):
 
     def offer(self, moments: npt.ArrayLike, sizes: npt.ArrayLike, rate: int | str, *, ecn: npt.ArrayLike = Ecn.NOT,
               words: npt.ArrayLike | None = None, tags: npt.ArrayLike | None = None, until: int | str = 0, caller: int = 1) -> Events:
-        """Passes packets with these arrival moments through a link of this rate, which takes the oldest packet as
-        soon as it is free; updates are made when they are due. Returns all events in order: arrivals, departures by
+        """Passes packets with these arrival moments through a link of this rate, which takes the oldest packet as soon as the link is free; updates
+        are made when they are due. Returns all events in order: arrivals, departures by
         caller 2, updates by caller 3. After the last arrival the link continues to the moment `until`; a later call
         continues from there. In a pause each due update is made; more than 2^26 of them raise `ValueError`, and
         nothing is decided. At an arrival with an error `Refused` has its `index`, and `events` has all events

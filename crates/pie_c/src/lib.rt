@@ -8,7 +8,7 @@
 //! - Clause `fields` (specs/Calls.antt): the state after a call for a packet, for any state before. Clause `after`: the
 //!   state after it for a sound state, and after any other call for every state.
 //! - Clause `sound`: a sound state stays sound, so a state from `pie_open` is never refused.
-//! - Clause `shows`: if a state represents the events since the opening, it then represents them with this call added.
+//! - Clause `represents`: if a state represents the events since the opening, it then represents them with this call added.
 //!
 //! The rules are pie_aqm's, none of them is here: a call reads the numbers into a `RawController`, executes its step,
 //! and writes the changed numbers back. The calls that read a text with a unit are pie_units's and use no state.

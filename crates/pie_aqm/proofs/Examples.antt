@@ -3,7 +3,7 @@
 use Rattle.std.specs.Prelude.{◌≡◌, refl, ⊤, ℕ, ◌+◌, ◌^◌, List, [], ◌∷◌, ◌++◌, map, Bool, true, false, Some, None}
 use Rattle.pie_aqm.specs.{RawParams, Elements, Stamp, Two, ArrivingPacket, ControllerEvent, Estimate, Parts, Call, Arrive, Depart, Advance, Update}
 use Rattle.pie_aqm.specs.{Restart, Change, after_call, event_of_call, opened, no_estimate, delay_answered, cause, with_count}
-use Rattle.pie_aqm.specs.{count_kept_open, is_unmeasured, first_unsound, state_of, now_of, params_of, active_of, departure_inputs, update_inputs}
+use Rattle.pie_aqm.specs.{count_kept_open, is_between_cycles, first_unsound, state_of, now_of, params_of, active_of, departure_inputs, update_inputs}
 use Rattle.pie_aqm.specs.{arrival_inputs, departures_of, waited_of, waited_at_end, delay_at_end, control_of, early_of, is_active, activity_events, activity_events_after}
 use Rattle.pie_aqm.specs.{places, greatest, last_or, verdict, accu_left}
 use Rattle.pie_aqm.specs.ControllerState.{ControllerState}
@@ -25,7 +25,7 @@ unfoldable pub worked : Type 0
 unfolding state_of now_of params_of active_of departure_inputs update_inputs arrival_inputs departures_of waited_of waited_at_end delay_at_end control_of
     early_of is_active activity_events activity_events_after places greatest last_or average samples begun cycles cycles_from first_position first_opening first_closing
     first_cycle delay_of probability last_delay last_moment granted_burst burst_allowance next raw_step tuning_divisor tuned_step decayed verdict
-    accu_left is_considered is_picked accumulated cause early_cause considered_cause count_kept_open is_unmeasured first_unsound
+    accu_left is_considered is_picked accumulated cause early_cause considered_cause count_kept_open is_between_cycles first_unsound
 worked = ⊤
 
 -- parameters where 3000 bytes are a third of the limit, half the target is 2 nanoseconds, and one update uses up the
@@ -129,7 +129,7 @@ cycling active = rated 8 active (measured 1000 2 24) (parts 0 0 1 8)
 asked : (map (λ active. delay_answered (cycling active) 2048) (true ∷ false ∷ []) ≡ 2000 ∷ 0 ∷ [])
     × (map (count_kept_open (cycling true)) (999 ∷ 1000 ∷ []) ≡ Some 1023 ∷ None ∷ [])
     × (with_count (cycling true) 1023 9 ≡ rated 9 true (measured 1000 2 1023) (parts 0 0 1 8))
-    × (map (is_unmeasured (rated 8 true no_estimate (parts 0 0 1 8))) (1023 ∷ 1024 ∷ []) ≡ true ∷ false ∷ [])
+    × (map (is_between_cycles (rated 8 true no_estimate (parts 0 0 1 8))) (1023 ∷ 1024 ∷ []) ≡ true ∷ false ∷ [])
 unfolding worked
 asked = (refl, refl, refl, refl)
 

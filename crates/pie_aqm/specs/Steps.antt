@@ -170,9 +170,9 @@ with_count h count moment = record h {
   rate = record h.rate { begun = option_map (counting count) h.rate.begun };
 }
 
--- true if a departure meets no open cycle and opens none
-unfoldable pub is_unmeasured : ControllerState → ℕ → Bool
-is_unmeasured h left =
+-- true if departures are measured, no cycle is open, and a departure that leaves this many bytes opens none
+unfoldable pub is_between_cycles : ControllerState → ℕ → Bool
+is_between_cycles h left =
     measures h.active h.elements.delay && is_none h.rate.begun && nat_lt left (min h.params.dq_threshold 65536)
 
 -- the state after a departure that found no packet

@@ -157,7 +157,7 @@ impl Controller {
     }
 
     /// Returns the queueing delay of `queued` bytes, in nanoseconds: at most `2^40` (RFC 8033, section 5.2). With time
-    /// stamps it is the time that the last departed packet spent in the queue, for any `queued` (section 4.3).
+    /// stamps it is the time that the last departed packet spent in the queue, or 0 if it left the queue empty, for any `queued` (section 4.3).
     pub fn delay(&self, queued: u64) -> u64
         requires { queued ≤ 2 ^ 30 }
         ensures value { result ≡ delay_in self.now queued }

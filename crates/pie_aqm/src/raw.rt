@@ -2,7 +2,7 @@
 ghost use Rattle.std.specs.Prelude.{◌≡◌, ◌+◌, ◌^◌, ◌<◌, ◌≤◌, ℕ, IfSome, max, min, true, false};
 ghost use Rattle.pie_event.specs.Cause.{verdict_named, verdict_of};
 ghost use Rattle.pie_aqm.specs.{IsSound, accu_left, anew, arrived, capped, cause, changed, count_kept_open, delay_answered, delay_in, departed, due};
-ghost use Rattle.pie_aqm.specs.{is_too_soon, is_unmeasured, measures, opened, opens_active, advanced, reset, updated, verdict, wait_of, with_count};
+ghost use Rattle.pie_aqm.specs.{is_too_soon, is_between_cycles, measures, opened, opens_active, advanced, reset, updated, verdict, wait_of, with_count};
 ghost use Rattle.pie_event.specs.CauseName.{name_of};
 ghost use Rattle.pie_event.specs.Verdict.{is_queued};
 
@@ -33,8 +33,9 @@ pub struct RawController {
     pub active: bool,
     /// The estimate of the departure rate.
     pub rate: RawRate,
-    /// The time that the last departed packet spent in the queue, in nanoseconds; 0 unless the delay comes from time
-    /// stamps (RFC 8033, section 4.3).
+    /// If the delay comes from time stamps, the time that the last packet spent in the queue that departed while the
+    /// controller was active, in nanoseconds: at most `2^40`; 0 if it left the queue empty, and after a reset.
+    /// Otherwise 0 (RFC 8033, section 4.3).
     pub waited: u64,
     /// The state of the control law.
     pub control: RawControl,
@@ -280,12 +281,12 @@ impl RawController {
         cycle.counted(size, self.threshold())
     }
 
-    /// Returns true if a departure that leaves `left` bytes meets no open cycle of the departure rate and opens none.
-    /// Then [`depart`](RawController::depart) changes only the moment.
+    /// Returns true if departures are measured, no cycle of the departure rate is open, and a departure that leaves
+    /// `left` bytes opens none. Then [`depart`](RawController::depart) changes only the moment.
     #[inline(always)]
-    #[tactic(auto, using(std::proofs::lemmas::Bool::Decides::nat_tests), unfolding(crate::specs::Steps::is_unmeasured))]
-    pub fn is_unmeasured(&self, left: u64) -> bool
-        ensures value { result ≡ is_unmeasured self.now left }
+    #[tactic(auto, using(std::proofs::lemmas::Bool::Decides::nat_tests), unfolding(crate::specs::Steps::is_between_cycles))]
+    pub fn is_between_cycles(&self, left: u64) -> bool
+        ensures value { result ≡ is_between_cycles self.now left }
         ensures alone { (size since moment : ℕ) → result ≡ true
             → departed (capped self.now) size left since moment ≡ advanced (capped self.now) moment }
     {

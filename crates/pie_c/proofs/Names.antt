@@ -11,7 +11,7 @@ pub use Rattle.std.proofs.Common.{true, ℕ, ◌++◌, ◌<◌, ◌==◌, ◌^�
 pub use Rattle.std.proofs.lemmas.Bool.{eqb-true}
 pub use Rattle.std.proofs.lemmas.Bool.Decides.{nat_tests}
 pub use Rattle.pie_aqm.specs.Steps.{advanced, with_count}
-unfoldable pub use Rattle.pie_aqm.specs.Steps.{accu_left, count_kept_open, is_unmeasured}
+unfoldable pub use Rattle.pie_aqm.specs.Steps.{accu_left, count_kept_open, is_between_cycles}
 pub use Rattle.pie_aqm.specs.declared.verdict.ArrivingPacket.{ArrivingPacket}
 unfoldable pub use Rattle.pie_book.specs.History.{waiting_after}
 pub use Rattle.pie_event.specs.CauseName.{name_of}

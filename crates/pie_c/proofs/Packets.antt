@@ -4,7 +4,7 @@ use Rattle.pie_c.specs.{Arrive, Call, Change, IsTaken, Advance, Restart, after_c
 use Rattle.pie_c.specs.{Makes, Advances, Steps, params_refusal, KeepsSound, LooksBack}
 use Rattle.pie_c.proofs.Names.{reset_refusal, ◌≡◌, ℕ, ◌≤◌, ◌<◌, ◌^◌, ◌==◌, if◌then◌else◌, nat_lt, Bool, true, false, List, [], ◌∷◌, Some, ◌++◌}
 use Rattle.pie_c.proofs.Names.{arith, refl, ◌∙◌, eqb-true, nat_tests, ArrivingPacket, Verdict, Depart, RawParams, first_bad, ControllerState, accu_left}
-use Rattle.pie_c.proofs.Names.{arrived, capped, count_kept_open, departed, is_unmeasured, cause, opened, advanced, verdict, with_count, name_of}
+use Rattle.pie_c.proofs.Names.{arrived, capped, count_kept_open, departed, is_between_cycles, cause, opened, advanced, verdict, with_count, name_of}
 use Rattle.pie_c.proofs.Names.{CauseName, RawParams, PieState, is_bad_size, departure_refusal, waited_refusal, moment_refusal, if_taken}
 use Rattle.pie_c.proofs.Names.{packet_refusal, unless_refused, PieOpening, Opening, opening_of, opening_refusal, opening_state}
 use Rattle.pie_c.proofs.Names.{elements_of, last_moment, controller_state, is_sound, state_of, takes_stamps, are_in_range, with_arrival, with_departure}
@@ -136,16 +136,16 @@ unfolding controller_state count_kept_open elements_of
 counted-state s h size left moment count is kept alone = grind (arith, nat_tests)
 
 -- a departure that meets no open cycle and opens none is accepted, and changes only the moment
-pub unmeasured-taken : (s : PieState) (h : ControllerState) (size left moment : ℕ) → h ≡ controller_state s → is_unmeasured h left ≡ true → moment ≤ last_moment
+pub unmeasured-taken : (s : PieState) (h : ControllerState) (size left moment : ℕ) → h ≡ controller_state s → is_between_cycles h left ≡ true → moment ≤ last_moment
     → is_bad_size size ≡ false → departure_refusal s size left moment ≡ 0
-unfolding controller_state is_unmeasured elements_of packet_refusal
+unfolding controller_state is_between_cycles elements_of packet_refusal
 unmeasured-taken s h size left moment is none m good = grind (arith, nat_tests)
 
-pub unmeasured-state : (s : PieState) (h : ControllerState) (size left moment : ℕ) → h ≡ controller_state s → is_unmeasured h left ≡ true
+pub unmeasured-state : (s : PieState) (h : ControllerState) (size left moment : ℕ) → h ≡ controller_state s → is_between_cycles h left ≡ true
     → departed (capped h) size left 0 moment ≡ advanced (capped h) moment
     → record s { moment = max s.moment moment; measuring = 0; cycle_start = 0; cycle_count = 0 }
     ≡ with_rate s (departed (capped (controller_state s)) size left 0 moment)
-unfolding controller_state is_unmeasured elements_of
+unfolding controller_state is_between_cycles elements_of
 unmeasured-state s h size left moment is none alone = grind (arith, nat_tests)
 
 pub passes : KeepsSound → LooksBack → (s t : PieState) (moment : ℕ)

@@ -183,7 +183,7 @@ fn depart_unmeasured(state: &mut PieState, size: u32, left: u64, moment: u64) ->
     ensures taken { result ≡ true → departure_refusal state.old size left moment ≡ 0 }
     ensures after { state.new ≡ (if result then with_rate state.old (departed (capped (controller_state state.old)) size left 0 moment) else state.old) }
 {
-    if moment > MAX_NANOS || is_bad_size(size) || !raw(state).is_unmeasured(left) {
+    if moment > MAX_NANOS || is_bad_size(size) || !raw(state).is_between_cycles(left) {
         return false;
     }
     state.keep_unmeasured(moment);

@@ -22,8 +22,8 @@ pub enum End {
     CannotStart,
     /// The output file can't be created, or can't be moved onto its name. Each file is unchanged.
     NoOutputFile,
-    /// The options select nothing that exists, or one of several files has a fault. The error stream has a line for
-    /// it.
+    /// The command line is wrong, its options are not valid or select nothing that exists, or one of several files
+    /// could not be audited. The error stream has a line for it.
     Failed,
 }
 
@@ -112,7 +112,7 @@ pub(crate) fn end_unable<E: Write, D: Display + Drop>(errors: &mut E, text: D) -
     End::CannotStart
 }
 
-/// Returns the end for a request that selects nothing, and writes its line to `errors`.
+/// Returns `Failed`, and writes its line to `errors`.
 pub(crate) fn end_failed<E: Write, D: Display + Drop>(errors: &mut E, text: D) -> End
     ensures { result ≡ End.Failed }
 {

@@ -1,14 +1,14 @@
 -- Examples of the definitions: each theorem computes. bindings/c/rows.c has rows for the bounds of considered, picked
 -- and marked arrivals.
 use Rattle.pie_early.proofs.Names.{Elements, Random, Parts, Ecn, Offered, Enqueue, Drop, a_fifth, accu_after}
-use Rattle.pie_early.proofs.Names.{always_picked, choice_of, is_considered, is_picked, never_picked, arrival, accumulated}
+use Rattle.pie_early.proofs.Names.{always_picked, choice_of, is_considered, is_picked, no_pick_below, arrival, accumulated}
 use Rattle.std.specs.Prelude.{◌≡◌, ℕ, ◌^◌, ◌*◌, ◌-◌, true, [], ◌∷◌, map, refl}
 use Rattle.pie_fixed.specs.declared.TheConstants.{ALWAYS_PICKED, ONE}
 use Rattle.pie_params.specs.Profile.{default_profile}
 use Rattle.pie_params.specs.declared.elements.Size.TheVariants.{Unscaled, Scaled}
 use Rattle.pie_params.specs.Elements.{usual}
 use Rattle.pie_queue.specs.declared.ecn.Ecn.TheVariants.{NotEct, Ect0}
-use Rattle.pie_early.specs.declared.early.TheConstants.{LOW_PROB, NEVER_PICKED}
+use Rattle.pie_early.specs.declared.early.TheConstants.{LOW_PROB, NO_PICK_BELOW}
 use Rattle.pie_early.specs.Decision.{effective_prob}
 
 -- the bounds in the definitions and in the code: 0.2, 0.85 and 8.5
@@ -18,7 +18,7 @@ one = refl
 fifth : (a_fifth * 5 ≡ ONE) × (LOW_PROB ≡ a_fifth)
 fifth = (refl, refl)
 
-never : (never_picked * 100 ≡ 85 * ONE) × (NEVER_PICKED ≡ never_picked)
+never : (no_pick_below * 100 ≡ 85 * ONE) × (NO_PICK_BELOW ≡ no_pick_below)
 never = (refl, refl)
 
 always : (always_picked * 10 ≡ 85 * ONE) × (ALWAYS_PICKED ≡ always_picked)

@@ -87,7 +87,7 @@ unfolding is_considered is_picked
 picked_facts picking params control prob bytes word accu e = record {
   no_burst = grind (arith, nat_tests);
   above_two_packets = grind (arith, nat_tests);
-  not_calm = grind (arith, nat_tests);
+  not_low_delay = grind (arith, nat_tests);
   some_prob = grind (arith, nat_tests);
   enough = λ on. grind (arith, nat_tests);
   by_sum_or_word = grind (arith, nat_tests);
@@ -98,7 +98,7 @@ picked_from : (picking : Picking) (params : RawParams) (control : Parts) (prob b
     → (is_considered params control bytes && is_picked picking prob (accu + prob) word) ≡ true
 unfolding is_considered is_picked
 picked_from picking params control prob bytes word accu p =
-    let enough = p.enough in grind (arith, nat_tests, p.no_burst, p.above_two_packets, p.not_calm, p.some_prob, p.by_sum_or_word)
+    let enough = p.enough in grind (arith, nat_tests, p.no_burst, p.above_two_packets, p.not_low_delay, p.some_prob, p.by_sum_or_word)
 
 -- the choice is a pick exactly if the packet is picked
 pub is_pick-at : (params : RawParams) (prob : ℕ) (ecn : Ecn) (b : Bool) → is_pick (cond b (picked_choice params prob ecn) Enqueue) ≡ b

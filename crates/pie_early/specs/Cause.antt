@@ -15,7 +15,7 @@ use Rattle.pie_event.specs.declared.cause.Cause.TheVariants.{NoProbability, Litt
 use Rattle.pie_event.specs.declared.cause.Fate.{Fate}
 use Rattle.pie_event.specs.declared.cause.Fate.TheVariants.{Marked, NotCapable, NotBelow}
 use Rattle.pie_early.specs.declared.decision.Offered.{Offered}
-use Rattle.pie_early.specs.Decision.{a_fifth, always_picked, effective_prob_of, is_below, never_picked}
+use Rattle.pie_early.specs.Decision.{a_fifth, always_picked, effective_prob_of, is_below, no_pick_below}
 
 -- the reason why a picked packet is marked or dropped
 abbrev pub fate_of : RawParams → ℕ → Ecn → Fate
@@ -30,7 +30,7 @@ fate_of params prob ecn =
 unfoldable pub considered_cause : Picking → ℕ → ℕ → Fate → ℕ → Cause
 considered_cause picking prob accu fate word =
     if prob == 0 then NoProbability
-    else if accumulates picking && nat_lt (accu + prob) never_picked then LittleAccumulated accu prob
+    else if accumulates picking && nat_lt (accu + prob) no_pick_below then LittleAccumulated accu prob
     else if accumulates picking && nat_le always_picked (accu + prob) then PickedBySum accu prob fate
     else if is_below word prob then PickedByWord accu prob word fate
     else WordNotBelow accu prob word

@@ -23,8 +23,8 @@ use Rattle.pie_event.specs.declared.verdict.Verdict.TheVariants.{Enqueued, Marke
 abbrev pub a_fifth : ℕ
 a_fifth = 200_000_000_000
 
-abbrev pub never_picked : ℕ
-never_picked = 850_000_000_000
+abbrev pub no_pick_below : ℕ
+no_pick_below = 850_000_000_000
 
 abbrev pub always_picked : ℕ
 always_picked = 8_500_000_000_000
@@ -51,7 +51,7 @@ is_below word prob = nat_lt (word * 10 ^ 12) (prob * 2 ^ 64)
 -- 0.85 and always picked if the sum is at least 8.5. Otherwise the random word decides
 unfoldable pub is_picked : Picking → ℕ → ℕ → ℕ → Bool
 is_picked Derandomized prob sum word =
-    not (prob == 0) && nat_le never_picked sum && (nat_le always_picked sum || is_below word prob)
+    not (prob == 0) && nat_le no_pick_below sum && (nat_le always_picked sum || is_below word prob)
 is_picked Random prob sum word = not (prob == 0) && is_below word prob
 
 -- the accumulated probability including this one
@@ -97,9 +97,9 @@ accu_after elements params control offered accu =
 pub record IsPicked (picking : Picking) (params : RawParams) (control : Parts) (prob bytes word accu : ℕ) : Type 0 where
   pub no_burst : control.burst ≡ 0
   pub above_two_packets : 2 * params.mean_pkt < bytes
-  pub not_calm : (params.target ≤ 2 * control.old_delay) ⊎ (a_fifth ≤ control.prob)
+  pub not_low_delay : (params.target ≤ 2 * control.old_delay) ⊎ (a_fifth ≤ control.prob)
   pub some_prob : 0 < prob
-  pub enough : accumulates picking ≡ true → never_picked ≤ accu + prob
+  pub enough : accumulates picking ≡ true → no_pick_below ≤ accu + prob
   pub by_sum_or_word : ((accumulates picking ≡ true) × (always_picked ≤ accu + prob)) ⊎ Picks prob word
 
 -- true for the choice of a picked packet

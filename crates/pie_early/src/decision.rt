@@ -5,7 +5,7 @@ ghost use Rattle.pie_event.specs.CauseName.{name_of};
 ghost use Rattle.pie_early.specs.Cause.{considered_cause, early_cause, fate_of};
 ghost use Rattle.pie_early.specs.Decision.{a_fifth, accu_after, choice_of, chosen, effective_prob, is_below, is_considered, is_picked, joined};
 
-use crate::early::{LOW_PROB, NEVER_PICKED};
+use crate::early::{LOW_PROB, NO_PICK_BELOW};
 use pie_control::RawControl;
 use pie_event::{Cause, CauseName, Fate};
 use pie_fixed::{ALWAYS_PICKED, picks};
@@ -54,8 +54,15 @@ pub fn decide(
     if let Some(name) = unconsidered(params, control, offered.bytes) {
         return Decision { name, accu };
     }
-    let prob = effective_prob(elements.size, params, offered.size, control.prob);
-    decide_considered(params, elements.picking, control.prob, offered, prob, accu)
+    let effective = effective_prob(elements.size, params, offered.size, control.prob);
+    decide_considered(
+        params,
+        elements.picking,
+        control.prob,
+        offered,
+        effective,
+        accu,
+    )
 }
 
 /// Returns the name of the reason why an arrival at `bytes` queued bytes is not considered, or `None` if it is
@@ -113,12 +120,13 @@ fn decide_considered(
             accu: 0,
         };
     }
+    // Without accumulation a sum between the two bounds stands for it, so that the word decides.
     let sum = match picking {
-        Picking::Random => Some(NEVER_PICKED),
+        Picking::Random => Some(NO_PICK_BELOW),
         Picking::Derandomized => accu.checked_add(effective),
     };
     match sum {
-        Some(sum) if sum < NEVER_PICKED => Decision {
+        Some(sum) if sum < NO_PICK_BELOW => Decision {
             name: CauseName::LittleAccumulated,
             accu: sum,
         },
@@ -255,24 +263,40 @@ fn considered_cause(
     ensures { result ≡ considered_cause elements.picking (effective_prob elements.size params.now offered.size control.now.prob) accu
         (fate_of params.now control.now.prob offered.ecn) offered.word }
 {
-    let prob = effective_prob(elements.size, params, offered.size, control.prob);
+    let effective = effective_prob(elements.size, params, offered.size, control.prob);
     let fate = fate_of(params, control.prob, offered.ecn);
-    match decide_considered(params, elements.picking, control.prob, offered, prob, accu).name {
-        CauseName::LittleAccumulated => Cause::LittleAccumulated { accu, prob },
+    match decide_considered(
+        params,
+        elements.picking,
+        control.prob,
+        offered,
+        effective,
+        accu,
+    )
+    .name
+    {
+        CauseName::LittleAccumulated => Cause::LittleAccumulated {
+            accu,
+            prob: effective,
+        },
         CauseName::PickedBySumMarked
         | CauseName::PickedBySumNotCapable
-        | CauseName::PickedBySumNotBelow => Cause::PickedBySum { accu, prob, fate },
+        | CauseName::PickedBySumNotBelow => Cause::PickedBySum {
+            accu,
+            prob: effective,
+            fate,
+        },
         CauseName::PickedByWordMarked
         | CauseName::PickedByWordNotCapable
         | CauseName::PickedByWordNotBelow => Cause::PickedByWord {
             accu,
-            prob,
+            prob: effective,
             word: offered.word,
             fate,
         },
         CauseName::WordNotBelow => Cause::WordNotBelow {
             accu,
-            prob,
+            prob: effective,
             word: offered.word,
         },
         _ => Cause::NoProbability,

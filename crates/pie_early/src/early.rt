@@ -17,7 +17,7 @@ use std::marker::Model;
 pub const LOW_PROB: u64 = 200_000_000_000;
 
 /// The accumulated probability 0.85, in units of `10^-12`. Below it no packet is picked (RFC 8033, section 5.4).
-pub const NEVER_PICKED: u64 = 850_000_000_000;
+pub const NO_PICK_BELOW: u64 = 850_000_000_000;
 
 /// The choice for an arriving packet that fits into the queue.
 #[derive(Clone, Copy, PartialEq, Eq)]

@@ -11,4 +11,4 @@ mod decision;
 mod early;
 
 pub use decision::{Decision, Offered, cause, decide};
-pub use early::{Choice, Early, LOW_PROB, NEVER_PICKED};
+pub use early::{Choice, Early, LOW_PROB, NO_PICK_BELOW};

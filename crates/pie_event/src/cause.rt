@@ -66,7 +66,7 @@ pub enum Cause {
     LittleAccumulated {
         /// The accumulated probability, without the current one.
         accu: u64,
-        /// The probability.
+        /// The effective probability: scaled by the packet's size if sizes are scaled.
         prob: u64,
     },
     /// Picked regardless of the random word: the accumulated probability, including the current one, is at least 8.5
@@ -74,7 +74,7 @@ pub enum Cause {
     PickedBySum {
         /// The accumulated probability, without the current one.
         accu: u64,
-        /// The probability.
+        /// The effective probability: scaled by the packet's size if sizes are scaled.
         prob: u64,
         /// The reason for the mark or drop.
         fate: Fate,
@@ -83,7 +83,7 @@ pub enum Cause {
     PickedByWord {
         /// The accumulated probability, without the current one.
         accu: u64,
-        /// The probability.
+        /// The effective probability: scaled by the packet's size if sizes are scaled.
         prob: u64,
         /// The random word.
         word: u64,
@@ -94,7 +94,7 @@ pub enum Cause {
     WordNotBelow {
         /// The accumulated probability, without the current one.
         accu: u64,
-        /// The probability.
+        /// The effective probability: scaled by the packet's size if sizes are scaled.
         prob: u64,
         /// The random word.
         word: u64,

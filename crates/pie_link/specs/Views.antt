@@ -1,6 +1,6 @@
 -- The views of a link and of its callers in contracts.
 use Rattle.std.specs.Prelude.{◌≡◌, List, Some, Result, Ok, Err}
-use Rattle.pie_lock.specs.Views.{LockView, PassView, HoldsAll}
+use Rattle.pie_lock.specs.Views.{LockView, PassView, HasAllNumbers}
 use Rattle.pie_lock.specs.Steps.{Extends}
 use Rattle.pie_link.specs.Names.{Opening, IsLegal, Entry, number_of, events_in}
 use Rattle.pie_link.specs.declared.call_result.Tried.{Tried}
@@ -24,7 +24,7 @@ HasSameNumbers before after = (after.lock ≡ before.lock) × (after.first ≡ b
 
 -- the link was busy: the caller is unchanged, and does not have all numbers of the link
 abbrev pub WasBusy : CallerView → CallerView → Type 0
-WasBusy before after = (after ≡ before) × (HoldsAll before → ⊥)
+WasBusy before after = (after ≡ before) × (HasAllNumbers before → ⊥)
 
 -- a history of one thread for a caller of a link with this opening: each command was accepted at its place with the
 -- answer that the rules give there; it begins with the caller's front, and has no further entry of the caller

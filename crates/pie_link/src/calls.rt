@@ -365,7 +365,7 @@ impl Link {
         result
     }
 
-    /// Fills `excerpt` as `excerpt` does. It never blocks.
+    /// Fills `excerpt` as [`Link::excerpt`] does. It never blocks.
     ///
     /// # Errors
     ///

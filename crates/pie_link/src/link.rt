@@ -35,7 +35,7 @@ impl Model for Link {
 
 impl Link {
     ghost use Rattle.pie_book.specs.Book.{BookRepresents};
-    ghost use Rattle.pie_lock.specs.Views.{HoldsAll};
+    ghost use Rattle.pie_lock.specs.Views.{HasAllNumbers};
     ghost use Rattle.pie_lock.specs.Promises.{first_pass, without_highest, highest_alone, IsBeside, IsBothOf};
     ghost use Rattle.pie_link.specs.Entries.{number_of};
     ghost use Rattle.pie_link.specs.Kept.{RepresentsEntries};
@@ -174,9 +174,9 @@ impl Link {
         requires own { caller.lock ≡ self }
         ensures opening { IfOk result (λ book. caller.lock.origin ≡ Some book.opening) }
         ensures kept { IfOk result (λ book. (history : List Entry) × IsHistoryFor book.opening caller history × RepresentsEntries book history) }
-        ensures alone { HoldsAll caller → IsOk result }
-        ensures same { HoldsAll caller → IfOk result (λ book. RepresentsEntries book caller.front) }
-        ensures numbered { HoldsAll caller → IfOk result (λ _. All (λ entry. number_of entry < caller.lock.numbers) caller.front) }
+        ensures alone { HasAllNumbers caller → IsOk result }
+        ensures same { HasAllNumbers caller → IfOk result (λ book. RepresentsEntries book caller.front) }
+        ensures numbered { HasAllNumbers caller → IfOk result (λ _. All (λ entry. number_of entry < caller.lock.numbers) caller.front) }
         ensures still_held { IfErr result (λ back. (back.0 ≡ self) × (back.1 ≡ caller)) }
     {
         let alloc = self.alloc;

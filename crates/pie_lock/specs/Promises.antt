@@ -1,6 +1,6 @@
 -- Promises of the lock's calls, over the views of passes and helds.
 use Rattle.std.specs.Prelude.{◌≡◌, ℕ, ◌-◌, ◌<◌, ◌⊎◌, min, max, List, [], ◌++◌, All, Some}
-use Rattle.pie_lock.specs.Views.{LockView, PassView, HeldView, HoldsAll}
+use Rattle.pie_lock.specs.Views.{LockView, PassView, HeldView, HasAllNumbers}
 use Rattle.pie_lock.specs.Steps.{Extends}
 
 module _ {S E O : Type 0} where
@@ -22,7 +22,7 @@ module _ {S E O : Type 0} (number_of : E → ℕ) (origin_of : S → O) (represe
     pub represents : represents_list h.state h.front
     pub numbered : All (λ e. number_of e < p.lock.numbers) h.front
     -- for a pass with all numbers the front is unchanged
-    pub same : HoldsAll p → h.front ≡ p.front
+    pub same : HasAllNumbers p → h.front ≡ p.front
 
 module _ {E O : Type 0} where
   -- the pass of a new lock: all numbers and an empty front

@@ -28,5 +28,5 @@ abbrev pub with_state : {S E O : Type 0} → HeldView S E O → S → HeldView S
 with_state h state = record { lock = h.lock; front = h.front; first = h.first; limit = h.limit; state = state }
 
 -- the pass has all numbers of its lock
-abbrev pub HoldsAll : {E O : Type 0} → PassView E O → Type 0
-HoldsAll p = (p.first ≡ 0) × (p.limit ≡ p.lock.numbers)
+abbrev pub HasAllNumbers : {E O : Type 0} → PassView E O → Type 0
+HasAllNumbers p = (p.first ≡ 0) × (p.limit ≡ p.lock.numbers)

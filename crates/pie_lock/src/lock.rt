@@ -76,7 +76,7 @@ impl<S: Kept> Model for RuledLock<S> {
 }
 
 impl<S: Kept> RuledLock<S> {
-    ghost use Rattle.pie_lock.specs.Views.{HoldsAll};
+    ghost use Rattle.pie_lock.specs.Views.{HasAllNumbers};
     ghost use Rattle.pie_lock.specs.Steps.{Extends, HasMerged, pass_at, with_front, AreAdjacent};
     ghost use Rattle.pie_lock.specs.declared.view.SeatKnowledge.TheVariants.{Idle};
     ghost use Rattle.pie_lock.specs.Seating.{IsIdle, IsLeaving};
@@ -171,21 +171,21 @@ impl<S: Kept> RuledLock<S> {
         self.table.shared.store::<FreeStep<J>>(seat, WORD, FREE);
     }
 
-    // Returns true if another pass has the state. It is a load: the cache line of the word stays shared. A failed exchange would take the line from
-    // the processor that has the state.
+    // Returns true if another pass has the state. It is a load: the cache line of the word stays shared. A failed
+    // compare-exchange would take the line from the processor that has the state.
     fn is_held(&self, pass: &mut Pass<S>) -> bool
         requires own { pass.old.lock ≡ self.now }
         ensures same { pass.new ≡ pass.old }
-        ensures other { IsTrue result → HoldsAll pass.old → ⊥ }
+        ensures other { IsTrue result → HasAllNumbers pass.old → ⊥ }
     {
         self.table.shared.load::<LookStep>(&mut pass.seat, WORD) != FREE
     }
 
     // Takes the state, unless another pass has it.
-    fn exchange(&self, pass: Pass<S>) -> Result<Held<S>, Pass<S>>
+    fn take_if_free(&self, pass: Pass<S>) -> Result<Held<S>, Pass<S>>
         requires own { pass.lock ≡ self.now }
         ensures taken { IfOk result (HasTaken S.number_of S.origin_of S.represents_list pass) }
-        ensures alone { HoldsAll pass → IsOk result }
+        ensures alone { HasAllNumbers pass → IsOk result }
         ensures busy { IfErr result (λ back. back ≡ pass) }
     {
         let Pass {
@@ -217,14 +217,14 @@ impl<S: Kept> RuledLock<S> {
     pub fn try_take(&self, pass: Pass<S>) -> Result<Held<S>, Pass<S>>
         requires own { pass.lock ≡ self.now }
         ensures taken { IfOk result (HasTaken S.number_of S.origin_of S.represents_list pass) }
-        ensures alone { HoldsAll pass → IsOk result }
+        ensures alone { HasAllNumbers pass → IsOk result }
         ensures busy { IfErr result (λ back. back ≡ pass) }
     {
         let mut pass = pass;
         if self.is_held(&mut pass) {
             return Err(pass);
         }
-        self.exchange(pass)
+        self.take_if_free(pass)
     }
 
     /// Takes the state. If another pass has the state, the call waits, for an unknown time. The caller owes
@@ -243,7 +243,7 @@ impl<S: Kept> RuledLock<S> {
         requires own { pass.lock ≡ self.now }
         ensures { HasTaken S.number_of S.origin_of S.represents_list pass result.0 }
     {
-        match self.exchange(pass) {
+        match self.take_if_free(pass) {
             Ok(held) => (held, WakeDue(())),
             Err(pass) => (self.wait_and_take(rt, pass, looks_for(calls)), WakeDue(())),
         }
@@ -404,9 +404,9 @@ impl<S: Kept> RuledLock<S> {
         ensures origin { IfOk result (λ state. pass.lock.origin ≡ Some (S.origin_of state)) }
         ensures represents { IfOk result (λ state. (history : List S.Entry) × Extends S.number_of pass.first pass.limit pass.front history
             × S.represents_list state history) }
-        ensures alone { HoldsAll pass → IsOk result }
-        ensures same { HoldsAll pass → IfOk result (λ state. S.represents_list state pass.front) }
-        ensures numbered { HoldsAll pass → IfOk result (λ _. All (λ e. S.number_of e < pass.lock.numbers) pass.front) }
+        ensures alone { HasAllNumbers pass → IsOk result }
+        ensures same { HasAllNumbers pass → IfOk result (λ state. S.represents_list state pass.front) }
+        ensures numbered { HasAllNumbers pass → IfOk result (λ _. All (λ e. S.number_of e < pass.lock.numbers) pass.front) }
         ensures still_held { IfErr result (λ back. (back.lock ≡ self) × (back.pass ≡ pass)) }
     {
         match self.try_take(pass) {

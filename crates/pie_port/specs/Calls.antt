@@ -56,13 +56,13 @@ set_event caller e (Err Busy) = e
 set_event caller e (Err (Refused why)) = under caller (bare_event 5 e (refusal_code why))
 
 -- parameters out of their ranges are refused before the call
-abbrev pub IsSetUnless : Bool → RawParams → CallerView → PieEvent → ℕ → PieEvent → CallerView → Type 0
-IsSetUnless false params before e code written after = (code ≡ 107) × (written ≡ under before.first (bare_event 5 e 107)) × (after ≡ before)
-IsSetUnless true params before e code written after = IsTried (SetParams e.moment params) (set_event before.first e) before code written after
+abbrev pub IsSetIfInRange : Bool → RawParams → CallerView → PieEvent → ℕ → PieEvent → CallerView → Type 0
+IsSetIfInRange false params before e code written after = (code ≡ 107) × (written ≡ under before.first (bare_event 5 e 107)) × (after ≡ before)
+IsSetIfInRange true params before e code written after = IsTried (SetParams e.moment params) (set_event before.first e) before code written after
 
 abbrev pub TriesToSet : RawParams → Option CallerView → PieEvent → ℕ → PieEvent → Option CallerView → Type 0
 TriesToSet params port e code written after =
-    AtPort port code after (written ≡ e) (λ before now. IsSetUnless (are_in_range params) params before e code written now)
+    AtPort port code after (written ≡ e) (λ before now. IsSetIfInRange (are_in_range params) params before e code written now)
 
 -- ---- ports
 

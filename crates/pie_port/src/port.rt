@@ -44,7 +44,7 @@ impl Model for Port {
 
 impl Port {
     ghost use Rattle.pie_port.specs.{first_pass, without_highest, highest_alone, IsBeside, IsBothOf, number_of, are_in_range, TriesToAnswer};
-    ghost use Rattle.pie_port.specs.{KeepsOneHistory, HasSameNumbers, IsSetUnless, IsTriedUnless, IsFolded, command_in, has_bad_ecn};
+    ghost use Rattle.pie_port.specs.{KeepsOneHistory, HasSameNumbers, IsSetIfInRange, IsTriedUnless, IsFolded, command_in, has_bad_ecn};
 
     /// Returns the boxed port with all numbers of a new link, or `None` if there is no memory or `callers` is 0.
     pub(crate) fn of_opening(alloc: Global, opening: Opening, callers: u16) -> Option<Box<Port>>
@@ -129,7 +129,7 @@ impl Port {
     /// Sets the parameters, and writes the result to `event`.
     #[tactic(auto, unfolding(pie_abi::specs::Params::are_in_range))]
     pub(crate) fn try_set_params(&mut self, params: &RawParams, event: &mut PieEvent) -> u32
-        ensures { IsSetUnless (are_in_range params.now) params.now self.old event.old result event.new self.new }
+        ensures { IsSetIfInRange (are_in_range params.now) params.now self.old event.old result event.new self.new }
     {
         let caller = self.caller.first();
         let Some(params) = Params::from_raw(*params) else {

@@ -8,7 +8,7 @@ use Rattle.pie_record.specs.Names.{Answer, Command, Clock, Field}
 use Rattle.pie_record.specs.{One, Two, ◌≡◌, ◌<◌, ◌==◌, ◌^◌, ℕ, List, [], ◌∷◌, ◌++◌, Bool, true, length, decimal, refl, Option, Some, None, Result, Ok}
 use Rattle.pie_record.specs.{codes, ⊤, field_at, Packet, AnswerFits, RegistersFit, StatsFit, Empty, Left, Updated, Done, Arrive, Depart, Update}
 use Rattle.pie_record.specs.{Reset, SetParams, Event, CommandFields, CommandKind, RecordFault, Line, Version, Three, clock_at, clock_in, clock_row, most_moment}
-use Rattle.pie_record.specs.{command_at, command_kind, is_kind, most_u128, most_u64, packet_at, word_at, active_line, answer_at, departure_at}
+use Rattle.pie_record.specs.{command_at, command_kind, is_kind, most_u128, most_u64, packet_at, expect_keyword, active_line, answer_at, departure_at}
 use Rattle.pie_record.specs.{event_line, has_length, line_by, line_for, line_of, made, note_line, numbers_at, registers_at, shown_line, update_at}
 use Rattle.pie_record.specs.{verdict_of, number, EventFits, AreLinesOf, Row, request_of, word_of_answer, command_fields, event_row, line_rows, without_notes}
 use Rattle.pie_record.specs.{fits, Registers, Stats, answer_fields, counted, flag, folded_row, refused_row, shown_row, tallied_row, All, and_then}
@@ -229,7 +229,7 @@ has-behind row place (field ∷ front) back has more =
     (has.0, has-behind row (place + 1) front back has.1 (rw there at more))
 
 -- a word that had to be at a place
-word-there : (row : Row) (place : ℕ) (word : List ℕ) (value : Unit {0}) → Says (word_at row place word) value → Has row place word
+word-there : (row : Row) (place : ℕ) (word : List ℕ) (value : Unit {0}) → Says (expect_keyword row place word) value → Has row place word
 word-there row place word value e = by (field_at row place) (tested (is_word word (field_at row place)) _ flaw.Word value e).0
   where
     by : (o : Option (List ℕ)) → is_word word o ≡ true → o ≡ Some word
@@ -259,7 +259,7 @@ verdict-read moment packet w text answer e = (grind (arith, nat_tests, e), grind
 
 -- the answer `done`
 done-ends : (row : Row) (asks : CommandFields) (answer : Answer) → CanHave asks Done → (length row == command_length (command_row_kind asks) + 1) ≡ true
-    → Says (and_then (word_at row (command_length (command_row_kind asks)) (word_of_answer said.Done)) (λ _. Ok Done)) answer → Ends row asks answer
+    → Says (and_then (expect_keyword row (command_length (command_row_kind asks)) (word_of_answer said.Done)) (λ _. Ok Done)) answer → Ends row asks answer
 unfolding answer_fields
 done-ends row asks answer can long e = grind (arith, nat_tests, and_after, read-as, word-there, eqb-true)
 
@@ -269,11 +269,11 @@ unfolding departure_at answer_fields
 departure-ends row caller moment answer long e = by (length row == 4) refl long e
   where
     by : (b : Bool) → (length row == 4) ≡ b → (b || (length row == 7)) ≡ true
-        → Says (if b then and_then (word_at row 3 (word_of_answer said.Empty)) (λ _. Ok Empty) else and_then (word_at row 3 (word_of_answer said.Left))
+        → Says (if b then and_then (expect_keyword row 3 (word_of_answer said.Empty)) (λ _. Ok Empty) else and_then (expect_keyword row 3 (word_of_answer said.Left))
         (λ _. and_then (packet_at row 4) (λ packet. Ok (Left packet)))) answer
         → Ends row (fields.Command caller (Depart moment)) answer
     by true four long e =
-        let a = and_after (word_at row 3 (word_of_answer said.Empty)) _ answer e in
+        let a = and_after (expect_keyword row 3 (word_of_answer said.Empty)) _ answer e in
         read-as (Ends row (fields.Command caller (Depart moment))) Empty answer a.rest (record {
           has = (word-there row 3 (word_of_answer said.Empty) a.got a.is, tt);
           long = eqb-true (length row) 4 four;
@@ -281,7 +281,7 @@ departure-ends row caller moment answer long e = by (length row == 4) refl long 
           numbers = tt;
         })
     by false four long e =
-        let a = and_after (word_at row 3 (word_of_answer said.Left)) _ answer e in
+        let a = and_after (expect_keyword row 3 (word_of_answer said.Left)) _ answer e in
         let p = and_after (packet_at row 4) _ answer a.rest in
         let read = packet-read row 4 p.got p.is in
         read-as (Ends row (fields.Command caller (Depart moment))) (Left p.got) answer p.rest (record {

@@ -36,11 +36,11 @@ pub struct Record {
     // The line of a plain record, without its line feed: the first `len` bytes.
     line: [u8; MAX_LINE],
     len: usize,
-    // The place behind each field of the line: the first `count` places. None if the record is not plain but `quoted`.
+    // The place behind each field of the line: the first `count` places; none if csv read the record.
     ends: [usize; MAX_FIELDS],
     count: usize,
     // A record as csv read it.
-    quoted: ByteRecord,
+    csv_record: ByteRecord,
 }
 
 impl Model for Record {
@@ -49,7 +49,7 @@ impl Model for Record {
 
     ghost Value = { Row };
 
-    ghost view = { λ r. if nat_lt 0 r.count then split_line (take r.len r.line) else fields_of r.quoted };
+    ghost view = { λ r. if nat_lt 0 r.count then split_line (take r.len r.line) else fields_of r.csv_record };
 
     ghost invariant = { λ r. (r.len ≤ 2048) × (r.count ≤ 128)
         × (0 < r.count → IsLine (take r.len r.line) (take r.count r.ends) × (length (take r.count r.ends) ≡ r.count)) };
@@ -155,7 +155,7 @@ impl Record {
             len: 0,
             ends: [0; MAX_FIELDS],
             count: 0,
-            quoted: ByteRecord::new(alloc),
+            csv_record: ByteRecord::new(alloc),
         }
     }
 
@@ -167,7 +167,7 @@ impl Record {
         if self.count > 0 {
             self.count
         } else {
-            self.quoted.len()
+            self.csv_record.len()
         }
     }
 
@@ -183,7 +183,7 @@ impl Record {
         if self.count > 0 {
             return None;
         }
-        self.quoted.get(place)
+        self.csv_record.get(place)
     }
 
     /// Returns the number in the field at `place`, if it is at most `most`.
@@ -209,7 +209,7 @@ impl Record {
         ensures memory { IfErr result (λ why. why ≡ TraceFault.Memory) }
     {
         if self.count == 0 {
-            return quoted_text(alloc, &self.quoted);
+            return quoted_text(alloc, &self.csv_record);
         }
         let mut bytes = Vec::new(alloc);
         match bytes.extend_from_slice(&self.line[..self.len]) {
@@ -222,8 +222,8 @@ impl Record {
         }
     }
 
-    /// Returns the line of a plain record, without its line feed: the text of the record as csv writes it. `None` if the record has quotes or line
-    /// ends of its own.
+    /// Returns the line of a plain record, without its line feed: the text of the record as csv writes it. `None` if csv read the
+    /// record: it reads all records from the first line on that is not plain.
     #[tactic(auto, using(crate::proofs::LineReads::line_text, crate::proofs::PlainFacts::some_fields))]
     pub fn line(&self) -> Option<&[u8]>
         ensures { IfSome result (λ line. text_of self.now ≡ line.now ++ 10 ∷ []) }
@@ -264,7 +264,7 @@ impl Record {
     /// Lets csv read a record. After a failure no record is left.
     #[inline(never)]
     #[tactic(auto, using(crate::proofs::RecordFacts::takes_row))]
-    pub(crate) fn read_quoted<R: Read>(
+    pub(crate) fn read_csv_record<R: Read>(
         &mut self,
         reader: &mut csv::Reader<R>,
     ) -> Result<ReadStep, ReadFailure>
@@ -273,7 +273,7 @@ impl Record {
         ensures stepped { IfOk result (λ how. StepsBy how (rows_left R.remaining reader.old) self.new (rows_left R.remaining reader.new)) }
     {
         self.count = 0;
-        match reader.read_byte_record(&mut self.quoted) {
+        match reader.read_byte_record(&mut self.csv_record) {
             Ok(true) => Ok(ReadStep::Taken),
             Ok(false) => Ok(ReadStep::Over),
             Err(failed) => match failed.kind() {

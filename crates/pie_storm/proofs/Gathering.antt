@@ -14,7 +14,7 @@ unfoldable use Rattle.pie_storm.specs.Storms.{HasFault}
 use Rattle.std.proofs.lemmas.List.Elements.{All-push}
 use native.Mathlib.Decide.{dec_le}
 use Rattle.std.specs.Result.{IfErr, IfOk}
-use Rattle.pie_lock.specs.Views.{HoldsAll}
+use Rattle.pie_lock.specs.Views.{HasAllNumbers}
 use Rattle.pie_book.specs.Book.{BookView, BookRepresents}
 use Rattle.pie_book.specs.Registers.{registers_after}
 use Rattle.pie_book.specs.Statistics.{stats_after}
@@ -288,10 +288,10 @@ module _ (plan : Plan) (h : List Entry) (sound : IsSound plan) (below : All (IsB
 
 module _ (plan : Plan) (link : LinkView) (work : Work) (book : BookView) (link_for : IsFor plan link)
     (numbers : link.numbers ≡ senders plan + 5) (worked : IsWorkBelow link plan (senders plan + 5) work)
-    (opened : work.caller.lock.origin ≡ Some book.opening) (represents : HoldsAll work.caller → RepresentsEntries book work.caller.front)
-    (numbered : HoldsAll work.caller → All (λ (e : Entry). number_of e < work.caller.lock.numbers) work.caller.front) where
+    (opened : work.caller.lock.origin ≡ Some book.opening) (represents : HasAllNumbers work.caller → RepresentsEntries book work.caller.front)
+    (numbered : HasAllNumbers work.caller → All (λ (e : Entry). number_of e < work.caller.lock.numbers) work.caller.front) where
   -- the starter has all numbers of the link again
-  holds_all : HoldsAll work.caller
+  holds_all : HasAllNumbers work.caller
   holds_all = (worked.first, worked.limit ∙ (sym numbers ∙ ap (λ (l : LinkView). l.numbers) (sym worked.lock)))
 
   -- the caller closed the link, and has the book that was opened

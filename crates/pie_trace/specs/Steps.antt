@@ -11,18 +11,18 @@ use Rattle.std.specs.Prelude.{◌+◌, ◌≡◌}
 -- depend on the state before
 pub record Pass (X A : Type 0) : Type 1 where
   pub found : Option TraceFault
-  pub may_follow : X → Type 0
+  pub can_precede : X → Type 0
   pub gives : X → Option A
   pub text : X → List ℕ
 
 -- the output of the pass, after every possible past, is appended to the writer's bytes
 abbrev pub Writes : {X A : Type 0} → Pass X A → Option (List ℕ) → Option (List ℕ) → Type 0
-Writes {X} pass before now = (past : X) → pass.may_follow past → Appends before now (pass.text past)
+Writes {X} pass before now = (past : X) → pass.can_precede past → Appends before now (pass.text past)
 
 -- the end of a pass, unless the reader, the writer or memory failed: a result, or the fault
 abbrev pub HasOutcome : {X A : Type 0} → Pass X A → Result A TraceFault → Option (List ℕ) → Option (List ℕ) → Type 0
 HasOutcome {X} pass (Ok value) before now =
-    (pass.found ≡ None) × ((past : X) → pass.may_follow past → pass.gives past ≡ Some value) × Writes pass before now
+    (pass.found ≡ None) × ((past : X) → pass.can_precede past → pass.gives past ≡ Some value) × Writes pass before now
 HasOutcome pass (Err why) before now = is_io_or_memory why ≡ false → (pass.found ≡ Some why) × Writes pass before now
 
 -- the progress of a pass: some records are left, and the outcome for these gives the outcome for all
@@ -77,7 +77,7 @@ Replies version number request old new refused refused_then text =
 abbrev pub runs_on : Version → ℕ → Opening → ℕ → BookView → ℕ → List Row → Pass RunState RunEnd
 runs_on version max_records opening number book refused rows = record {
   found = first_fault version max_records number rows;
-  may_follow = IsInState book opening;
+  can_precede = IsInState book opening;
   gives = λ from. Some (end_after version opening from refused rows);
   text = λ from. text_at version max_records opening number from rows;
 }

@@ -1,10 +1,10 @@
-use Rattle.pie_c.proofs.Names.{◌≡◌, ◌∙◌, sym, true, arith, is_unmeasured}
+use Rattle.pie_c.proofs.Names.{◌≡◌, ◌∙◌, sym, true, arith, is_between_cycles}
 use Rattle.pie_c.proofs.Packets.{unmeasured-state, unmeasured-taken}
 use Rattle.pie_c.proofs.calls.depart_unmeasured.Goals as goal
 use Rattle.pie_c.proofs.calls.depart_unmeasured.Goals.{After-keep_unmeasured}
 
-none : (c : After-keep_unmeasured) → is_unmeasured c.raw.result c.args.left ≡ true
-none c = sym c.is_unmeasured.ensures.value ∙ c.if-not-is_unmeasured.false
+none : (c : After-keep_unmeasured) → is_between_cycles c.raw.result c.args.left ≡ true
+none c = sym c.is_between_cycles.ensures.value ∙ c.if-not-is_between_cycles.false
 
 pub returns-clause-taken : goal.returns-clause-taken
 returns-clause-taken c did = let a = c.args in
@@ -15,4 +15,4 @@ pub returns-clause-after : goal.returns-clause-after
 returns-clause-after c = let a = c.args in
     c.keep_unmeasured.ensures
     ∙ unmeasured-state a.state.now c.raw.result a.size a.left a.moment c.raw.ensures (none c)
-    (c.is_unmeasured.ensures.alone a.size 0 a.moment c.if-not-is_unmeasured.false)
+    (c.is_between_cycles.ensures.alone a.size 0 a.moment c.if-not-is_between_cycles.false)

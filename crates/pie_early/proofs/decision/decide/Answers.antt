@@ -15,7 +15,7 @@ returns-clause-name c =
     let a = c.args in
     let considered : is_considered a.params.now a.control.now a.offered.bytes ≡ true =
     grind (arith, nat_tests, c.unconsidered.ensures.considered, c.in_default.is) in
-    rw c.effective_prob-prob.ensures.value at c.decide_considered.ensures.name
+    rw c.effective_prob-effective.ensures.value at c.decide_considered.ensures.name
     ∙ sym (ap name_of (cause_considered a.elements a.params.now a.control.now a.offered a.accu considered))
 
 pub returns-clause-verdict : goal.returns-clause-verdict

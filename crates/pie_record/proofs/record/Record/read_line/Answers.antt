@@ -10,7 +10,7 @@ returns-then-len-eq0 g c =
     let it = rw c.in-Feed.is at l.ensures.takes in
     let none : l.result.0 ≡ 0 = search rules in
     empty-found c.args.is_first c.args.input.now l.new.self (take l.result.0 l.new.line) (take l.result.1 l.new.ends) l.result.0 it none
-    (fields_of c.self.inside.quoted)
+    (fields_of c.self.inside.csv_record)
 
 pub returns : goal.returns
 returns g c =

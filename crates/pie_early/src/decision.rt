@@ -55,14 +55,7 @@ pub fn decide(
         return Decision { name, accu };
     }
     let effective = effective_prob(elements.size, params, offered.size, control.prob);
-    decide_considered(
-        params,
-        elements.picking,
-        control.prob,
-        offered,
-        effective,
-        accu,
-    )
+    decide_considered(params, elements, control.prob, offered, effective, accu)
 }
 
 /// Returns the name of the reason why an arrival at `bytes` queued bytes is not considered, or `None` if it is
@@ -104,15 +97,15 @@ fn is_low(params: &RawParams, control: &RawControl) -> bool
 #[tactic(auto, using(std::proofs::lemmas::Bool::Decides::nat_tests), unfolding(crate::specs::Cause::considered_cause, crate::specs::Decision::is_picked))]
 fn decide_considered(
     params: &RawParams,
-    picking: Picking,
+    elements: Elements,
     prob: u64,
     offered: Offered,
     effective: u64,
     accu: u64,
 ) -> Decision
-    ensures name { result.name ≡ name_of (considered_cause picking effective accu (fate_of params.now prob offered.ecn) offered.word) }
-    ensures accu { result.accu ≡ (if (effective == 0) || is_picked picking effective (accu + effective) offered.word then 0
-        else joined picking accu effective) }
+    ensures name { result.name ≡ name_of (considered_cause elements.picking effective accu (fate_of params.now prob offered.ecn) offered.word) }
+    ensures accu { result.accu ≡ (if (effective == 0) || is_picked elements.picking effective (accu + effective) offered.word then 0
+        else joined elements.picking accu effective) }
 {
     if effective == 0 {
         return Decision {
@@ -121,7 +114,7 @@ fn decide_considered(
         };
     }
     // Without accumulation a sum between the two bounds stands for it, so that the word decides.
-    let sum = match picking {
+    let sum = match elements.picking {
         Picking::Random => Some(NO_PICK_BELOW),
         Picking::Derandomized => accu.checked_add(effective),
     };
@@ -132,7 +125,7 @@ fn decide_considered(
         },
         Some(sum) if sum < ALWAYS_PICKED && !is_below(offered.word, effective) => Decision {
             name: CauseName::WordNotBelow,
-            accu: match picking {
+            accu: match elements.picking {
                 Picking::Random => accu,
                 Picking::Derandomized => sum,
             },
@@ -265,16 +258,7 @@ fn considered_cause(
 {
     let effective = effective_prob(elements.size, params, offered.size, control.prob);
     let fate = fate_of(params, control.prob, offered.ecn);
-    match decide_considered(
-        params,
-        elements.picking,
-        control.prob,
-        offered,
-        effective,
-        accu,
-    )
-    .name
-    {
+    match decide_considered(params, elements, control.prob, offered, effective, accu).name {
         CauseName::LittleAccumulated => Cause::LittleAccumulated {
             accu,
             prob: effective,

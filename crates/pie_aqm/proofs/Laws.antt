@@ -282,16 +282,16 @@ module _ (o : Opened) (events : List ControllerEvent) where
   early-cleared : Early.accumulated (arrival_inputs o events ++ cleared ∷ []) ≡ 0
   early-cleared = sym (represents-next (arrival_inputs o events) (Early.accumulated (arrival_inputs o events)) cleared refl)
 
-  depart-next : (size left since moment : ℕ) → (state_of o events).params.dq_threshold ≤ 65536
-      → next_if false (Departed size left since moment) ≡ departed (state_of o events) size left since moment
+  depart-next : (size bytes_left since moment : ℕ) → (state_of o events).params.dq_threshold ≤ 65536
+      → next_if false (Departed size bytes_left since moment) ≡ departed (state_of o events) size bytes_left since moment
   unfolding state_of
-  depart-next size left since moment small =
+  depart-next size bytes_left since moment small =
       let rate = rated (measures (active_of o events) o.elements.delay) in
       let waited = kept (keeps_wait (active_of o events) o.elements.delay) in
       λ i. record (advanced (state_of o events) moment) { rate = rate i; waited = waited i }
     where
       d : Departure
-      d = departure size left (max (now_of o events) moment)
+      d = departure size bytes_left (max (now_of o events) moment)
 
       t : ℕ
       t = (params_of o events).dq_threshold
@@ -302,8 +302,8 @@ module _ (o : Opened) (events : List ControllerEvent) where
           (represents_after t (departure_inputs o events) d (estimate_of t (departure_inputs o events)) small (record { average = refl; begun = refl })))
       rated false = refl
 
-      kept : (b : Bool) → unwrap_or (if b then Some (wait_of left since (max (now_of o events) moment)) else None) (waited_of o events)
-          ≡ (if b then wait_of left since (max (now_of o events) moment) else waited_of o events)
+      kept : (b : Bool) → unwrap_or (if b then Some (wait_of bytes_left since (max (now_of o events) moment)) else None) (waited_of o events)
+          ≡ (if b then wait_of bytes_left since (max (now_of o events) moment) else waited_of o events)
       kept b = grind (arith, nat_tests)
 
   update-next : (queued moment : ℕ) → next_if false (Updated queued moment) ≡ updated (state_of o events) queued moment
@@ -340,7 +340,7 @@ module _ (o : Opened) (events : List ControllerEvent) where
       → next_if (turned_on o events (event_of_call (state_of o events) call)) (event_of_call (state_of o events) call) ≡ after_call (state_of o events) call
   unfolding state_of
   call-next (Arrive a moment) small = arrive-next a moment (turns_on (state_of o events) (bytes_with (verdict (state_of o events) a) a.queued a.size))
-  call-next (Depart size left since moment) small = depart-next size left since moment small
+  call-next (Depart size bytes_left since moment) small = depart-next size bytes_left since moment small
   call-next (Advance moment) small = refl
   call-next (Update queued moment) small = update-next queued moment
   call-next (Restart moment) small = reset-next moment
@@ -355,7 +355,7 @@ Represents_call o events state shows =
     (λ call small. sym (state-push o events (event_of_call (state_of o events) call) ∙ call-next o events call small))
 
 has_threshold : (state : ControllerState) (call : Call) → state.params.dq_threshold ≤ 65536 → HasThreshold state call
-has_threshold state (Depart size left since moment) small = small
+has_threshold state (Depart size bytes_left since moment) small = small
 has_threshold state _ small = tt
 
 -- parameters in their ranges have a permitted threshold
@@ -381,6 +381,6 @@ unfolding RepresentsCall
 represents_with state new call is small opened events shows = moved opened _ _ new is (Represents_call opened events state shows call small)
 
 -- a departure, if the threshold is at most 65536
-pub uncapped : (h g : ControllerState) (size left since moment : ℕ) → h.params.dq_threshold ≤ 65536
-    → g ≡ record (departed (capped h) size left since moment) { params = h.params } → g ≡ after_call h (Depart size left since moment)
-uncapped h g size left since moment small is = let e : min h.params.dq_threshold 65536 ≡ h.params.dq_threshold = omega (arith, small) in rw e at is
+pub uncapped : (h g : ControllerState) (size bytes_left since moment : ℕ) → h.params.dq_threshold ≤ 65536
+    → g ≡ record (departed (capped h) size bytes_left since moment) { params = h.params } → g ≡ after_call h (Depart size bytes_left since moment)
+uncapped h g size bytes_left since moment small is = let e : min h.params.dq_threshold 65536 ≡ h.params.dq_threshold = omega (arith, small) in rw e at is

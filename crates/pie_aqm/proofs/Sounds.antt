@@ -48,11 +48,11 @@ accu-small h a small = grind (arith, nat_tests, accu_below)
 mixed-within : (t sample average : ℕ) → t ≤ 65536 → sample < 2 ^ 60 → average < 2 ^ 60 → averaged t average sample < 2 ^ 60
 mixed-within t sample average small s a = grind arith
 
-step-holds : (threshold average size left now : ℕ) (begun : Option Begun) → 0 < threshold → threshold ≤ 65536 → now < 2 ^ 60 → average < 2 ^ 60
+step-holds : (threshold average size bytes_left now : ℕ) (begun : Option Begun) → 0 < threshold → threshold ≤ 65536 → now < 2 ^ 60 → average < 2 ^ 60
     → IsWithin threshold now begun
-    → let e : Estimate = step_from threshold average (departure size left now) begun in (e.average < 2 ^ 60) × IsWithin threshold now e.begun
-step-holds threshold average size left now None some small within a w = grind (arith, nat_tests)
-step-holds threshold average size left now (Some cycle) some small within a w =
+    → let e : Estimate = step_from threshold average (departure size bytes_left now) begun in (e.average < 2 ^ 60) × IsWithin threshold now e.begun
+step-holds threshold average size bytes_left now None some small within a w = grind (arith, nat_tests)
+step-holds threshold average size bytes_left now (Some cycle) some small within a w =
     let mixed = mixed-within threshold (max 1 (now - cycle.start)) average small (omega arith) a in grind (arith, nat_tests)
 
 -- ---- The control law
@@ -102,20 +102,20 @@ module _ (h : ControllerState) (sound : IsSound h) (moment : ℕ) (within : mome
       by true here = Sound-anew (judged h a moment) here true (λ one. refl)
       by false here = here
 
-  depart-sound : (size left since : ℕ) → IsSound (after_call h (Depart size left since moment))
-  depart-sound size left since =
+  depart-sound : (size bytes_left since : ℕ) → IsSound (after_call h (Depart size bytes_left since moment))
+  depart-sound size bytes_left since =
       search (rules, sound, advanced-moment, last, rates (measures h.active h.elements.delay), waits (keeps_wait h.active h.elements.delay))
     where
-      rates : (b : Bool) → let e : Estimate = if b then after_departure h.params.dq_threshold h.rate (departure size left (now_at h moment))
+      rates : (b : Bool) → let e : Estimate = if b then after_departure h.params.dq_threshold h.rate (departure size bytes_left (now_at h moment))
           else h.rate in (e.average < 2 ^ 60) × IsWithin h.params.dq_threshold (now_at h moment) e.begun
       rates true =
           let threshold = threshold-holds h.params sound.params in
           let least = threshold.0 in
-          step-holds h.params.dq_threshold h.rate.average size left (now_at h moment) h.rate.begun (omega arith) threshold.1 advanced-moment
+          step-holds h.params.dq_threshold h.rate.average size bytes_left (now_at h moment) h.rate.begun (omega arith) threshold.1 advanced-moment
           sound.average cycle
       rates false = (sound.average, cycle)
 
-      waits : (b : Bool) → (if b then wait_of left since (now_at h moment) else h.waited) ≤ 2 ^ 40
+      waits : (b : Bool) → (if b then wait_of bytes_left since (now_at h moment) else h.waited) ≤ 2 ^ 40
       waits b = let before = sound.waited in grind (arith, nat_tests)
 
   update-sound : (queued : ℕ) → IsSound (after_call h (Update queued moment))
@@ -142,7 +142,7 @@ module _ (h : ControllerState) (sound : IsSound h) (moment : ℕ) (within : mome
 
 pub Sound_call : (h : ControllerState) → IsSound h → (call : Call) → IsTaken call → IsSound (after_call h call)
 Sound_call h sound (Arrive a moment) taken = arrive-sound h sound moment taken a
-Sound_call h sound (Depart size left since moment) taken = depart-sound h sound moment taken size left since
+Sound_call h sound (Depart size bytes_left since moment) taken = depart-sound h sound moment taken size bytes_left since
 Sound_call h sound (Advance moment) taken = advance-sound h sound moment taken
 Sound_call h sound (Update queued moment) taken = update-sound h sound moment taken queued
 Sound_call h sound (Restart moment) taken = Sound-anew (record h { moment = now_at h moment }) (advance-sound h sound moment taken) h.active sound.active

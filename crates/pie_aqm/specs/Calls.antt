@@ -20,7 +20,7 @@ pub data Call : Type 0 where
 -- the state of a controller after a call
 abbrev pub after_call : ControllerState → Call → ControllerState
 after_call h (Arrive a moment) = arrived h a moment
-after_call h (Depart size left since moment) = departed h size left since moment
+after_call h (Depart size bytes_left since moment) = departed h size bytes_left since moment
 after_call h (Advance moment) = advanced h moment
 after_call h (Update queued moment) = updated h queued moment
 after_call h (Restart moment) = reset h moment
@@ -29,7 +29,7 @@ after_call h (Change params moment) = changed h params moment
 -- the event of a call
 abbrev pub event_of_call : ControllerState → Call → ControllerEvent
 event_of_call h (Arrive a moment) = Arrived (verdict h a) a.size a.queued (bytes_with (verdict h a) a.queued a.size) moment
-event_of_call h (Depart size left since moment) = Departed size left since moment
+event_of_call h (Depart size bytes_left since moment) = Departed size bytes_left since moment
 event_of_call h (Advance moment) = Advanced moment
 event_of_call h (Update queued moment) = Updated queued moment
 event_of_call h (Restart moment) = Reset moment
@@ -44,7 +44,7 @@ RepresentsCall old call new = (opened : Opened) (events : List ControllerEvent) 
 -- a call whose moment and parameters are in their ranges
 abbrev pub IsTaken : Call → Type 0
 IsTaken (Arrive a moment) = moment < 2 ^ 60
-IsTaken (Depart size left since moment) = moment < 2 ^ 60
+IsTaken (Depart size bytes_left since moment) = moment < 2 ^ 60
 IsTaken (Advance moment) = moment < 2 ^ 60
 IsTaken (Update queued moment) = moment < 2 ^ 60
 IsTaken (Restart moment) = moment < 2 ^ 60
@@ -52,5 +52,5 @@ IsTaken (Change params moment) = (moment < 2 ^ 60) × (first_bad params ≡ None
 
 -- a call whose departure, if it is one, is measured at a permitted threshold
 abbrev pub HasThreshold : ControllerState → Call → Type 0
-HasThreshold h (Depart size left since moment) = h.params.dq_threshold ≤ 65536
+HasThreshold h (Depart size bytes_left since moment) = h.params.dq_threshold ≤ 65536
 HasThreshold h call = ⊤

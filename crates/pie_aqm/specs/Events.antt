@@ -22,7 +22,7 @@ pub data ControllerEvent : Type 0 where
 -- the caller's moment
 abbrev pub moment_of : ControllerEvent → ℕ
 moment_of (Arrived verdict size before after moment) = moment
-moment_of (Departed size left since moment) = moment
+moment_of (Departed size bytes_left since moment) = moment
 moment_of (Advanced moment) = moment
 moment_of (Updated queued moment) = moment
 moment_of (Reset moment) = moment

@@ -65,7 +65,7 @@ clears_rate event turned_on = turned_on
 
 -- a departure as an input of the estimate, if the departure rate is measured
 abbrev pub departure_input : ControllerEvent → Bool → ℕ → Option Departure
-departure_input (Departed size left since moment) measured now = if measured then Some (departure size left now) else None
+departure_input (Departed size bytes_left since moment) measured now = if measured then Some (departure size bytes_left now) else None
 departure_input event measured now = None
 
 abbrev pub clears_rate_at : Opened → Place ActivityEvent → Bool
@@ -88,7 +88,7 @@ clears_wait event turned_on = turned_on
 
 -- the time that a departed packet spent in the queue, if it is kept
 abbrev pub wait_input : ControllerEvent → Bool → ℕ → Option ℕ
-wait_input (Departed size left since moment) kept now = if kept then Some (wait_of left since now) else None
+wait_input (Departed size bytes_left since moment) kept now = if kept then Some (wait_of bytes_left since now) else None
 wait_input event kept now = None
 
 abbrev pub clears_wait_at : Opened → Place ActivityEvent → Bool

@@ -131,18 +131,18 @@ abbrev pub keeps_wait : Bool → Delay → Bool
 keeps_wait active Rate = false
 keeps_wait active Stamp = active
 
--- the time in the queue of a packet that departs at `now`, arrived at `since` and leaves `left` bytes; 0 if the queue
--- is empty afterwards (RFC 8033, section 4.3; the maximum is this project's own)
+-- the time in the queue of a packet that departs at `now`, arrived at `since` and leaves `bytes_left` bytes; 0 if the
+-- queue is empty afterwards (RFC 8033, section 4.3; the maximum is this project's own)
 abbrev pub wait_of : ℕ → ℕ → ℕ → ℕ
-wait_of left since now = if left == 0 then 0 else min (2 ^ 40) (now - since)
+wait_of bytes_left since now = if bytes_left == 0 then 0 else min (2 ^ 40) (now - since)
 
--- the state after the departure of a packet of `size` bytes that arrived at `since` and leaves `left` bytes
+-- the state after the departure of a packet of `size` bytes that arrived at `since` and leaves `bytes_left` bytes
 abbrev pub departed : ControllerState → ℕ → ℕ → ℕ → ℕ → ControllerState
-departed h size left since moment = record h {
+departed h size bytes_left since moment = record h {
   moment = now_at h moment;
-  rate = if measures h.active h.elements.delay then after_departure h.params.dq_threshold h.rate (departure size left (now_at h moment))
+  rate = if measures h.active h.elements.delay then after_departure h.params.dq_threshold h.rate (departure size bytes_left (now_at h moment))
       else h.rate;
-  waited = if keeps_wait h.active h.elements.delay then wait_of left since (now_at h moment) else h.waited;
+  waited = if keeps_wait h.active h.elements.delay then wait_of bytes_left since (now_at h moment) else h.waited;
 }
 
 -- a state whose threshold above 65536 bytes is replaced by 65536, for unchecked numbers
@@ -172,8 +172,8 @@ with_count h count moment = record h {
 
 -- true if departures are measured, no cycle is open, and a departure that leaves this many bytes opens none
 unfoldable pub is_between_cycles : ControllerState → ℕ → Bool
-is_between_cycles h left =
-    measures h.active h.elements.delay && is_none h.rate.begun && nat_lt left (min h.params.dq_threshold 65536)
+is_between_cycles h bytes_left =
+    measures h.active h.elements.delay && is_none h.rate.begun && nat_lt bytes_left (min h.params.dq_threshold 65536)
 
 -- the state after a departure that found no packet
 abbrev pub advanced : ControllerState → ℕ → ControllerState

@@ -101,16 +101,17 @@ impl Controller {
         self.raw
     }
 
-    /// Adds the departure of a packet of `size` bytes that leaves `left` bytes in the queue and arrived at the
+    /// Adds the departure of a packet of `size` bytes that leaves `bytes_left` bytes in the queue and arrived at the
     /// effective moment `since`. It feeds the departure rate or, if the delay comes from time stamps, the packet's time
     /// in the queue (RFC 8033, sections 4.3 and 5.2). For an inactive controller only the moment counts.
     #[inline(always)]
-    pub fn depart(&mut self, size: u32, left: u64, since: Nanos, moment: Nanos)
-        ensures after { self.new ≡ departed self.old size left since moment }
+    pub fn depart(&mut self, size: u32, bytes_left: u64, since: Nanos, moment: Nanos)
+        ensures after { self.new ≡ departed self.old size bytes_left since moment }
         ensures threshold { self.old.params.dq_threshold ≤ 65536 }
-        ensures represents { RepresentsCall self.old (Depart size left since moment) self.new }
+        ensures represents { RepresentsCall self.old (Depart size bytes_left since moment) self.new }
     {
-        self.raw.depart(size, left, since.units(), moment.units());
+        self.raw
+            .depart(size, bytes_left, since.units(), moment.units());
     }
 
     /// Adds a departure that found no packet. Only its moment counts.

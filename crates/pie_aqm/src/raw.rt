@@ -249,17 +249,17 @@ impl RawController {
     /// Adds a departure, as [`Controller::depart`](crate::Controller::depart) does. A `dq_threshold` above 65536 has
     /// the effect of 65536.
     #[inline(always)]
-    pub fn depart(&mut self, size: u32, left: u64, since: u64, moment: u64)
-        ensures { self.new ≡ record (departed (capped self.old) size left since moment) { params = self.old.params } }
+    pub fn depart(&mut self, size: u32, bytes_left: u64, since: u64, moment: u64)
+        ensures { self.new ≡ record (departed (capped self.old) size bytes_left since moment) { params = self.old.params } }
     {
         self.advance_to(moment);
         if self.active {
             match self.elements.delay {
                 Delay::Rate => {
                     let threshold = self.threshold();
-                    self.rate.departed(size, left, self.moment, threshold);
+                    self.rate.departed(size, bytes_left, self.moment, threshold);
                 }
-                Delay::Stamp => self.waited = wait(left, since, self.moment),
+                Delay::Stamp => self.waited = wait(bytes_left, since, self.moment),
             }
         }
     }
@@ -271,7 +271,7 @@ impl RawController {
     #[tactic(auto, using(std::proofs::lemmas::Bool::Decides::nat_tests), unfolding(crate::specs::Steps::count_kept_open))]
     pub fn counted(&self, size: u32) -> Option<u64>
         ensures count { result ≡ count_kept_open self.now size }
-        ensures alone { (left since moment : ℕ) → IfSome result (λ count. departed (capped self.now) size left since moment
+        ensures alone { (bytes_left since moment : ℕ) → IfSome result (λ count. departed (capped self.now) size bytes_left since moment
             ≡ with_count (capped self.now) count moment) }
     {
         if !self.measures() {
@@ -282,15 +282,15 @@ impl RawController {
     }
 
     /// Returns true if departures are measured, no cycle of the departure rate is open, and a departure that leaves
-    /// `left` bytes opens none. Then [`depart`](RawController::depart) changes only the moment.
+    /// `bytes_left` bytes opens none. Then [`depart`](RawController::depart) changes only the moment.
     #[inline(always)]
     #[tactic(auto, using(std::proofs::lemmas::Bool::Decides::nat_tests), unfolding(crate::specs::Steps::is_between_cycles))]
-    pub fn is_between_cycles(&self, left: u64) -> bool
-        ensures value { result ≡ is_between_cycles self.now left }
+    pub fn is_between_cycles(&self, bytes_left: u64) -> bool
+        ensures value { result ≡ is_between_cycles self.now bytes_left }
         ensures alone { (size since moment : ℕ) → result ≡ true
-            → departed (capped self.now) size left since moment ≡ advanced (capped self.now) moment }
+            → departed (capped self.now) size bytes_left since moment ≡ advanced (capped self.now) moment }
     {
-        self.measures() && self.rate.begun.is_none() && left < self.threshold()
+        self.measures() && self.rate.begun.is_none() && bytes_left < self.threshold()
     }
 
     /// Returns true if departures are measured: the controller is active, and the delay comes from the departure rate.
@@ -400,14 +400,14 @@ fn opens_active(profile: Profile) -> bool
     }
 }
 
-/// Returns the time in the queue of a packet that departs at `now`, arrived at `since` and leaves `left` bytes, in
-/// nanoseconds. It is at most `2^40`, and 0 if the queue is empty afterwards (RFC 8033, section 4.3; the maximum is
+/// Returns the time in the queue of a packet that departs at `now`, arrived at `since` and leaves `bytes_left` bytes,
+/// in nanoseconds. It is at most `2^40`, and 0 if the queue is empty afterwards (RFC 8033, section 4.3; the maximum is
 /// this project's own).
 #[inline(never)]
-fn wait(left: u64, since: u64, now: u64) -> u64
-    ensures { result ≡ wait_of left since now }
+fn wait(bytes_left: u64, since: u64, now: u64) -> u64
+    ensures { result ≡ wait_of bytes_left since now }
 {
-    if left == 0 {
+    if bytes_left == 0 {
         0
     } else {
         now.saturating_sub(since).min(MAX_DELAY)

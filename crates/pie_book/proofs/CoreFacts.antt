@@ -193,14 +193,14 @@ module _ (opening : Opening) (core : CoreView) (history : List Event) (shows : R
   registers_is = λ i. registers_with (shows.count i) (shows.moment i) (state-is i) (shows.waiting i)
 
   pub refusal_is : (command : Command) → refusal_of core command ≡ refusal_by_rule opening history command
-  refusal_is command = λ i. refusal_with (shows.moment i) (Steps.due (state-is i)) (shows.count i) (shows.events i) command
+  refusal_is command = λ i. refusal_with (shows.moment i) (Steps.due (state-is i)) (shows.count i) (shows.max_events i) command
 
   -- the core's answer is the decision
   pub next_decided : (command : Command) → answer_in core command ≡ decision opening history command
-  next_decided command = λ i. answer_by (state-is i) (shows.waiting i) (shows.packets i) command
+  next_decided command = λ i. answer_by (state-is i) (shows.waiting i) (shows.capacity i) command
 
   pub cause_is : (moment : ℕ) (packet : Packet) (word : ℕ)
-      → Some (cause core.controller (arrival_of core.waiting core.packets packet word) (length core.waiting))
+      → Some (cause core.controller (arrival_of core.waiting core.capacity packet word) (length core.waiting))
       ≡ cause_after opening history (Arrive moment packet word)
   cause_is moment packet word = grind (arith, nat_tests, state-is)
 
@@ -221,8 +221,8 @@ pub first_shows : (opening : Opening) → Represents opening (first_core opening
 unfolding places admitted departed_count effective_moment greatest waiting_after controller_events stats_after largest_queue largest_delay waited
 first_shows opening = record {
   legal = All-nil (IsLegalAt opening);
-  packets = refl;
-  events = refl;
+  capacity = refl;
+  max_events = refl;
   count = refl;
   moment = let start : max opening.moment 0 ≡ opening.moment = omega arith in sym start;
   waiting = refl;
@@ -279,8 +279,8 @@ module _ (opening : Opening) (core : CoreView) (history : List Event) (shows : R
           taken = sym (refusal_is opening core history shows command) ∙ free;
           answered = next_decided opening core history shows command;
         });
-        packets = shows.packets;
-        events = shows.events;
+        capacity = shows.capacity;
+        max_events = shows.max_events;
         count = rw (shows.count, length-append history (event ∷ [])) refl;
         moment = moment-next core command ∙ moment;
         waiting = waiting;

@@ -44,7 +44,7 @@ impl Core {
         ensures refused { IfErr result (λ why. refusal_of self.now command.now ≡ Some why) }
         ensures taken { IfOk result (λ _. refusal_of self.now command.now ≡ None) }
         ensures moment { IfOk result (λ moment. moment ≡ caller_moment command.now) }
-        ensures room { IfOk result (λ _. self.now.count < self.now.events) }
+        ensures room { IfOk result (λ _. self.now.count < self.now.max_events) }
     {
         self.raw.check(command)
     }
@@ -54,7 +54,7 @@ impl Core {
     #[tactic(auto, using(crate::proofs::CoreFacts::next_decided))]
     pub(crate) fn advance(&mut self, caller: u16, moment: Nanos, command: Command) -> Recorded
         requires taken { refusal_of self.old command ≡ None }
-        requires room { self.old.count < self.old.events }
+        requires room { self.old.count < self.old.max_events }
         requires moment { moment ≡ caller_moment command }
         ensures event { result ≡ event_of caller command result.answer }
         ensures answer { result.answer ≡ answer_in self.old command }
@@ -77,7 +77,7 @@ impl RawCore {
         ensures refused { IfErr result (λ why. refusal_of self.now command.now ≡ Some why) }
         ensures taken { IfOk result (λ _. refusal_of self.now command.now ≡ None) }
         ensures moment { IfOk result (λ moment. moment ≡ caller_moment command.now) }
-        ensures room { IfOk result (λ _. self.now.count < self.now.events) }
+        ensures room { IfOk result (λ _. self.now.count < self.now.max_events) }
     {
         let Some(moment) = Nanos::from_units(command.moment()) else {
             return Err(Refusal::Moment);
@@ -97,7 +97,7 @@ impl RawCore {
             }
             Command::Depart { .. } | Command::Reset { .. } | Command::SetParams { .. } => {}
         }
-        if self.tally.count() == self.events {
+        if self.tally.count() == self.max_events {
             return Err(Refusal::Exhausted);
         }
         Ok(moment)
@@ -107,7 +107,7 @@ impl RawCore {
     #[inline(always)]
     fn decide(&mut self, caller: u16, moment: Nanos, command: Command) -> Recorded
         requires taken { refusal_of self.old command ≡ None }
-        requires room { self.old.count < self.old.events }
+        requires room { self.old.count < self.old.max_events }
         requires moment { moment ≡ caller_moment command }
         ensures event { result ≡ event_of caller command (answer_in self.old command) }
         ensures after { self.new ≡ after_command self.old command }
@@ -141,7 +141,7 @@ impl RawCore {
         word: u64,
     ) -> Recorded
         requires size { IsSize packet.size }
-        requires room { self.old.count < self.old.events }
+        requires room { self.old.count < self.old.max_events }
         ensures event { result ≡ event_of caller (Arrive moment packet word) (answer_in self.old (Arrive moment packet word)) }
         ensures after { self.new ≡ after_command self.old (Arrive moment packet word) }
     {
@@ -162,7 +162,7 @@ impl RawCore {
     /// Returns an arriving packet with the queue before it.
     #[inline(always)]
     pub(crate) fn arrival(&self, packet: Packet, word: u64) -> ArrivingPacket
-        ensures { result ≡ arrival_of self.now.waiting self.now.packets packet word }
+        ensures { result ≡ arrival_of self.now.waiting self.now.capacity packet word }
     {
         ArrivingPacket {
             queued: self.queue.bytes(),
@@ -177,7 +177,7 @@ impl RawCore {
     #[inline(always)]
     fn admit(&mut self, verdict: Verdict, packet: Packet, now: Nanos)
         requires size { IsSize packet.size }
-        requires room { is_queued verdict ≡ true → (length self.old.waiting == self.old.packets) ≡ false }
+        requires room { is_queued verdict ≡ true → (length self.old.waiting == self.old.capacity) ≡ false }
         requires bytes { is_queued verdict ≡ true → bytes_of self.old.waiting + packet.size ≤ 2 ^ 30 }
         ensures { self.new ≡ record self.old { waiting = waiting_next self.old.waiting now (arrival_effect packet (answer_of verdict)) } }
     {
@@ -199,7 +199,7 @@ impl RawCore {
     /// Removes the oldest packet, if there is one.
     #[inline(always)]
     pub(crate) fn depart(&mut self, caller: u16, moment: Nanos) -> Recorded
-        requires room { self.old.count < self.old.events }
+        requires room { self.old.count < self.old.max_events }
         ensures event { result ≡ event_of caller (Depart moment) (answer_in self.old (Depart moment)) }
         ensures after { self.new ≡ after_command self.old (Depart moment) }
         ensures threshold { HasThreshold self.old.controller (departure_call self.old.waiting moment) }
@@ -228,7 +228,7 @@ impl RawCore {
     /// Makes an update.
     #[inline(always)]
     pub(crate) fn update(&mut self, caller: u16, moment: Nanos) -> Recorded
-        requires room { self.old.count < self.old.events }
+        requires room { self.old.count < self.old.max_events }
         ensures event { result ≡ event_of caller (Update moment) (answer_in self.old (Update moment)) }
         ensures after { self.new ≡ after_command self.old (Update moment) }
     {
@@ -246,7 +246,7 @@ impl RawCore {
 
     /// Makes a reset.
     pub(crate) fn reset(&mut self, caller: u16, moment: Nanos) -> Recorded
-        requires room { self.old.count < self.old.events }
+        requires room { self.old.count < self.old.max_events }
         ensures event { result ≡ event_of caller (Reset moment) (answer_in self.old (Reset moment)) }
         ensures after { self.new ≡ after_command self.old (Reset moment) }
     {
@@ -260,7 +260,7 @@ impl RawCore {
 
     /// Sets the parameters.
     pub(crate) fn set(&mut self, caller: u16, moment: Nanos, params: Params) -> Recorded
-        requires room { self.old.count < self.old.events }
+        requires room { self.old.count < self.old.max_events }
         ensures event { result ≡ event_of caller (SetParams moment params) (answer_in self.old (SetParams moment params)) }
         ensures after { self.new ≡ after_command self.old (SetParams moment params) }
     {

@@ -107,12 +107,12 @@ pub fn parts_decide_as_a_core()
     ensures opens { (opening : Opening) → Represents opening (first_core opening) [] }
     ensures opened { (opening : Opening) → (first_core opening).controller ≡ opened_by opening }
     ensures decides { (opening : Opening) (core : CoreView) (history : List Event) → Represents opening core history
-        → (command : Command) → answer_by core.controller core.waiting core.packets command ≡ decision opening history command }
+        → (command : Command) → answer_by core.controller core.waiting core.capacity command ≡ decision opening history command }
     ensures represents { (opening : Opening) (core : CoreView) (history : List Event) → Represents opening core history
         → (caller : ℕ) (command : Command) → first_bad core.controller.params ≡ None → refusal_of core command ≡ None
-        → Represents opening (core_after core command) (history ++ event_of caller command (answer_by core.controller core.waiting core.packets command) ∷ []) }
+        → Represents opening (core_after core command) (history ++ event_of caller command (answer_by core.controller core.waiting core.capacity command) ∷ []) }
     ensures holds { (core : CoreView) (command : Command)
-        → (core_after core command).controller ≡ after_call core.controller (call_of core.waiting core.packets command) }
+        → (core_after core command).controller ≡ after_call core.controller (call_of core.waiting core.capacity command) }
     ensures too_soon { (core : CoreView) (moment : ℕ) → is_too_soon core.controller.moment (due_of core.controller.params core.controller.control) (Update moment)
         ≡ nat_lt (now_at core.controller moment) (due core.controller) }
 {}

@@ -60,10 +60,10 @@ joints : (opening : Opening) (core : CoreView)
     → JoinsBy (ended opening core 100) opening (record core { count = 100 }) Follows
     × JoinsBy (ended opening core 100) opening (record core { count = 103 }) (Gap 100 104)
     × JoinsBy (ended opening core 100) opening (record core { count = 99 }) (Gap 100 100)
-    × JoinsBy (ended opening (record core { packets = 7 }) 100) opening (record core { packets = 8; count = 100 }) (Unlike 100)
+    × JoinsBy (ended opening (record core { capacity = 7 }) 100) opening (record core { capacity = 8; count = 100 }) (Unlike 100)
 joints opening core = (
   (refl, refl),
   (refl, refl, λ e. omega (arith, e)),
   (refl, refl, λ e. omega (arith, e)),
-  (refl, refl, λ opening core. omega (arith, ap (λ c. c.packets) core)),
+  (refl, refl, λ opening core. omega (arith, ap (λ c. c.capacity) core)),
 )

@@ -34,9 +34,9 @@ fn begin(text: &mut Row, steady: &mut Steady, numbers: &Registers)
         return;
     }
     text.clear();
-    text.number(numbers.burst);
-    text.number(numbers.accu);
-    text.number(numbers.prob);
+    text.prepend_number(numbers.burst);
+    text.prepend_number(numbers.accu);
+    text.prepend_number(numbers.prob);
     steady.prob = numbers.prob;
     steady.accu = numbers.accu;
     steady.burst = numbers.burst;
@@ -73,13 +73,13 @@ impl Held {
     /// Returns the text of zeros.
     pub(crate) fn new() -> Held {
         let mut text = Row::new();
-        text.number(0);
-        text.number(0);
-        text.number(0);
+        text.prepend_number(0);
+        text.prepend_number(0);
+        text.prepend_number(0);
         let (prob, accu, burst, len) = (0, 0, 0, text.len());
-        text.number(0);
-        text.number(0);
-        text.number(0);
+        text.prepend_number(0);
+        text.prepend_number(0);
+        text.prepend_number(0);
         Held {
             bytes: 0,
             packets: 0,
@@ -117,9 +117,9 @@ impl Held {
             return;
         }
         begin(&mut self.text, &mut self.steady, registers);
-        self.text.number(delay);
-        self.text.number(registers.packets);
-        self.text.number(registers.bytes);
+        self.text.prepend_number(delay);
+        self.text.prepend_number(registers.packets);
+        self.text.prepend_number(registers.bytes);
         self.bytes = registers.bytes;
         self.packets = registers.packets;
         self.delay = delay;

@@ -86,9 +86,9 @@ step-of opening before event old here fit =
       free = is_free opening before event.command here.taken;
       sound = subst (λ (h : ControllerState). IsSound h) is old.sound;
       state = sym (state-is opening next.core (before ++ event ∷ []) next.represents)
-          ∙ ap (λ (h : ControllerState). after_call h (call_of core.waiting core.packets event.command)) is
-          ∙ ap (λ (w : List Waiting). after_call (state_after opening before) (call_of w core.packets event.command)) old.represents.waiting
-          ∙ ap (λ (n : ℕ). after_call (state_after opening before) (call_of (waiting_after opening before) n event.command)) old.represents.packets;
+          ∙ ap (λ (h : ControllerState). after_call h (call_of core.waiting core.capacity event.command)) is
+          ∙ ap (λ (w : List Waiting). after_call (state_after opening before) (call_of w core.capacity event.command)) old.represents.waiting
+          ∙ ap (λ (n : ℕ). after_call (state_after opening before) (call_of (waiting_after opening before) n event.command)) old.represents.capacity;
       waiting = waiting_after-push opening before event (departed-of-legal opening before old.represents.legal)
           ∙ ap (λ (m : ℕ). waiting_next (waiting_after opening before) m (effect_of event)) (sym (effective_moment-push opening before event));
       same_moment = sym (ap (λ (h : ControllerState). h.moment) is) ∙ old.represents.moment;

@@ -5,7 +5,7 @@ use Rattle.pie_queue.specs.declared.packet.Waiting.{Waiting}
 -- the waiting packets, the oldest first, and the greatest number of packets
 pub record Queue : Type 0 where
   pub waiting : List Waiting
-  pub packets : ℕ
+  pub capacity : ℕ
 
 -- the sum of the sizes of these packets
 abbrev pub bytes_of : List Waiting → ℕ
@@ -21,6 +21,6 @@ HasSize entry = IsSize entry.packet.size
 
 -- the invariant of a byte queue: the packets are within the ring's capacity, and each has a permitted size
 pub record IsQueue (queue : Queue) : Type 0 where
-  pub ring : queue.packets ≤ 2 ^ 20
-  pub within : length queue.waiting ≤ queue.packets
+  pub ring : queue.capacity ≤ 2 ^ 20
+  pub within : length queue.waiting ≤ queue.capacity
   pub sizes : All HasSize queue.waiting

@@ -29,25 +29,25 @@ impl Model for ByteQueue {
 
     ghost Value = { Queue };
 
-    ghost view = { λ queue. record { waiting = queue.ring.items; packets = queue.ring.capacity } };
+    ghost view = { λ queue. record { waiting = queue.ring.items; capacity = queue.ring.capacity } };
 
     ghost invariant = { λ queue. (queue.bytes ≡ bytes_of queue.ring.items)
-        × IsQueue (record { waiting = queue.ring.items; packets = queue.ring.capacity }) };
+        × IsQueue (record { waiting = queue.ring.items; capacity = queue.ring.capacity }) };
 }
 
 impl ByteQueue {
-    /// Makes an empty queue that holds at most `packets` packets, 1 to `2^20`. All memory of the queue is allocated
-    /// here, for exactly `packets` packets.
+    /// Makes an empty queue that holds at most `capacity` packets, 1 to `2^20`. All memory of the queue is allocated
+    /// here, for exactly `capacity` packets.
     ///
     /// # Errors
     ///
     /// Returns `Memory` if there is no memory for the ring.
-    pub fn new(alloc: Global, packets: u32) -> Result<ByteQueue, Memory>
-        requires at_least_one { 1 ≤ packets }
-        requires at_most { packets ≤ 2 ^ 20 }
-        ensures { IfOk result (λ queue. queue ≡ record { waiting = []; packets = packets }) }
+    pub fn new(alloc: Global, capacity: u32) -> Result<ByteQueue, Memory>
+        requires at_least_one { 1 ≤ capacity }
+        requires at_most { capacity ≤ 2 ^ 20 }
+        ensures { IfOk result (λ queue. queue ≡ record { waiting = []; capacity = capacity }) }
     {
-        match HeapCircularBuffer::with_capacity(alloc, packets as usize) {
+        match HeapCircularBuffer::with_capacity(alloc, capacity as usize) {
             Ok(ring) => Ok(ByteQueue { ring, bytes: 0 }),
             Err(_) => Err(Memory),
         }
@@ -61,7 +61,7 @@ impl ByteQueue {
     #[tactic(auto, using(crate::proofs::QueueFacts::bytes_bound, std::proofs::lemmas::List::Sums::sum_by_push))]
     pub fn admit(&mut self, packet: Packet, since: Nanos) -> Result<(), Packet>
         requires { IsSize packet.size }
-        ensures full { IsErr result ↔ (length self.old.waiting ≡ self.old.packets) }
+        ensures full { IsErr result ↔ (length self.old.waiting ≡ self.old.capacity) }
         ensures queued { OnOk result (self.new ≡ record self.old { waiting = self.old.waiting ++ (record { packet = packet; since = since }) ∷ [] }) }
         ensures refused { IfErr result (λ back. (back ≡ packet) × (self.new ≡ self.old)) }
     {
@@ -88,7 +88,7 @@ impl ByteQueue {
     /// Copies the packets of `other` in place of this queue's own and returns true. If this queue's ring has no room
     /// for them, returns false and changes nothing. It allocates nothing.
     pub fn copy_from(&mut self, other: &ByteQueue) -> bool
-        ensures room { result ≡ nat_le (length other.now.waiting) self.old.packets }
+        ensures room { result ≡ nat_le (length other.now.waiting) self.old.capacity }
         ensures copied { OnTrue result (self.new ≡ record self.old { waiting = other.now.waiting }) }
         ensures kept { OnFalse result (self.new ≡ self.old) }
     {
@@ -115,7 +115,7 @@ impl ByteQueue {
     /// Returns the number of waiting packets, at most `2^20`.
     pub fn len(&self) -> usize
         ensures count { result ≡ length self.now.waiting }
-        ensures within { (result ≤ self.now.packets) × (self.now.packets ≤ 2 ^ 20) }
+        ensures within { (result ≤ self.now.capacity) × (self.now.capacity ≤ 2 ^ 20) }
     {
         self.ring.len()
     }
@@ -129,7 +129,7 @@ impl ByteQueue {
 
     /// Returns the greatest number of packets that the ring holds, 1 to `2^20`.
     pub fn capacity(&self) -> usize
-        ensures { result ≡ self.now.packets }
+        ensures { result ≡ self.now.capacity }
     {
         self.ring.capacity()
     }

@@ -15,7 +15,7 @@ returns-clause-explains g c = λ start origin lines before out was explanation_t
     let follows = c.feed_of.ensures.follows start origin lines was.follows in
     let agreed = was.follows.audits.agrees c.requires.agree in
     let explanation = reported-represents origin c.core.result.now (events_of lines) c.args.number c.args.event.now c.args.state.now.replay.set_by
-    c.clock-clock.result c.begin-explained.result.explanation c.begin-explained.ensures.after c.begin-explained.ensures.in_state (rw c.core.ensures agreed.shows) in
+    c.clock-clock.result c.begin-explained.result.explanation c.begin-explained.ensures.after c.begin-explained.ensures.in_state (rw c.core.ensures agreed.represents) in
     let explanation = rw (c.clock-clock.ensures, agreed.clock) at explanation in
     let given = given-reported c.args.self.now.selection c.args.line.now (Some c.begin-explained.result.explanation) was.follows follows.audits agree
     (ap Some explanation ∙ explanation_texts) in
@@ -25,6 +25,6 @@ returns-clause-explains g c = λ start origin lines before out was explanation_t
     let after = ended-represents origin c.core-2.result.now (events_of (lines ++ c.args.line.now ∷ [])) c.begin-explained.result.explanation c.end.new.self
     (λ opening history. c.end.ensures.after opening history c.begin-explained.ensures.event same)
     (c.end.ensures.in_state c.begin-explained.ensures.event same)
-    (rw c.core-2.ensures later.shows) in
+    (rw c.core-2.ensures later.represents) in
     explains-reported c.args.line.now out was follows agree (given.is ∙ rw (← after) refl) (given.event c.begin-explained.result.explanation refl)
     c.increase.ensures (c.in_ok-report_event.ensures _ was.shown)

@@ -442,8 +442,8 @@
 	.size	"pie_early::decision::scaled", .Lfunc_end4-"pie_early::decision::scaled"
 
 	.p2align	4
-	.type	"pie_c::calls::arrive_apart",@function
-"pie_c::calls::arrive_apart":
+	.type	"pie_c::calls::arrive_out_of_line",@function
+"pie_c::calls::arrive_out_of_line":
 	pushq	%rbp
 	pushq	%r15
 	pushq	%r14
@@ -451,76 +451,110 @@
 	pushq	%r12
 	pushq	%rbx
 	pushq	%rax
-	movq	64(%rsp), %r11
-	movq	%r11, %rax
+	movq	64(%rsp), %r10
+	movq	%r10, %rax
 	shrq	$60, %rax
 	movl	$101, %eax
-	jne	.LBB5_32
-	leal	-65536(%rdx), %r10d
+	jne	.LBB5_16
+	leal	-65536(%rdx), %r11d
 	movl	$102, %eax
-	cmpl	$-65535, %r10d
-	jb	.LBB5_32
+	cmpl	$-65535, %r11d
+	jb	.LBB5_16
 	movl	$111, %eax
 	cmpl	$3, %r8d
-	ja	.LBB5_32
+	ja	.LBB5_16
 	movl	$112, %eax
 	cmpq	$1073741824, %rsi
-	ja	.LBB5_32
-	movq	72(%rdi), %r10
-	cmpq	%r11, %r10
+	ja	.LBB5_16
+	cmpq	%r10, 72(%rdi)
 	jae	.LBB5_6
-	movq	%r11, 72(%rdi)
-	movq	%r11, %r10
+	movq	%r10, 72(%rdi)
 .LBB5_6:
 	testl	%ecx, %ecx
 	sete	%bpl
 	movq	16(%rdi), %rcx
-	movq	48(%rdi), %rbx
-	movq	160(%rdi), %r12
-	movq	104(%rdi), %r11
-	movl	%edx, %r15d
-	leaq	(%rsi,%r15), %rax
-	cmpq	%rax, %rbx
+	movq	48(%rdi), %r10
+	movq	160(%rdi), %rbx
+	movl	%edx, %r11d
+	leaq	(%rsi,%r11), %rax
+	cmpq	%rax, %r10
 	setb	%r14b
 	orb	%bpl, %r14b
 	je	.LBB5_8
-	cmpq	%rax, %rbx
+	cmpq	%rax, %r10
 	movb	$4, %al
 	sbbb	$0, %al
-	xorl	%r15d, %r15d
+	xorl	%r11d, %r11d
 	movl	$0, %r14d
-	cmpq	$1, %r12
-	jne	.LBB5_22
-	jmp	.LBB5_30
+	cmpq	$1, %rbx
+	jne	.LBB5_12
+	jmp	.LBB5_13
 .LBB5_8:
 	movq	112(%rdi), %r14
-	cmpq	$1, %r12
-	jne	.LBB5_21
+	cmpq	$1, %rbx
+	jne	.LBB5_11
 	cmpq	$0, 96(%rdi)
-	jne	.LBB5_29
+	jne	.LBB5_10
 	movq	40(%rdi), %rax
 	movq	%rsi, %rcx
 	shrq	%rcx
 	subq	%rcx, %rsi
 	cmpq	%rsi, %rax
-	jae	.LBB5_29
+	jae	.LBB5_10
 	movq	168(%rdi), %r12
 	movq	56(%rdi), %r13
 	movq	80(%rdi), %rbx
 	movq	%rbx, %rcx
 	shrq	$12, %rcx
 	cmpq	$48828124, %rcx
-	ja	.LBB5_13
+	ja	.LBB5_22
 	movq	(%rdi), %rcx
 	movq	%rcx, %rsi
 	shrq	%rsi
 	subq	%rsi, %rcx
-	cmpq	88(%rdi), %rcx
-	ja	.LBB5_29
+	cmpq	%rcx, 88(%rdi)
+	jae	.LBB5_22
+.LBB5_10:
+	xorl	%eax, %eax
+	jmp	.LBB5_13
+.LBB5_11:
+	xorl	%eax, %eax
+.LBB5_12:
+	addq	%rsi, %r11
+	leaq	(%r11,%r11,2), %rdx
+	cmpq	%rdx, %r10
+	jbe	.LBB5_14
 .LBB5_13:
+	movq	%r14, 112(%rdi)
+	jmp	.LBB5_15
+.LBB5_14:
+	leaq	120(%rdi), %rdx
+	leaq	80(%rdi), %rsi
+	movq	$0, 8(%rsi)
+	movq	$0, (%rsi)
+	movq	$0, 24(%rdx)
+	movq	$0, 16(%rdx)
+	movq	$0, 8(%rdx)
+	movq	$0, (%rdx)
+	movq	%rcx, 96(%rdi)
+	movq	$0, 112(%rdi)
+	movq	$1, 160(%rdi)
+	movq	$0, 176(%rdi)
+.LBB5_15:
+	movzbl	%al, %eax
+.LBB5_16:
+	addq	$8, %rsp
+	popq	%rbx
+	popq	%r12
+	popq	%r13
+	popq	%r14
+	popq	%r15
+	popq	%rbp
+	RET
+.LBB5_22:
 	movq	%rbx, %rcx
 	testb	$8, %r12b
-	je	.LBB5_15
+	je	.LBB5_24
 	movq	%rdi, (%rsp)
 	movq	%rax, %rdi
 	movl	%edx, %esi
@@ -532,59 +566,27 @@
 	movl	%ebp, %r8d
 	movq	(%rsp), %rdi
 	movq	%rax, %rcx
-.LBB5_15:
-	testq	%rcx, %rcx
-	je	.LBB5_24
-	testb	$2, %r12b
-	jne	.LBB5_25
-	movq	%rcx, %rax
-	addq	%r14, %rax
-	jb	.LBB5_26
-	movq	%rax, %rdx
-	shrq	$10, %rdx
-	cmpq	$830078125, %rdx
-	jb	.LBB5_28
-	movabsq	$8499999999999, %rdx
-	cmpq	%rdx, %rax
-	ja	.LBB5_26
-	movabsq	$1000000000000, %rdx
-	movq	%r9, %rax
-	mulq	%rdx
-	cmpq	%rcx, %rdx
-	jb	.LBB5_26
-	jmp	.LBB5_28
-.LBB5_21:
-	xorl	%eax, %eax
-.LBB5_22:
-	addq	%rsi, %r15
-	leaq	(%r15,%r15,2), %rdx
-	cmpq	%rdx, %rbx
-	ja	.LBB5_30
-	leaq	120(%rdi), %rdx
-	leaq	80(%rdi), %rsi
-	movq	%r10, 72(%rdi)
-	movq	$0, 8(%rsi)
-	movq	$0, (%rsi)
-	movq	$0, 24(%rdx)
-	movq	$0, 16(%rdx)
-	movq	$0, 8(%rdx)
-	movq	$0, (%rdx)
-	movq	%rcx, 96(%rdi)
-	movq	%r11, 104(%rdi)
-	movq	$0, 112(%rdi)
-	movq	$1, 160(%rdi)
-	movq	$0, 176(%rdi)
-	jmp	.LBB5_31
 .LBB5_24:
-	xorl	%r14d, %r14d
-	jmp	.LBB5_29
-.LBB5_25:
+	testq	%rcx, %rcx
+	je	.LBB5_29
+	testb	$2, %r12b
+	jne	.LBB5_31
+	addq	%rcx, %r14
+	jb	.LBB5_32
+	movq	%r14, %rax
+	shrq	$10, %rax
+	cmpq	$830078125, %rax
+	jb	.LBB5_10
+	movabsq	$8499999999999, %rax
+	cmpq	%rax, %r14
+	ja	.LBB5_32
+.LBB5_31:
 	movabsq	$1000000000000, %rdx
 	movq	%r9, %rax
 	mulq	%rdx
 	cmpq	%rcx, %rdx
-	jae	.LBB5_27
-.LBB5_26:
+	jae	.LBB5_10
+.LBB5_32:
 	testl	%r8d, %r8d
 	setne	%al
 	cmpq	%r13, %rbx
@@ -593,28 +595,13 @@
 	movb	$2, %al
 	subb	%cl, %al
 	xorl	%r14d, %r14d
-	jmp	.LBB5_30
-.LBB5_27:
-	xorl	%ecx, %ecx
-.LBB5_28:
-	addq	%rcx, %r14
+	jmp	.LBB5_13
 .LBB5_29:
+	xorl	%r14d, %r14d
 	xorl	%eax, %eax
-.LBB5_30:
-	movq	%r14, 112(%rdi)
-.LBB5_31:
-	movzbl	%al, %eax
-.LBB5_32:
-	addq	$8, %rsp
-	popq	%rbx
-	popq	%r12
-	popq	%r13
-	popq	%r14
-	popq	%r15
-	popq	%rbp
-	RET
+	jmp	.LBB5_13
 .Lfunc_end5:
-	.size	"pie_c::calls::arrive_apart", .Lfunc_end5-"pie_c::calls::arrive_apart"
+	.size	"pie_c::calls::arrive_out_of_line", .Lfunc_end5-"pie_c::calls::arrive_out_of_line"
 
 	.globl	pie_check_params
 	.p2align	4
@@ -1678,12 +1665,12 @@ pie_arrive_event:
 	cmpq	%rdx, 48(%rdi)
 	jae	.LBB14_11
 	movl	$3, %eax
-.LBB14_22:
 	xorl	%ecx, %ecx
-	jmp	.LBB14_23
+	movq	%rcx, 112(%rdi)
+	jmp	.LBB14_25
 .LBB14_24:
 	movq	%r10, (%rsp)
-	callq	"pie_c::calls::arrive_apart"
+	callq	"pie_c::calls::arrive_out_of_line"
 .LBB14_25:
 	movb	$1, 58(%rbx)
 	movl	%eax, 52(%rbx)
@@ -1709,16 +1696,16 @@ pie_arrive_event:
 	movq	%rdx, %r11
 	shrq	%r11
 	subq	%r11, %rdx
-	cmpq	88(%rdi), %rdx
-	jbe	.LBB14_20
+	cmpq	%rdx, 88(%rdi)
+	jae	.LBB14_21
 	movq	%r10, %rdx
 	shrq	$12, %rdx
-	cmpq	$48828124, %rdx
-	ja	.LBB14_15
+	cmpq	$48828125, %rdx
+	jae	.LBB14_15
 	jmp	.LBB14_23
-.LBB14_20:
+.LBB14_21:
 	testq	%r10, %r10
-	je	.LBB14_21
+	je	.LBB14_22
 .LBB14_15:
 	addq	%r10, %rcx
 	jae	.LBB14_16
@@ -1731,7 +1718,9 @@ pie_arrive_event:
 	movzbl	%cl, %ecx
 	movl	$2, %eax
 	subl	%ecx, %eax
-	jmp	.LBB14_22
+	xorl	%ecx, %ecx
+	movq	%rcx, 112(%rdi)
+	jmp	.LBB14_25
 .LBB14_16:
 	movq	%rcx, %rdx
 	shrq	$10, %rdx
@@ -1746,12 +1735,13 @@ pie_arrive_event:
 	xorl	%eax, %eax
 	cmpq	%r10, %rdx
 	jb	.LBB14_19
+	jmp	.LBB14_23
+.LBB14_22:
+	xorl	%ecx, %ecx
+	xorl	%eax, %eax
 .LBB14_23:
 	movq	%rcx, 112(%rdi)
 	jmp	.LBB14_25
-.LBB14_21:
-	xorl	%eax, %eax
-	jmp	.LBB14_22
 .Lfunc_end14:
 	.size	pie_arrive_event, .Lfunc_end14-pie_arrive_event
 

@@ -30,6 +30,7 @@ profile_number Two = 2
 abbrev pub delay_of : ℕ → Delay
 delay_of choices = if choices % 2 == 1 then Stamp else Rate
 
+-- the optional elements that the flags in `choices` select
 unfoldable pub elements_of : ℕ → Elements
 elements_of choices = record {
   delay = delay_of choices;

@@ -2,6 +2,7 @@
 use Rattle.std.specs.Prelude.{ℕ, Option, Some, None}
 use Rattle.pie_aqm.specs.Types.{RawParams, Elements, Profile, Verdict}
 
+-- the opening of a controller
 pub record Opened : Type 0 where
   pub profile : Profile
   pub elements : Elements

@@ -156,6 +156,7 @@ abbrev pub count_below : ℕ → ℕ → Option Begun → Option ℕ
 count_below threshold size None = None
 count_below threshold size (Some cycle) = if nat_lt (cycle.count + size) threshold then Some (cycle.count + size) else None
 
+-- the bytes that the open cycle has counted after a departure that leaves it open; none if no cycle is open, or if the departure closes it
 unfoldable pub count_kept_open : ControllerState → ℕ → Option ℕ
 count_kept_open h size =
     if measures h.active h.elements.delay then count_below (min h.params.dq_threshold 65536) size h.rate.begun else None
@@ -164,6 +165,7 @@ count_kept_open h size =
 abbrev pub counting : ℕ → Begun → Begun
 counting count cycle = record cycle { count = count }
 
+-- the state after a departure that leaves its cycle open: only the count and the moment change
 abbrev pub with_count : ControllerState → ℕ → ℕ → ControllerState
 with_count h count moment = record h {
   moment = now_at h moment;
@@ -185,6 +187,7 @@ advanced h moment = record h { moment = now_at h moment }
 abbrev pub due_of : RawParams → Parts → ℕ
 due_of params control = control.last + params.t_update
 
+-- the moment from which the next update is not too soon
 abbrev pub due : ControllerState → ℕ
 due h = due_of h.params h.control
 
@@ -192,6 +195,7 @@ due h = due_of h.params h.control
 abbrev pub is_before_due : ℕ → ℕ → ℕ → Bool
 is_before_due before due moment = nat_lt (max before moment) due
 
+-- true if an update at this moment is refused as too soon
 abbrev pub is_too_soon : ControllerState → ℕ → Bool
 is_too_soon h moment = is_before_due h.moment (due h) moment
 

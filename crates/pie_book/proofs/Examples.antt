@@ -22,7 +22,9 @@ use Rattle.pie_book.specs.{registers_after, largest_queue, largest_delay, stats_
 use Rattle.pie_book.specs.{waiting_after, controller_events, effect, fits, last_events, without_last, tail_with, first_run, core_after, first_core, CoreView}
 use Rattle.pie_book.specs.{IsLegalAt, refusal_after, state_after_calls, calls_of, after_calls, resume_refusal, queue_refusal}
 use Rattle.pie_book.specs.{end_refusal, core_of, ResumingView, are_reached, DroppedPackets, ExcerptView, event_of_recorded, MayOpen, HasLimits}
-use Rattle.pie_book.specs.{IsNotContinued, Profile, Two, Elements}
+use Rattle.pie_book.specs.{AreInOrder, AreQueued, ArrivedBy, ArrivedFrom, IsNotContinued, Profile, Two, Elements, Waiting}
+use Rattle.pie_book.proofs.BalanceFacts.{queued_none, queued_resumed}
+use Rattle.std.proofs.lemmas.List.Elements.{All-head}
 use Rattle.pie_params.specs.declared.elements.Delay.{Delay}
 use Rattle.pie_params.specs.declared.elements.Delay.TheVariants.{Rate, Stamp}
 use Rattle.pie_book.specs.declared.book.ContinueRefusal.TheVariants as continue
@@ -300,3 +302,21 @@ wrong_mark : IsLegalAt (opened Bounded 2 100) (record {
 }) → ⊥
 unfolding worked
 wrong_mark legal = let answered : Marked ≡ Enqueued = legal.answered in cc
+
+-- ---- the order of waiting packets
+
+abbrev arrived : ℕ → Waiting
+arrived since = record { packet = packet 7 60; since = since }
+
+-- at the moment 5, two packets that arrived at 3 and at 5 are in order; exchanged, or at the moment 4, they are not
+in_order : AreQueued 5 (arrived 3 ∷ arrived 5 ∷ [])
+in_order =
+    let first = queued_resumed 5 [] (packet 7 60) 3 (queued_none 5) (omega arith, omega arith) (omega arith) (omega arith) in
+    queued_resumed 5 (arrived 3 ∷ []) (packet 7 60) 5 first (omega arith, omega arith) (omega arith) (omega arith)
+
+exchanged : AreQueued 5 (arrived 5 ∷ arrived 3 ∷ []) → ⊥
+unfolding AreInOrder
+exchanged queued = let from = All-head (ArrivedFrom 5) (arrived 3) [] queued.order.0 in omega (arith, from)
+
+too_late : AreQueued 4 (arrived 5 ∷ []) → ⊥
+too_late queued = let by = All-head (ArrivedBy 4) (arrived 5) [] queued.moments in omega (arith, by)

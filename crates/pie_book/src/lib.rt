@@ -18,7 +18,7 @@
 //!   The core has the numbers of the snapshot (`core_of`), so it represents each history that the snapshot represents.
 //! - `Book::excerpt` copies the last events with the state before them (`Ends`).
 //! - Laws: `folds_change_no_answer` for runs; `all_numbers_fit` for the ranges of registers, statistics and
-//!   answers after a legal history; `packets_that_waited_are_taken` and `excerpts_are_legal_after_any_history` for
+//!   answers after a legal history; `packets_of_a_core_are_taken` and `excerpts_are_legal_after_any_history` for
 //!   excerpts.
 #![tactic(auto)]
 
@@ -47,5 +47,6 @@ pub use pie_event::{
 };
 pub use recorded::Recorded;
 pub use snapshot::{
-    CoreSnapshot, Resuming, excerpts_are_legal_after_any_history, packets_that_waited_are_taken,
+    CoreSnapshot, Resuming, excerpts_are_legal_after_any_history, packets_of_a_core_are_taken,
+    packets_that_waited_are_taken,
 };

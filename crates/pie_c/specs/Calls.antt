@@ -84,6 +84,7 @@ packet_refusal size left moment =
 abbrev pub departure_refusal : PieState → ℕ → ℕ → ℕ → ℕ
 departure_refusal state size left moment = unless_refused (packet_refusal size left moment) (if takes_stamps state then 119 else 0)
 
+-- the code of the first refusal of a departure with its arrival moment, or 0
 abbrev pub waited_refusal : PieState → ℕ → ℕ → ℕ → ℕ → ℕ
 waited_refusal state size left arrived moment =
     unless_refused (packet_refusal size left moment) (if takes_stamps state && nat_lt state.moment arrived then 118 else 0)

@@ -9,6 +9,7 @@ fault_number NotANumber = 114
 fault_number TooPrecise = 115
 fault_number TooGreat = 116
 
+-- the code of a number that was read: 0, or that of its fault
 abbrev pub read_code : Result ℕ UnitFault → ℕ
 read_code (Ok number) = 0
 read_code (Err why) = fault_number why

@@ -40,6 +40,7 @@ controller_in s = record {
   accu = s.accu;
 }
 
+-- the controller's state that a struct contains
 unfoldable pub controller_state : PieState → ControllerState
 controller_state s = controller_in s
 
@@ -139,5 +140,6 @@ default_opening rate = record {
 abbrev pub opening_state : PieOpening → ControllerState
 opening_state o = opened (profile_of o.profile) (elements_of o.choices) o.params o.moment
 
+-- the opening of the controller in a struct
 abbrev pub opened_by : PieOpening → Opened
 opened_by o = record { profile = profile_of o.profile; elements = elements_of o.choices; params = o.params; moment = o.moment }

@@ -56,8 +56,8 @@ pub extern "C" fn pie_arrive(
     ensures { Arrives state.old (arrival_of queued size room bits word) (arrival_refusal queued size bits moment) moment result state.new }
 {
     // One value, so that the other path is compiled once and is a jump.
-    let is_usual = room != 0 && state.active == 1 && state.choices <= 1;
-    if is_usual {
+    let is_usual_but_delay = room != 0 && state.active == 1 && state.choices <= 1;
+    if is_usual_but_delay {
         let elements = usual_but_delay(state.choices);
         arrive(state, elements, queued, size, room, bits, word, moment).0
     } else {

@@ -1,6 +1,6 @@
 -- Facts about the end of a subcommand and its output, and about the files meanwhile.
 use Rattle.std.proofs.lemmas.Bool.Decides.{nat_tests}
-use Rattle.pie_commands.proofs.Names.{◌≡◌, ◌≤◌, ℕ, List, Option, Some, arith, IfSome, EndsBy, End, status_of, inr, inl, refl, Ok, Err, TraceFault}
+use Rattle.pie_commands.proofs.Names.{◌≡◌, ◌≤◌, ℕ, List, Option, Some, arith, IfSome, EndsBy, EndsRead, End, status_of, inr, inl, refl, Ok, Err, TraceFault}
 use Rattle.pie_commands.proofs.Names.{Row, records_of, LastEither, Fault, CutsLast, end_of_cut, last_of, None, subst, sym, Elements, EndsStorm}
 use Rattle.pie_commands.proofs.Names.{elements_in, numbers_in, storm_ends, Done, Failed, IsWriteOrMemory, Bool, true, false, IsSome, Text, file_of, Held}
 use Rattle.pie_commands.proofs.Names.{IsEmpty, Keeps, Places, Settles, NoOutputFile, ◌&&◌, if◌then◌else◌, not, after_output, EndsAt, EndsIn, is_whole}
@@ -47,15 +47,15 @@ by-kept end_for has_result old new end before now keeps promise = grind (arith, 
 -- counting the events found a fault
 pub last-faulted : (many : ℕ) (known : Option (List ℕ)) (why : TraceFault) (before : Option (List ℕ))
     → IfSome known (λ text. LastEither (records_of text) (Err why)) → EndsBy end_of_cut (CutsLast many) known (Fault why) before before
-last-faulted many known why before counts =
-    inr (Err (Trace why), refl, IfSome_then known counts (λ text fault. (Err why, fault, (refl, refl))))
+last-faulted many known why before counts = (Err (Trace why), refl, IfSome_then known counts (λ text fault. (Err why, fault, (refl, refl))))
 
 -- the events were counted, and the excerpt up to the last of them was cut
-pub last-counted : (many number : ℕ) (known : Option (List ℕ)) (end : End) (before now : Option (List ℕ))
-    → IfSome known (λ text. LastEither (records_of text) (Ok number)) → EndsBy end_of_cut (CutsEither (last_of number many)) known end before now
-    → EndsBy end_of_cut (CutsLast many) known end before now
-last-counted many number known end before now counts (inl unable) = inl unable
-last-counted many number known end before now counts (inr (outcome, is, cuts)) =
+pub last-counted : (opens : Type 0) (many number : ℕ) (known : Option (List ℕ)) (end : End) (before now : Option (List ℕ))
+    → IfSome known (λ text. LastEither (records_of text) (Ok number))
+    → EndsRead opens (EndsBy end_of_cut (CutsEither (last_of number many)) known) end before now
+    → EndsRead opens (EndsBy end_of_cut (CutsLast many) known) end before now
+last-counted opens many number known end before now counts (inl unopened) = inl unopened
+last-counted opens many number known end before now counts (inr (outcome, is, cuts)) =
     inr (outcome, is, IfSome_then known (if-all known _ _ _ counts cuts cuts) (λ text both. (Ok number, both.0, both.1)))
 
 -- ---- a storm of the requested plan
@@ -84,7 +84,7 @@ pub storm-unwritten : (options : List Row) (elements : Elements) (why : TraceFau
 storm-unwritten options elements why before now chosen write = rw chosen write
 
 pub storm-unchosen : (options : List Row) (before : Option (List ℕ)) → elements_in options ≡ None → EndsStorm options Failed before before
-storm-unchosen options before none = rw none (inr refl, refl)
+storm-unchosen options before none = rw none (refl, refl)
 
 -- ---- output to the caller's writer or to a named file
 
@@ -118,14 +118,14 @@ ends-settled works read forced name old mid new ends end there fresh left empty 
         → (all ≡ true → works ≡ true → MayHave forced (mid name) → placed ≡ true)
         → EndsAt works read forced name fresh old new ends (if all && not placed then NoOutputFile else end)
     go true true is settles part whole =
-        inr (inr (left, empty, promise, rw (sym is) (places-since read forced name left old mid new kept another settles)))
+        inr (left, empty, promise, rw (sym is) (places-since read forced name left old mid new kept another settles))
     go true false is settles part whole = inl (
       refl,
       keeps-both old mid new kept settles,
       hindered-since works forced read name old mid free (λ w may. let wrong : false ≡ true = whole refl w may in cc),
     )
     go false true is settles part whole = let wrong : true ≡ false = part refl in cc
-    go false false is settles part whole = inr (inr (left, empty, promise, rw (sym is) (keeps-both old mid new kept settles)))
+    go false false is settles part whole = inr (left, empty, promise, rw (sym is) (keeps-both old mid new kept settles))
 
 -- with the status 1 each file is unchanged
 settles-keeps : (read : Option Text) (forced : Bool) (name : Text) (left : Option (List ℕ)) (old new : Held) (end : End) → status_of end ≡ 1

@@ -4,7 +4,7 @@ use Rattle.std.proofs.lemmas.Bool.Decides.{nat_tests}
 use Rattle.pie_commands.proofs.Names.{◌≡◌, ◌∙◌, ◌+◌, ◌<◌, ℕ, List, [], ◌∷◌, ◌++◌, add-one, get_or, length, take, Bool, false, Option, None, inl}
 use Rattle.pie_commands.proofs.Names.{inr, refl, ap, subst, ◌||◌, Appends, Appends-nil, Appends-trans, append-nil, map-append, flat_map}
 use Rattle.pie_commands.proofs.Names.{flat_map-append, list_any, Text, Joined, EndView, Fault, ReadsNamed, Result, Ok, Err}
-use Rattle.pie_commands.proofs.Names.{sym, map, HaveOutcomes, AuditsFiles, EndsFiles, HasReadOutcome}
+use Rattle.pie_commands.proofs.Names.{sym, map, HaveOutcomes, AuditsFiles, EndsFiles, LacksFinding, HasReadOutcome}
 use Rattle.pie_commands.proofs.Names.{HasFileOutcome, FileOutcome, is_broken, is_unfound, lines_of, outcome_lines, worst}
 use Rattle.pie_commands.proofs.FileFacts.{IsLeft, left-stays, opens-left, reads-given}
 use Rattle.pie_commands.specs.Files.{CanOpen}
@@ -99,8 +99,25 @@ left-taken {R} first names place name input within is left =
 pub ends-audited : (works joined : Bool) (input : Option (List ℕ)) (files : Text → Option (List ℕ)) (names : List Text) (unfound broken : Bool)
     (end : Option EndView) (before now : Option (List ℕ)) → AuditsFiles works joined input files names unfound broken end before now
     → EndsFiles works joined input files names (worst unfound broken) before now
-ends-audited works joined input files names unfound broken end before now audits = inr (inr (unfound, broken, end, refl, audits))
+ends-audited works joined input files names unfound broken end before now audits = inr (unfound, broken, end, refl, audits)
 
-pub ends-unwritten : (works joined : Bool) (input : Option (List ℕ)) (files : Text → Option (List ℕ)) (names : List Text) (before now : Option (List ℕ))
+pub ends-unwritten : (works joined : Bool) (input : Option (List ℕ)) (files : Text → Option (List ℕ)) (names : List Text) (place : ℕ) (name : Text)
+    (unfound broken : Bool) (end after : Option EndView) (found : Joined) (before written now : Option (List ℕ)) → place < length names
+    → name ≡ get_or names place [] → AuditsFiles works joined input files (take place names) unfound broken end before written
+    → HasFileOutcome works joined input files (take place names) name end (Ok found) after
     → EndsFiles works joined input files names (Fault trace_fault.Write) before now
-ends-unwritten works joined input files names before now = inl refl
+ends-unwritten works joined input files names place name unfound broken end after found before written now within is audits has = inl (
+  refl,
+  record {
+    place = place;
+    within = within;
+    unfound = unfound;
+    broken = broken;
+    end = end;
+    written = written;
+    audited = audits;
+    found = found;
+    after = after;
+    finding = subst (λ (n : Text). HasFileOutcome works joined input files (take place names) n end (Ok found) after) is has;
+  },
+)

@@ -1,14 +1,14 @@
 -- Facts about the text that is read for a named file.
 use Rattle.std.proofs.lemmas.Bool.Decides.{nat_tests}
 use Rattle.std.proofs.Common.{arith}
-use Rattle.std.proofs.Common.{◌≡◌, ℕ, List, [], ◌∷◌, ◌++◌, true, false, Option, Some, None, codes}
+use Rattle.std.proofs.Common.{◌≡◌, ℕ, List, [], ◌∷◌, ◌++◌, Bool, true, false, Option, Some, None, codes}
 use Rattle.std.specs.List.{list_any}
 use Rattle.std.proofs.lemmas.List.Folds.{list_any-append}
 use Rattle.std.specs.Prelude.{◌⊎◌, IfSome, IsSome, if◌then◌else◌}
 use Rattle.std.specs.Str.{bytes_eq}
 use Rattle.either.specs.declared.Either.{Either}
 use Rattle.either.specs.Either.{either}
-use Rattle.pie_commands.specs.Files.{CanOpen, CanRead, Name, ReadsNamed, is_dash, left_for, opens_after, text_given}
+use Rattle.pie_commands.specs.Files.{CanOpen, CanRead, Name, Opens, ReadsNamed, is_dash, left_for, opens_after, text_given}
 
 -- the caller's reader is available, or was taken
 abbrev pub Stays : {R : Type 0} → R → Option R → Type 0
@@ -39,6 +39,11 @@ opens-dash input held name dash opens = rw dash at opens
 pub opens-file : {R : Type 0} (input : Option R) (held : Option (List ℕ)) (name : Name) → bytes_eq name (codes "-") ≡ false
     → CanOpen input held name → IsSome held
 opens-file input held name other opens = rw other at opens
+
+-- no reader was opened, so the text cannot be opened
+pub never-opened : {A : Type 0} (works : Bool) (files : Name → Option (List ℕ)) (file given : Option Name) (reader : Option A) → given ≡ file
+    → reader ≡ None → (works ≡ true → CanRead files given → IsSome reader) → Opens works files file → ⊥
+never-opened works files file given reader same none opens can = grind (arith, nat_tests)
 
 pub can-open : {R : Type 0} (input : R) (files : Name → Option (List ℕ)) (name : Name) → CanRead files (Some name)
     → CanOpen (Some input) (files name) name

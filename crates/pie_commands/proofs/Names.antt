@@ -17,19 +17,19 @@ pub use Rattle.pie_commands.specs.Explanations.{output_kind_of, output_text, uni
 unfoldable pub use Rattle.pie_commands.specs.Explanations.{selection_of}
 pub use Rattle.pie_commands.specs.CutEnds.{CutsInto, CutsLast, around, between, cut_ends, end_of_cut, is_named, last_of}
 unfoldable pub use Rattle.pie_commands.specs.CutEnds.{cut_request_of}
-pub use Rattle.pie_commands.specs.Ends.{EndsBy, Migrates, end_of, status_of}
-pub use Rattle.pie_commands.specs.FileAudits.{HaveOutcomes, AuditsFiles, EndsEither, EndsFiles, HasReadOutcome, HasFileOutcome, HasTextOutcome, FileOutcome}
+pub use Rattle.pie_commands.specs.Ends.{EndsBy, EndsRead, Migrates, end_of, status_of}
+pub use Rattle.pie_commands.specs.FileAudits.{HaveOutcomes, AuditsFiles, EndsEither, EndsFiles, LacksFinding, HasReadOutcome, HasFileOutcome, HasTextOutcome, FileOutcome}
 pub use Rattle.pie_commands.specs.FileAudits.{is_broken, is_unfound, lines_of, outcome_lines, worst}
 pub use Rattle.pie_commands.specs.Files.{Name, ReadsNamed, file_of, text_given, Held, IsEmpty, Keeps, Places, Settles, EndsAt, EndsIn, is_whole}
 pub use Rattle.pie_commands.specs.Files.{after_output}
 pub use Rattle.pie_commands.specs.StormEnds.{EndsStorm, elements_in, numbers_in, storm_ends}
-pub use Rattle.pie_commands.specs.Subcommands.{Answers, EndsAs, EndsTask, EndsTo, Finds, may_differ, output_for}
+pub use Rattle.pie_commands.specs.Subcommands.{Answers, BeginsNothing, EndsAs, EndsTask, EndsTo, Finds, may_differ, output_for}
 pub use Rattle.pie_commands.specs.Words.{file_in, files_in, is_forced, is_joined, options_in, pie_app, subcommand_in, rule_for, Wants, Asks, adds}
 pub use Rattle.pie_commands.specs.Words.{app_for, number_of, number_or, output_in, pie_alone, with_rules, with_subcommands}
 pub use Rattle.pie_commands.specs.declared.cut.Pieces.TheVariants.{Every, Part}
 pub use Rattle.pie_commands.specs.declared.cut.CutRequest.TheVariants.{Last, Once}
 pub use Rattle.pie_commands.specs.declared.end.End.{End}
-pub use Rattle.pie_commands.specs.declared.end.End.TheVariants.{Done, Failed, Fault, CannotStart, NoOutputFile}
+pub use Rattle.pie_commands.specs.declared.end.End.TheVariants.{Done, Failed, Fault, CannotStart, NoOutputFile, Unopened}
 pub use Rattle.pie_commands.specs.declared.options.subcommand.Subcommand.TheVariants.{Audit, Cut, Explain, Migrate, Params, Run, Storm}
 pub use Rattle.pie_cut.specs.Joined.{EndView, JoinsText}
 pub use Rattle.pie_cut.specs.Last.{LastEither}

@@ -1,14 +1,13 @@
--- Facts about the promises of each subcommand: if it never began, if files hold more than is known, and for the command
--- line that selects it.
+-- Facts about the promises of each subcommand: if files hold more than is known, and for the command line that selects it.
 use Rattle.std.proofs.Common.{arith}
 use Rattle.std.proofs.lemmas.Bool.Decides.{nat_tests}
 use Rattle.pie_commands.proofs.Names.{◌≡◌, ◌∙◌, ℕ, List, [], ◌∷◌, Option, Some, Bool, true, subst, sym, IfErr, IfOk, Result, Ok, Err, option_map, App}
-use Rattle.pie_commands.proofs.Names.{HasMatchesOf, Text, kind_of, subcommand_name_of, subcommand_rows_of, takes, End, CannotStart, Failed, Audit, file_in}
+use Rattle.pie_commands.proofs.Names.{HasMatchesOf, Text, kind_of, subcommand_name_of, subcommand_rows_of, takes, End, CannotStart, Failed, Audit, file_in, get_or, inl, inr, None, take}
 use Rattle.pie_commands.proofs.Names.{files_in, is_forced, is_joined, options_in, pie_app, subcommand_in, Joined, EndView, text_given, Held, Keeps}
-use Rattle.pie_commands.proofs.Names.{HaveOutcomes, FileOutcome, HasFileOutcome, EndsEither, EndsFiles, Answers, EndsAs, EndsTask, EndsTo, Finds}
+use Rattle.pie_commands.proofs.Names.{AuditsFiles, HaveOutcomes, FileOutcome, HasFileOutcome, EndsBy, EndsRead, EndsEither, EndsFiles, LacksFinding, Answers, EndsAs, EndsTo, Finds}
 use Rattle.pie_commands.proofs.Names.{may_differ, output_for, FindsEither, JoinsText, records_of, ◌++◌, false}
 use Rattle.pie_commands.proofs.Names.{IfSome}
-use Rattle.pie_commands.specs.Files.{opens_after}
+use Rattle.pie_commands.specs.Files.{CanRead, Opens, opens_after}
 use Rattle.pie_commands.specs.declared.audit.Unaudited.{Unaudited}
 use Rattle.pie_commands.specs.declared.audit.Unaudited.TheVariants.{Unopened, Faulty}
 use Rattle.clap.specs.Words.{Row}
@@ -18,22 +17,8 @@ use Rattle.clap.specs.declared.parser.matches.ArgMatches.{ArgMatches}
 use Rattle.pie_commands.specs.declared.options.subcommand.Subcommand.{Subcommand}
 use Rattle.pie_commands.specs.Words.{word_of}
 use Rattle.pie_commands.specs.declared.end.End.TheVariants.{Differs}
-use Rattle.pie_commands.specs.declared.perform.Task.{Task}
 use Rattle.pie_commands.proofs.EndFacts.{IsRetained, by-kept, known-kept, ends-keep, keeps-same}
 use Rattle.pie_commands.proofs.WordFacts.{name-found, options-in, same-word}
-
--- a subcommand that could not begin wrote nothing
-pub EndsTask-unable : (task : Task) (options : List Row) (known before now : Option (List ℕ)) → now ≡ before
-    → EndsTask task options known CannotStart before now
-EndsTask-unable task options known before now same = grind (arith, nat_tests)
-
-EndsAs-unable : (subcommand : Subcommand) (options : List Row) (works : Bool) (input : Option (List ℕ)) (files : Held) (before now : Option (List ℕ)) → now ≡ before
-    → EndsAs subcommand options works input files CannotStart before now
-EndsAs-unable subcommand options works input files before now same = grind (arith, nat_tests)
-
-EndsTo-unable : (subcommand : Subcommand) (options : List Row) (works : Bool) (input fresh : Option (List ℕ)) (files : Held) (before now : Option (List ℕ))
-    → now ≡ before → EndsTo subcommand options works input fresh files files CannotStart before now
-EndsTo-unable subcommand options works input fresh files before now same = grind (arith, EndsAs-unable, keeps-same)
 
 -- ---- A promise about files that keep their texts also holds of the old files
 
@@ -44,6 +29,9 @@ given-kept input old new file keeps = grind (arith, nat_tests)
 -- if a file can be opened, it can also be opened with more known files
 opens-kept : (old new : Held) (earlier : List Text) (name : Text) → Keeps old new → opens_after old earlier name ≡ true → opens_after new earlier name ≡ true
 opens-kept old new earlier name keeps opens = grind (arith, nat_tests)
+
+read-kept : (works : Bool) (old new : Held) (file : Option Text) → Keeps old new → Opens works old file → Opens works new file
+read-kept works old new file keeps opens = grind (arith, nat_tests)
 
 text-still : (input : Option (List ℕ)) (old new : Held) (name : Text) (P : List ℕ → Type 0) → Keeps old new
     → IfSome (text_given input new (Some name)) P → IfSome (text_given input old (Some name)) P
@@ -72,9 +60,40 @@ all-kept works joined input old new keeps earlier before (one ∷ more) after ha
   all-kept works joined input old new keeps (earlier ++ one.0 ∷ []) have.0 more after have.2,
 )
 
+audits-kept : (works joined : Bool) (input : Option (List ℕ)) (old new : Held) → Keeps old new → (names : List Text) (unfound broken : Bool)
+    (end : Option EndView) (before now : Option (List ℕ)) → AuditsFiles works joined input new names unfound broken end before now
+    → AuditsFiles works joined input old names unfound broken end before now
+audits-kept works joined input old new keeps names unfound broken end before now audits =
+    record {
+      outcomes = audits.outcomes;
+      in_order = audits.in_order;
+      audited = all-kept works joined input old new keeps [] None audits.outcomes end audits.audited;
+      written = audits.written;
+      any_unaudited = audits.any_unaudited;
+      any_broken = audits.any_broken;
+    }
+
+lacks-kept : (works joined : Bool) (input : Option (List ℕ)) (old new : Held) → Keeps old new → (names : List Text) (before : Option (List ℕ))
+    → LacksFinding works joined input new names before → LacksFinding works joined input old names before
+lacks-kept works joined input old new keeps names before lacks = record {
+  place = lacks.place;
+  within = lacks.within;
+  unfound = lacks.unfound;
+  broken = lacks.broken;
+  end = lacks.end;
+  written = lacks.written;
+  audited = audits-kept works joined input old new keeps (take lacks.place names) lacks.unfound lacks.broken lacks.end before lacks.written lacks.audited;
+  found = lacks.found;
+  after = lacks.after;
+  finding = outcome-kept works joined input old new keeps (take lacks.place names) (get_or names lacks.place []) lacks.end (Ok lacks.found) lacks.after
+      lacks.finding;
+}
+
 files-kept : (works joined : Bool) (input : Option (List ℕ)) (old new : Held) (names : List Text) (end : End) (before now : Option (List ℕ))
     → Keeps old new → EndsFiles works joined input new names end before now → EndsFiles works joined input old names end before now
-files-kept works joined input old new names end before now keeps promise = grind (arith, all-kept)
+files-kept works joined input old new names end before now keeps (inl (is, lacks)) = inl (is, lacks-kept works joined input old new keeps names before lacks)
+files-kept works joined input old new names end before now keeps (inr (unfound, broken, last, is, audits)) =
+    inr (unfound, broken, last, is, audits-kept works joined input old new keeps names unfound broken last before now audits)
 
 either-kept : (works joined : Bool) (input : Option (List ℕ)) (old new : Held) (names : List Text) (end : End) (before now : Option (List ℕ))
     → Keeps old new → EndsEither works joined input new names end before now → EndsEither works joined input old names end before now
@@ -86,7 +105,7 @@ either-kept works joined input old new (name ∷ names) end before now keeps pro
 text-kept : (subcommand : Subcommand) (options : List Row) (works : Bool) (input : Option (List ℕ)) (old new : Held) (end : End) (before now : Option (List ℕ))
     → (subcommand ≡ Audit → ⊥) → Keeps old new → EndsAs subcommand options works input new end before now
     → EndsAs subcommand options works input old end before now
-text-kept subcommand options works input old new end before now other keeps promise = grind (arith, by-kept, given-kept)
+text-kept subcommand options works input old new end before now other keeps promise = grind (arith, by-kept, given-kept, read-kept)
 
 pub EndsAs-kept : (subcommand : Subcommand) (options : List Row) (works : Bool) (input : Option (List ℕ)) (old new : Held) (end : End)
     (before now : Option (List ℕ)) → Keeps old new → EndsAs subcommand options works input new end before now
@@ -127,10 +146,10 @@ answers-performed words matches subcommand rows works input fresh old new end be
           one promise;
       differs = λ is. (subcommand, differs-to subcommand rows works input fresh old new before now (rw is at promise), found);
       ends = λ other asks.
-          subst (λ (s : Subcommand). EndsTo s (options_in words) works input fresh old new end before now)
+          inr (subst (λ (s : Subcommand). EndsTo s (options_in words) works input fresh old new end before now)
           (same-word subcommand other (sym found ∙ asks.found))
           (subst (λ (options : List Row). EndsTo subcommand options works input fresh old new end before now)
-          (sym (options-in words matches rows matched given)) promise);
+          (sym (options-in words matches rows matched given)) promise));
     }
 
 -- no subcommand began: memory was short, or the words select none
@@ -141,7 +160,7 @@ answers-unable words works input fresh held end before now same unable = record 
   differs = λ is. absurd (same is);
   ends = λ subcommand asks.
       let is = unable asks.taken in
-      rw is.0 (EndsTo-unable subcommand (options_in words) works input fresh held before now is.1);
+      inl (record { unable = is.0; keeps = keeps-same held; written = is.1 });
 }
 
 pub answers-none : (words : List Text) (works : Bool) (matches : ArgMatches) (input fresh : Option (List ℕ)) (held : Held) (before now : Option (List ℕ))

@@ -22,7 +22,7 @@ use Rattle.pie_commands.specs.declared.cut.Pieces.TheVariants.{Every, Part}
 use Rattle.pie_commands.specs.declared.cut.CutRequest.{CutRequest}
 use Rattle.pie_commands.specs.declared.cut.CutRequest.TheVariants.{Last, Once}
 use Rattle.pie_commands.specs.Explanations.{bound_given, in_order}
-use Rattle.pie_commands.specs.Ends.{EndsBy, WritesNothing}
+use Rattle.pie_commands.specs.Ends.{EndsBy, EndsRead, WritesNothing}
 
 -- ---- the choice
 
@@ -98,16 +98,16 @@ is_named None = false
 is_named (Some name) = not (bytes_eq name (codes "-"))
 
 -- the end of a cut of the last `many` events of a named file, which is read twice; for any other input nothing is written
-abbrev pub ends_last : Bool → ℕ → Option (List ℕ) → End → Option (List ℕ) → Option (List ℕ) → Type 0
-ends_last false many known = WritesNothing
-ends_last true many known = EndsBy end_of_cut (CutsLast many) known
+abbrev pub ends_last : Type 0 → Bool → ℕ → Option (List ℕ) → End → Option (List ℕ) → Option (List ℕ) → Type 0
+ends_last opens false many known = WritesNothing
+ends_last opens true many known = EndsRead opens (EndsBy end_of_cut (CutsLast many) known)
 
 -- the end of a cut of a text, by its result; if the options select nothing, a failure, and nothing is written
-abbrev pub cut_ends : Option CutRequest → Bool → Option (List ℕ) → End → Option (List ℕ) → Option (List ℕ) → Type 0
-cut_ends None named known = WritesNothing
-cut_ends (Some (Once pieces)) named known = EndsBy end_of_cut (CutsInto pieces) known
-cut_ends (Some (Last many)) named known = ends_last named many known
+abbrev pub cut_ends : Type 0 → Option CutRequest → Bool → Option (List ℕ) → End → Option (List ℕ) → Option (List ℕ) → Type 0
+cut_ends opens None named known = WritesNothing
+cut_ends opens (Some (Once pieces)) named known = EndsRead opens (EndsBy end_of_cut (CutsInto pieces) known)
+cut_ends opens (Some (Last many)) named known = ends_last opens named many known
 
--- the end of a cut with the request and the file of these options
-abbrev pub EndsCut : List Row → Option Text → Option (List ℕ) → End → Option (List ℕ) → Option (List ℕ) → Type 0
-EndsCut options file = cut_ends (cut_request_of options) (is_named file)
+-- the end of a cut with the request and the file of these options. If `opens` holds, the file can be opened
+abbrev pub EndsCut : Type 0 → List Row → Option Text → Option (List ℕ) → End → Option (List ℕ) → Option (List ℕ) → Type 0
+EndsCut opens options file = cut_ends opens (cut_request_of options) (is_named file)

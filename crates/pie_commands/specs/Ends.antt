@@ -14,7 +14,7 @@ use Rattle.pie_audit.specs.declared.auditor.Finding.{Finding}
 use Rattle.pie_audit.specs.declared.auditor.Finding.TheVariants as finding
 use Rattle.pie_audit.specs.Text.{FindsEither, finding_line}
 use Rattle.pie_commands.specs.declared.end.End.{End}
-use Rattle.pie_commands.specs.declared.end.End.TheVariants.{Done, Differs, Fault, CannotStart, Failed}
+use Rattle.pie_commands.specs.declared.end.End.TheVariants.{Done, Differs, Fault, Unopened, Failed}
 
 -- the exit status of an end
 abbrev pub status_of : End → ℕ
@@ -37,16 +37,20 @@ end_report closed end = if not closed && is_unwritten end then codes "pie: canno
 
 -- ---- any subcommand
 
--- the subcommand failed, or could not begin, and nothing was written
+-- the subcommand failed, and nothing was written
 abbrev pub WritesNothing : End → Option (List ℕ) → Option (List ℕ) → Type 0
-WritesNothing end before now = ((end ≡ CannotStart) ⊎ (end ≡ Failed)) × (now ≡ before)
+WritesNothing end before now = (end ≡ Failed) × (now ≡ before)
 
--- the subcommand could not begin and nothing was written; or its end follows from its result for the records of the
--- text, if the text is known
+-- the end of a subcommand follows from its result for the records of the text, if the text is known
 abbrev pub EndsBy : {A : Type 0} → (A → End) → (List Row → A → Option (List ℕ) → Option (List ℕ) → Type 0) → Option (List ℕ) → End → Option (List ℕ)
     → Option (List ℕ) → Type 0
-EndsBy {A} end_for has_result known end before now = ((end ≡ CannotStart) × (now ≡ before))
-    ⊎ ((outcome : A) × (end ≡ end_for outcome) × IfSome known (λ text. has_result (records_of text) outcome before now))
+EndsBy {A} end_for has_result known end before now =
+    (outcome : A) × (end ≡ end_for outcome) × IfSome known (λ text. has_result (records_of text) outcome before now)
+
+-- the text could not be opened, and nothing was written; or the subcommand read it and ended so. If `opens` holds, the
+-- text can be opened
+abbrev pub EndsRead : Type 0 → (End → Option (List ℕ) → Option (List ℕ) → Type 0) → End → Option (List ℕ) → Option (List ℕ) → Type 0
+EndsRead opens ends end before now = ((end ≡ Unopened) × (opens → ⊥) × (now ≡ before)) ⊎ ends end before now
 
 -- ---- `pie run`
 
@@ -79,10 +83,10 @@ WritesFinding (Err why) end before now = (end ≡ Fault why) × (now ≡ before)
 WritesFinding (Ok found) end before now = (end ≡ Fault trace_fault.Write) ⊎ ((end ≡ end_found found) × Appends before now (finding_line found))
 
 -- the end of an audit of a history or an excerpt: the line of its finding is written, or the writer failed. If the
--- text has a fault, the reader or memory failed, or the audit could not begin, nothing is written
+-- text has a fault, or the reader or memory failed, nothing is written
 abbrev pub EndsAudit : Option (List ℕ) → End → Option (List ℕ) → Option (List ℕ) → Type 0
-EndsAudit known end before now = ((end ≡ CannotStart) × (now ≡ before))
-    ⊎ ((found : Result Finding TraceFault) × WritesFinding found end before now × IfSome known (λ text. FindsEither (records_of text) found))
+EndsAudit known end before now =
+    (found : Result Finding TraceFault) × WritesFinding found end before now × IfSome known (λ text. FindsEither (records_of text) found)
 
 -- ---- `pie migrate`
 

@@ -1,5 +1,5 @@
 -- The end of an audit of files, of separate ones or of the files of one history, and its output.
-use Rattle.std.specs.Prelude.{ℕ, ◌≡◌, ◌⊎◌, ◌++◌, ◌||◌, List, [], ◌∷◌, Bool, true, false, Option, Some, None, Result, Ok, Err, IfSome, codes, map}
+use Rattle.std.specs.Prelude.{ℕ, ◌≡◌, ◌⊎◌, ◌++◌, ◌||◌, List, [], ◌∷◌, Bool, true, false, Option, Some, None, Result, Ok, Err, IfSome, codes, get_or, length, map, take, ◌<◌}
 use Rattle.std.specs.List.{flat_map, list_any}
 use Rattle.std.specs.Fmt.{decimal}
 use Rattle.std.specs.Io.KnownBytes.{Appends}
@@ -17,7 +17,7 @@ use Rattle.pie_commands.specs.Files.{opens_after, text_given}
 use Rattle.pie_commands.specs.declared.audit.Unaudited.{Unaudited}
 use Rattle.pie_commands.specs.declared.audit.Unaudited.TheVariants.{Unopened, Faulty}
 use Rattle.pie_commands.specs.declared.end.End.{End}
-use Rattle.pie_commands.specs.declared.end.End.TheVariants.{Done, Differs, Fault, CannotStart, Failed}
+use Rattle.pie_commands.specs.declared.end.End.TheVariants.{Done, Differs, Fault, Failed}
 use Rattle.pie_commands.specs.Ends.{EndsAudit}
 
 -- ---- the lines
@@ -121,11 +121,24 @@ pub record AuditsFiles (works joined : Bool) (input : Option (List ℕ)) (files 
   pub any_unaudited : unfound ≡ list_any (λ t. is_unfound t.1) outcomes
   pub any_broken : broken ≡ list_any (λ t. is_broken t.1) outcomes
 
--- the end of an audit of files: the worst end; or a line could not be written; or memory was short and nothing was
+-- the files before one of these were audited and their lines were written, and the finding of this one could not be
 -- written
+pub record LacksFinding (works joined : Bool) (input : Option (List ℕ)) (files : Text → Option (List ℕ)) (names : List Text) (before : Option (List ℕ)) : Type 0 where
+  pub place : ℕ
+  pub within : place < length names
+  pub unfound : Bool
+  pub broken : Bool
+  pub end : Option EndView
+  pub written : Option (List ℕ)
+  pub audited : AuditsFiles works joined input files (take place names) unfound broken end before written
+  pub found : Joined
+  pub after : Option EndView
+  pub finding : HasFileOutcome works joined input files (take place names) (get_or names place []) end (Ok found) after
+
+-- the end of an audit of files: the worst end; or the lines of a finding could not be written
 abbrev pub EndsFiles : Bool → Bool → Option (List ℕ) → (Text → Option (List ℕ)) → List Text → End → Option (List ℕ) → Option (List ℕ) → Type 0
 EndsFiles works joined input files names end before now =
-    (end ≡ Fault trace_fault.Write) ⊎ ((end ≡ CannotStart) × (now ≡ before))
+    ((end ≡ Fault trace_fault.Write) × LacksFinding works joined input files names before)
     ⊎ ((unfound : Bool) × (broken : Bool) × (last : Option EndView) × (end ≡ worst unfound broken)
     × AuditsFiles works joined input files names unfound broken last before now)
 

@@ -5,7 +5,7 @@ use Rattle.std.specs.List.{list_any}
 use Rattle.std.specs.Str.{bytes_eq}
 use Rattle.clap.specs.Words.{Text}
 use Rattle.pie_commands.specs.declared.end.End.{End}
-use Rattle.pie_commands.specs.declared.end.End.TheVariants.{Done, Differs, CannotStart, NoOutputFile}
+use Rattle.pie_commands.specs.declared.end.End.TheVariants.{Done, Differs, NoOutputFile}
 
 -- the bytes of a name
 abbrev pub Name : Type 0
@@ -40,6 +40,10 @@ opens_after files earlier name = if is_dash name then not (list_any is_dash earl
 -- the one text of a subcommand can be read: its file's text is known, or it reads the caller's reader
 abbrev pub CanRead : (Name → Option (List ℕ)) → Option Name → Type 0
 CanRead files file = IfSome (file_of file) (λ name. IsSome (files name))
+
+-- the one text of a subcommand can be opened: if `works`, every known file can
+abbrev pub Opens : Bool → (Name → Option (List ℕ)) → Option Name → Type 0
+Opens works files file = (works ≡ true) × CanRead files file
 
 -- the known text that is read: without a file and for `-` the text of the caller's reader, otherwise the text of
 -- the file
@@ -115,10 +119,9 @@ after_output end there = if is_whole end && not there then NoOutputFile else end
 
 -- the end of a subcommand that writes to a new file with the known contents `fresh`: empty, or unknown. If the
 -- output is complete, the file has the name; otherwise it has not. The end is `NoOutputFile` only if something hinders the
--- file from having the name, and `CannotStart` if the subcommand could not begin. In both cases every file is unchanged
+-- file from having the name; every file is then unchanged
 abbrev pub EndsAt : Bool → Option Text → Bool → Text → Option (List ℕ) → Held → Held → (End → Option (List ℕ) → Option (List ℕ) → Type 0) → End → Type 0
 EndsAt works read forced name fresh old new ends end = ((end ≡ NoOutputFile) × Keeps old new × IsHindered works read forced name old)
-    ⊎ ((end ≡ CannotStart) × Keeps old new)
     ⊎ ((left : Option (List ℕ)) × IsEmpty fresh × ends end fresh left × Settles (is_whole end) read forced name left old new)
 
 -- the end of a subcommand that writes to the caller's writer, with every file unchanged; or, if the options name an

@@ -23,7 +23,7 @@ use Rattle.pie_storm.specs.StormHistory.{WritesStorm}
 use Rattle.pie_storm.specs.StormPlan.{IsStormPlan}
 use Rattle.pie_record.specs.Fault.{IsWriteOrMemory}
 use Rattle.pie_commands.specs.declared.end.End.{End}
-use Rattle.pie_commands.specs.declared.end.End.TheVariants.{Done, Differs, Fault, CannotStart, NoOutputFile, Failed}
+use Rattle.pie_commands.specs.declared.end.End.TheVariants.{Done, Differs, Fault, Unopened, CannotStart, NoOutputFile, Failed}
 use Rattle.pie_commands.specs.Ends.{WritesNothing}
 
 -- the choice that a word names, of two choices with their keywords; the first without a word
@@ -87,6 +87,7 @@ storm_ends None options end before now = WritesNothing end before now
 storm_ends (Some elements) options Done before now = (plan : Plan) × IsStormPlan (numbers_in elements options) plan × WritesStorm plan before now
 storm_ends (Some elements) options Differs before now = ⊥
 storm_ends (Some elements) options (Fault why) before now = IsWriteOrMemory why
+storm_ends (Some elements) options Unopened before now = ⊥
 storm_ends (Some elements) options CannotStart before now = now ≡ before
 storm_ends (Some elements) options NoOutputFile before now = ⊥
 storm_ends (Some elements) options Failed before now = ⊥

@@ -1,6 +1,6 @@
 -- The promise of each subcommand: its end and its output; and the promise of the program that selects one from the
 -- command line.
-use Rattle.std.specs.Prelude.{ℕ, ◌≡◌, Bool, true, false, List, Option, Some, None, Result, Ok, Err, ⊤}
+use Rattle.std.specs.Prelude.{ℕ, ◌≡◌, ◌⊎◌, Bool, true, false, List, Option, Some, None, Result, Ok, Err, ⊤}
 use Rattle.clap.specs.Words.{HasMatchesOf, Row, Text, kind_of, takes}
 use Rattle.clap.specs.declared.error.Error.{Error}
 use Rattle.clap.specs.declared.error.kind.ErrorKind.TheVariants.{OutOfMemory}
@@ -9,14 +9,14 @@ use Rattle.pie_commands.specs.declared.options.subcommand.Subcommand.{Subcommand
 use Rattle.pie_commands.specs.declared.options.subcommand.Subcommand.TheVariants.{Run, Audit, Explain, Cut, Migrate, Storm, Params}
 use Rattle.pie_commands.specs.Words.{word_of}
 use Rattle.pie_commands.specs.Words.{Asks, file_in, files_in, is_forced, is_joined, options_in, output_in, pie_app, subcommand_in}
-use Rattle.pie_commands.specs.Files.{text_given}
+use Rattle.pie_commands.specs.Files.{Opens, text_given}
 use Rattle.pie_commands.specs.Files.{Held, Keeps}
 use Rattle.pie_commands.specs.declared.end.End.{End}
 use Rattle.pie_commands.specs.declared.perform.Task.{Task}
 use Rattle.pie_commands.specs.declared.perform.Task.TheVariants as task
-use Rattle.pie_commands.specs.declared.end.End.TheVariants.{Differs}
+use Rattle.pie_commands.specs.declared.end.End.TheVariants.{CannotStart, Differs}
 use Rattle.pie_commands.specs.CutEnds.{CutsInto, EndsCut, HasSome, end_of_cut}
-use Rattle.pie_commands.specs.Ends.{EndsAudit, EndsBy, EndsMigrate, EndsRun, status_of}
+use Rattle.pie_commands.specs.Ends.{EndsAudit, EndsBy, EndsMigrate, EndsRead, EndsRun, status_of}
 use Rattle.pie_commands.specs.Explanations.{EndsExplain}
 use Rattle.pie_commands.specs.FileAudits.{EndsEither}
 use Rattle.pie_commands.specs.Files.{EndsIn}
@@ -37,13 +37,16 @@ CanDo (task.Cut pieces) = HasSome pieces
 CanDo _ = ⊤
 
 -- the end of a subcommand with these options, with its output. `input` is the known text of the reader and `files`
--- the known text of each file. If `works`, a known file can always be opened
+-- the known text of each file. If `works`, a known file can always be opened. A storm alone can lack memory or a thread
+-- before it writes anything
 abbrev pub EndsAs : Subcommand → List Row → Bool → Option (List ℕ) → Held → End → Option (List ℕ) → Option (List ℕ) → Type 0
-EndsAs Run options works input files = EndsRun (text_given input files (file_in options))
+EndsAs Run options works input files = EndsRead (Opens works files (file_in options)) (EndsRun (text_given input files (file_in options)))
 EndsAs Audit options works input files = EndsEither works (is_joined options) input files (files_in options)
-EndsAs Explain options works input files = EndsExplain options (text_given input files (file_in options))
-EndsAs Cut options works input files = EndsCut options (file_in options) (text_given input files (file_in options))
-EndsAs Migrate options works input files = EndsMigrate (text_given input files (file_in options))
+EndsAs Explain options works input files =
+    EndsRead (Opens works files (file_in options)) (EndsExplain options (text_given input files (file_in options)))
+EndsAs Cut options works input files =
+    EndsCut (Opens works files (file_in options)) options (file_in options) (text_given input files (file_in options))
+EndsAs Migrate options works input files = EndsRead (Opens works files (file_in options)) (EndsMigrate (text_given input files (file_in options)))
 EndsAs Storm options works input files = EndsStorm options
 EndsAs Params options works input files = EndsParams options
 
@@ -74,9 +77,16 @@ abbrev pub Finds : List Text → Result ArgMatches Error → Type 0
 Finds words (Ok matches) = HasMatchesOf pie_app words matches
 Finds words (Err why) = takes pie_app words ≡ true → kind_of why ≡ OutOfMemory
 
+-- no subcommand began, since memory was short, and nothing was written
+pub record BeginsNothing (old new : Held) (end : End) (before now : Option (List ℕ)) : Type 0 where
+  pub unable : end ≡ CannotStart
+  pub keeps : Keeps old new
+  pub written : now ≡ before
+
 -- the end of the program for a command line: with the status 1 each file is unchanged, only some subcommands can
--- find a difference, and the selected subcommand ends as it promises
+-- find a difference, and the selected subcommand ends as it promises, unless memory was short before it began
 pub record Answers (words : List Text) (works : Bool) (input fresh : Option (List ℕ)) (old new : Held) (end : End) (before now : Option (List ℕ)) : Type 0 where
   pub keeps : status_of end ≡ 1 → Keeps old new
   pub differs : end ≡ Differs → (subcommand : Subcommand) × (may_differ subcommand ≡ true) × (subcommand_in words ≡ Some (word_of subcommand))
-  pub ends : (subcommand : Subcommand) → Asks (word_of subcommand) words → EndsTo subcommand (options_in words) works input fresh old new end before now
+  pub ends : (subcommand : Subcommand) → Asks (word_of subcommand) words → BeginsNothing old new end before now
+      ⊎ EndsTo subcommand (options_in words) works input fresh old new end before now

@@ -15,13 +15,13 @@ use Rattle.pie_record.specs.Text.{text_of}
 use Rattle.pie_record.specs.Write.{opening_row}
 use Rattle.pie_units.specs.declared.unit.Quantity.{Quantity}
 use Rattle.pie_units.specs.declared.unit.Quantity.TheVariants.{Packets, Rate}
-use Rattle.pie_units.specs.Opening.{elements_for, gain_of, opening_for, params_for}
+use Rattle.pie_units.specs.Opening.{default_packets, elements_for, gain_of, opening_for, params_for}
 use Rattle.pie_units.specs.Units.{packets_of, rate_of, time_of}
 use Rattle.pie_commands.specs.Words.{flag_given, number_or}
 use Rattle.pie_record.specs.declared.fault.TraceFault.TheVariants as trace_fault
 use Rattle.pie_commands.specs.StormEnds.{decay_in}
 use Rattle.pie_commands.specs.declared.end.End.{End}
-use Rattle.pie_commands.specs.declared.end.End.TheVariants.{Done, Differs, Fault, CannotStart, NoOutputFile, Failed}
+use Rattle.pie_commands.specs.declared.end.End.TheVariants.{Done, Differs, Fault, Unopened, CannotStart, NoOutputFile, Failed}
 
 -- the value that an option's text gives, or `unnamed` if the option isn't given
 abbrev pub given_or : {A : Type 0} → (Text → Result A OptionFault) → A → Option Text → Result A OptionFault
@@ -53,7 +53,7 @@ pub record AsksFor (options : List Row) (asked : TuningOptions) : Type 0 where
   pub rate : given_or rate_of 0 (first_of (codes "rate") options) ≡ Ok asked.rate
   pub target : given_or time_of 15_000_000 (first_of (codes "target") options) ≡ Ok asked.target
   pub t_update : given_or time_of 15_000_000 (first_of (codes "tupdate") options) ≡ Ok asked.t_update
-  pub packets : given_or packets_of 1000 (first_of (codes "limit") options) ≡ Ok asked.packets
+  pub packets : given_or packets_of (default_packets asked.rate) (first_of (codes "limit") options) ≡ Ok asked.packets
   pub alpha : asked.alpha ≡ gain_of (number_or (codes "alpha") 0 32 2 options)
   pub beta : asked.beta ≡ gain_of (number_or (codes "beta") 0 32 20 options)
   pub ecn : asked.ecn ≡ flag_given (codes "ecn") options
@@ -83,11 +83,12 @@ abbrev pub RefusesParams : List Row → Type 0
 RefusesParams options = ((asked : TuningOptions) → AsksFor options asked → ⊥) ⊎ ((asked : TuningOptions) × AsksFor options asked × IsOutOfRange asked)
 
 -- the end of `pie params`: the record is written; or the writer failed; or the options request no such record and
--- nothing is written; or it could not begin
+-- nothing is written
 abbrev pub EndsParams : List Row → End → Option (List ℕ) → Option (List ℕ) → Type 0
 EndsParams options Done before now = WritesParams options before now
 EndsParams options Differs before now = ⊥
 EndsParams options (Fault why) before now = why ≡ trace_fault.Write
-EndsParams options CannotStart before now = now ≡ before
+EndsParams options Unopened before now = ⊥
+EndsParams options CannotStart before now = ⊥
 EndsParams options NoOutputFile before now = ⊥
 EndsParams options Failed before now = (now ≡ before) × RefusesParams options

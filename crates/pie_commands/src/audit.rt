@@ -7,6 +7,7 @@ ghost use Rattle.pie_commands.specs.Ends.{WritesFinding, end_found};
 ghost use Rattle.pie_commands.specs.FileAudits.{EndsEither, EndsFiles, HasReadOutcome, HasTextOutcome, is_broken, line_of_joint, lines_of, named_line, worst};
 ghost use Rattle.pie_commands.specs.Files.{CanOpen, ReadsNamed, left_for};
 ghost use Rattle.pie_commands.specs.Words.{files_in, is_joined};
+ghost use Rattle.pie_cut.specs.declared.joint_audit.Joined.{Joined};
 ghost use Rattle.pie_record.specs.Text.{records_of};
 
 use crate::end::{End, end_with_fault, named_fault};
@@ -160,6 +161,8 @@ fn audit_named<H: NamedFiles + Clock, R: Read + Drop, W: Write, E: Write>(
     ensures writes_line { IfOk result (λ outcome. HasReadOutcome are_joined ((H.works ≡ true) × CanOpen input.old (H.holds rt.now name.now) name.now)
         (ReadsNamed R.remaining input.old (H.holds rt.now) name.now) end.old outcome end.new) }
     ensures written { IfOk result (λ outcome. Appends (W.contents output.old) (W.contents output.new) (lines_of name.now outcome)) }
+    ensures unwritten { IfErr result (λ _. (found : Joined) × HasReadOutcome are_joined ((H.works ≡ true) × CanOpen input.old (H.holds rt.now name.now) name.now)
+        (ReadsNamed R.remaining input.old (H.holds rt.now) name.now) end.old (Ok found) end.new) }
     ensures input { input.new ≡ left_for name.now input.old }
 {
     match outcome_of_named(rt, alloc, is_shown, are_joined, name, input, end, errors) {

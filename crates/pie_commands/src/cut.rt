@@ -1,13 +1,13 @@
 //! `pie cut`: the selection by its options, and its end.
-ghost use Rattle.std.specs.Prelude.{◌≡◌, false, Some, IfSome, codes};
+ghost use Rattle.std.specs.Prelude.{◌≡◌, false, true, Some, IfSome, IsSome, codes};
 ghost use Rattle.std.specs.Str.{bytes_eq};
 ghost use Rattle.clap.specs.Words.{found_of, rows_of};
 ghost use Rattle.pie_record.specs.Text.{records_of};
 ghost use Rattle.pie_cut.specs.Last.{LastEither};
-ghost use Rattle.pie_commands.specs.Files.{text_given};
+ghost use Rattle.pie_commands.specs.Files.{Opens, text_given};
 ghost use Rattle.pie_commands.specs.Words.{file_in};
 ghost use Rattle.pie_commands.specs.CutEnds.{CutsInto, CutsLast, EndsCut, HasSome, WantsSome, chosen, end_of_cut, cut_request_of, within};
-ghost use Rattle.pie_commands.specs.Ends.{EndsBy};
+ghost use Rattle.pie_commands.specs.Ends.{EndsBy, EndsRead};
 
 use crate::end::{End, end_failed, end_with_fault, fault, named_fault};
 use crate::files::NamedFiles;
@@ -145,7 +145,8 @@ fn last_named<H: NamedFiles + Clock, R: Read + Drop, E: Write>(
     name: &str,
     errors: &mut E,
 ) -> Option<Result<u64, TraceFault>>
-    ensures { IfSome result (λ last. IfSome (H.holds rt.now name.now) (λ text. LastEither (records_of text) last)) }
+    ensures last { IfSome result (λ last. IfSome (H.holds rt.now name.now) (λ text. LastEither (records_of text) last)) }
+    ensures opens { H.works ≡ true → IsSome (H.holds rt.now name.now) → IsSome result }
 {
     match rt.open_named(name) {
         Ok(file) => {
@@ -173,11 +174,12 @@ fn cut_last<H: NamedFiles + Screen, R: Read + Drop, W: Write, E: Write>(
     errors: &mut E,
 ) -> End
     ensures { file_in (rows_of (found_of options.now)) ≡ Some name.now → bytes_eq name.now (codes "-") ≡ false
-        → EndsBy end_of_cut (CutsLast many) (H.holds rt.now name.now) result (W.contents output.old) (W.contents output.new) }
+        → EndsRead (Opens H.works (H.holds rt.now) (file_in (rows_of (found_of options.now)))) (EndsBy end_of_cut (CutsLast many) (H.holds rt.now name.now)) result
+        (W.contents output.old) (W.contents output.new) }
 {
     let is_shown = shows_progress(rt, options, true);
     match last_named::<H, R, E>(rt, alloc, is_shown, name, errors) {
-        None => End::CannotStart,
+        None => End::Unopened,
         Some(Err(why)) => end_with_fault(errors, why),
         Some(Ok(number)) => {
             let pieces = Pieces::Part(Span::last(number, many));
@@ -195,7 +197,7 @@ pub(crate) fn cut<H: NamedFiles + Screen, R: Read + Drop, W: Write, E: Write>(
     output: &mut W,
     errors: &mut E,
 ) -> End
-    ensures { EndsCut (rows_of (found_of options.now)) (file_in (rows_of (found_of options.now)))
+    ensures { EndsCut (Opens H.works (H.holds rt.now) (file_in (rows_of (found_of options.now)))) (rows_of (found_of options.now)) (file_in (rows_of (found_of options.now)))
         (text_given (R.remaining input) (H.holds rt.now) (file_in (rows_of (found_of options.now)))) result (W.contents output.old)
         (W.contents output.new) }
 {

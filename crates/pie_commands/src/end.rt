@@ -18,7 +18,9 @@ pub enum End {
     Differs,
     /// The trace or the history has this fault, or the reader, the writer or memory failed.
     Fault(TraceFault),
-    /// A file can't be opened, or memory or a thread is missing at the start. Nothing was written.
+    /// The file to read can't be opened, or standard input was already read. Nothing was written.
+    Unopened,
+    /// Memory or a thread is missing at the start. Nothing was written.
     CannotStart,
     /// The output file can't be created, or can't be moved onto its name. Each file is unchanged.
     NoOutputFile,
@@ -125,7 +127,8 @@ pub(crate) fn fault<E: Write, D: Display + Drop>(errors: &mut E, text: D) {
     let _ = writeln!(errors, "pie: {text}");
 }
 
-/// Writes the line of a fault of the file `name`.
+/// Writes the line of a fault of the file `name`. The NUL behind a name that is not UTF-8 is left out.
 pub(crate) fn named_fault<E: Write, D: Display + Drop>(errors: &mut E, name: &str, text: D) {
-    let _ = writeln!(errors, "pie: {name}: {text}");
+    let shown = name.strip_suffix('\0').unwrap_or(name);
+    let _ = writeln!(errors, "pie: {shown}: {text}");
 }

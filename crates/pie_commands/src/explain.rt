@@ -15,9 +15,13 @@ use std::alloc::Global;
 use std::io::{Read, Write};
 use std::time::Clock;
 
-/// The message for options that don't choose events by exactly one option.
+/// The message for options that choose no events.
 const NO_CHOICE: &str =
     "explain needs one of --event N, --tag T, --lost, --marked and --all, or --summary, --every, --flows or --digest; see pie explain --help";
+
+/// The message for options that choose events more than once.
+const ONE_CHOICE: &str =
+    "explain takes only one of --event N, --tag T, --lost, --marked and --all; see pie explain --help";
 
 /// The message for an interval of length 0.
 const NO_PERIOD: &str = "--every: the interval must be at least 1 ns";
@@ -67,6 +71,17 @@ fn chosen_events(options: &ArgMatches<'_>) -> Option<EventChoice>
     }
 }
 
+/// Returns the message for options that don't choose events by exactly one option.
+fn choice_message(options: &ArgMatches<'_>) -> &'static str {
+    let is_numbered = number(options, "event").is_some() || number(options, "tag").is_some();
+    let is_by_kind = flag(options, "lost") || flag(options, "marked");
+    if is_numbered || is_by_kind || flag(options, "all") {
+        ONE_CHOICE
+    } else {
+        NO_CHOICE
+    }
+}
+
 /// Returns the selection of these options. If they are not valid together, writes a line to `errors` and returns
 /// `None`.
 #[tactic(auto, unfolding(crate::specs::Explanations::selection_of))]
@@ -74,7 +89,7 @@ fn selection_of<E: Write>(options: &ArgMatches<'_>, errors: &mut E) -> Option<Se
     ensures { result ≡ selection_of (rows_of (found_of options.now)) }
 {
     let Some(which) = chosen_events(options) else {
-        fault(errors, NO_CHOICE);
+        fault(errors, choice_message(options));
         return None;
     };
     let from = parsed(bound(options, "from"), "--from:", errors)?;

@@ -176,16 +176,18 @@ fn put<H: NamedFiles, E: Write>(
     }
 }
 
-/// Leaves the output file under its other name. If it isn't empty, writes that name to `errors`.
-fn abandon<H: NamedFiles, E: Write>(rt: &mut H, made: H::Made, errors: &mut E)
+/// Leaves the output file under its other name. If it isn't empty, writes that name to `errors`, and that the output
+/// is incomplete unless it `is_whole`.
+fn abandon<H: NamedFiles, E: Write>(rt: &mut H, made: H::Made, is_whole: bool, errors: &mut E)
     ensures { Keeps (H.holds rt.old) (H.holds rt.new) }
 {
+    let text = if is_whole {
+        "this file has the output"
+    } else {
+        "this file has the incomplete output"
+    };
     if let Some(other) = rt.leave(made) {
-        named_fault(
-            errors,
-            other.as_str(),
-            "this file has the incomplete output",
-        );
+        named_fault(errors, other.as_str(), text);
     }
 }
 
@@ -207,6 +209,6 @@ pub(crate) fn finish_output<H: NamedFiles, E: Write>(
     if is_whole && put(rt, &mut made, name, is_forced, errors) {
         return true;
     }
-    abandon(rt, made, errors);
+    abandon(rt, made, is_whole, errors);
     false
 }

@@ -32,4 +32,4 @@ pub use end::End;
 pub use files::NamedFiles;
 pub use program::command;
 pub use progress::Screen;
-pub use system_files::Output;
+pub use system_files::{Output, word_of_bytes};

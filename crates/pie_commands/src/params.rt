@@ -15,9 +15,9 @@ use pie_book::Limits;
 use pie_params::{Params, RawParams};
 use pie_trace::TraceFault;
 use pie_units::{
-    Layer, LinkLayer, OptionFault, Overhead, Quantity, TuningOptions, can_stall, elements_for,
-    gain_of, is_short, opening_for, overhead_of, packets_of, params_for, rate_of, time_of,
-    write_opening,
+    Layer, LinkLayer, OptionFault, Overhead, Quantity, TuningOptions, can_stall, default_packets,
+    drops_bursts, elements_for, gain_of, is_above_a_second, is_short, opening_for, overhead_of,
+    packets_of, params_for, rate_of, time_of, write_opening,
 };
 use std::io::Write;
 
@@ -100,7 +100,7 @@ fn tuning_in<E: Write>(options: &ArgMatches<'_>, errors: &mut E) -> Option<Tunin
         errors,
     )?;
     let packets = parsed(
-        number_in(options, "limit", Quantity::Packets, 1000),
+        number_in(options, "limit", Quantity::Packets, default_packets(rate)),
         "--limit",
         errors,
     )?;
@@ -127,8 +127,8 @@ fn tuning_in<E: Write>(options: &ArgMatches<'_>, errors: &mut E) -> Option<Tunin
     })
 }
 
-/// Warns of each gain that is rounded, if the queue is full before the delay reaches the target, and if the estimator of
-/// the departure rate can stall.
+/// Warns of each gain that is rounded, if the queue is full before the delay reaches the target, if the chosen limit in
+/// packets is below a burst or above a second, and if the estimator of the departure rate can stall.
 fn warn<E: Write>(
     options: &ArgMatches<'_>,
     asked: &TuningOptions,
@@ -149,6 +149,21 @@ fn warn<E: Write>(
             errors,
             "pie: warning: limit_bytes ({limit}) is below rate x target: the queue is full before the delay reaches the target, and all losses are tail drops"
         );
+    }
+    let packets = asked.packets;
+    if text(options, "limit").is_some() {
+        if drops_bursts(asked, params) {
+            let _ = writeln!(
+                errors,
+                "pie: warning: limit ({packets} packets) is below rate x (target + burst allowance) in packets of the MTU: bursts that the allowance admits fill the queue"
+            );
+        }
+        if is_above_a_second(asked) {
+            let _ = writeln!(
+                errors,
+                "pie: warning: limit ({packets} packets) is above one second at the rate in packets of the MTU; limit_bytes ({limit}) limits the queue too"
+            );
+        }
     }
     if can_stall(asked, params) {
         let _ = writeln!(

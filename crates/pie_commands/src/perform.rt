@@ -3,9 +3,9 @@
 ghost use Rattle.std.specs.Prelude.{◌≡◌, OnOk, option_map};
 ghost use Rattle.std.specs.Io.KnownBytes.{Appends};
 ghost use Rattle.clap.specs.Words.{found_of, rows_of};
-ghost use Rattle.pie_commands.specs.Files.{EndsAt, file_of, text_given};
+ghost use Rattle.pie_commands.specs.Files.{EndsAt, Opens, file_of, text_given};
 ghost use Rattle.pie_commands.specs.Words.{file_in, is_forced};
-ghost use Rattle.pie_commands.specs.Ends.{counts_line};
+ghost use Rattle.pie_commands.specs.Ends.{EndsRead, counts_line};
 ghost use Rattle.pie_commands.specs.Subcommands.{CanDo, EndsAs, EndsTask, EndsTo, output_for};
 
 use crate::cut::{Pieces, cut_out};
@@ -110,14 +110,14 @@ pub(crate) fn perform_task<H: NamedFiles + Screen, R: Read + Drop, W: Write, E: 
     errors: &mut E,
 ) -> End
     requires { CanDo task }
-    ensures { EndsTask task (rows_of (found_of options.now))
-        (text_given (R.remaining input) (H.holds rt.now) (file_in (rows_of (found_of options.now)))) result (W.contents output.old)
+    ensures { EndsRead (Opens H.works (H.holds rt.now) (file_in (rows_of (found_of options.now)))) (EndsTask task (rows_of (found_of options.now))
+        (text_given (R.remaining input) (H.holds rt.now) (file_in (rows_of (found_of options.now))))) result (W.contents output.old)
         (W.contents output.new) }
 {
     let is_shown = shows_progress(rt, options, true);
     match reader_of(rt, file(options), input, errors) {
         Some(reader) => run_task(rt, alloc, task, options, is_shown, reader, output, errors),
-        None => End::CannotStart,
+        None => End::Unopened,
     }
 }
 

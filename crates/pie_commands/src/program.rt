@@ -8,7 +8,7 @@ ghost use Rattle.pie_commands.specs.declared.options.subcommand.Subcommand.{Subc
 ghost use Rattle.pie_commands.specs.Files.{Keeps};
 ghost use Rattle.pie_commands.specs.declared.end.End.{End};
 ghost use Rattle.pie_commands.specs.Ends.{status_of};
-ghost use Rattle.pie_commands.specs.Subcommands.{Answers, EndsTo, Finds, may_differ};
+ghost use Rattle.pie_commands.specs.Subcommands.{Answers, BeginsNothing, EndsTo, Finds, may_differ};
 
 use crate::end::{End, end_failed, end_unable, end_with_fault};
 use crate::files::NamedFiles;
@@ -32,6 +32,8 @@ use std::thread::Threads;
 ///
 /// If the command line names a `FILE`, `rt` opens it. Everything below about the reader then applies to the file's
 /// text, if `rt` knows it; `-` names the reader. If a file can't be opened, the status is 1 and nothing is written.
+/// `Unopened` is the end of one text that can't be opened. If memory is short before the subcommand begins, the end is
+/// `CannotStart`.
 ///
 /// If `-o` names a file, everything below about `output` applies to a new empty file, and nothing is written to
 /// `output`. With the status 0 or 2 that file then has the name. With the status 1 each existing file is unchanged.
@@ -59,7 +61,8 @@ pub fn command<H: Threads + Wait + Sync + NamedFiles + Screen, R: Read + Drop, W
     ensures differs { result ≡ End.Differs → (subcommand : Subcommand) × (may_differ subcommand ≡ true)
         × (subcommand_in (map string_bytes words.now) ≡ Some (word_of subcommand)) }
     ensures performs { (subcommand : Subcommand) → Asks (word_of subcommand) (map string_bytes words.now)
-        → EndsTo subcommand (options_in (map string_bytes words.now)) H.works (R.remaining input) H.fresh (H.holds rt.old) (H.holds rt.new) result
+        → BeginsNothing (H.holds rt.old) (H.holds rt.new) result (W.contents output.old) (W.contents output.new)
+        ⊎ EndsTo subcommand (options_in (map string_bytes words.now)) H.works (R.remaining input) H.fresh (H.holds rt.old) (H.holds rt.new) result
         (W.contents output.old) (W.contents output.new) }
 {
     let found = matches_of(alloc, words);

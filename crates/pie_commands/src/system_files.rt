@@ -6,6 +6,7 @@ ghost use Rattle.pie_commands.specs.Parts.{has_closed, is_closed};
 
 use crate::files::NamedFiles;
 use either::{Either, Left, Right};
+use std::alloc::Global;
 use std::fs::{File, Metadata, OpenOptions};
 use std::io::{Error, ErrorKind, Read, Stdout, Write};
 use std::os::unix::fs::{MetadataExt, OpenOptionsExt, PermissionsExt};
@@ -84,6 +85,28 @@ fn is_standard(name: &str) -> bool {
     matches!(name, "/dev/stdout" | "/dev/fd/1" | "/proc/self/fd/1")
 }
 
+/// Returns the word of a command line that has these bytes. If they are not UTF-8, U+FFFD takes the place of each
+/// invalid sequence, and a NUL follows, which no argument contains. No file is opened or created under such a name.
+///
+/// # Errors
+///
+/// Returns an error if memory is short.
+pub fn word_of_bytes(alloc: Global, bytes: &[u8]) -> io::Result<String> {
+    let mut word = String::from_utf8_lossy(alloc, bytes)?;
+    if word.as_bytes() != bytes {
+        word.push('\0')?;
+    }
+    Ok(word)
+}
+
+/// Refuses a name that is not UTF-8.
+fn check_name(name: &str) -> io::Result<()> {
+    if name.ends_with('\0') {
+        return Err(Error::new(ErrorKind::InvalidInput, "the name is not valid UTF-8"));
+    }
+    Ok(())
+}
+
 /// Returns the error for a file that must not be replaced.
 fn is_there() -> Error {
     Error::new(
@@ -101,7 +124,8 @@ fn name_beside(rt: &HostRuntime, name: &str, count: u32) -> io::Result<String> {
     Ok(made)
 }
 
-/// Creates a file of this name, with the permissions of the file that it will replace, if there is one.
+/// Creates a file of this name, with the permissions of the file that it will replace, if there is one. No file of this
+/// name remains if the permissions can't be set.
 fn create(rt: &HostRuntime, name: &str, replaced: Option<&Metadata>) -> io::Result<File> {
     let mut how = OpenOptions::new();
     how.write(true).create_new(true);
@@ -110,8 +134,13 @@ fn create(rt: &HostRuntime, name: &str, replaced: Option<&Metadata>) -> io::Resu
     };
     how.mode(replaced.mode() & 0o777);
     let file: File = how.open(rt, name)?;
-    file.set_permissions(replaced.permissions())?;
-    Ok(file)
+    match file.set_permissions(replaced.permissions()) {
+        Ok(()) => Ok(file),
+        Err(why) => {
+            let _ = fs::remove_file(rt, name);
+            Err(why)
+        }
+    }
 }
 
 /// Creates a file beside `name`, under a name that no file has.
@@ -178,6 +207,7 @@ impl NamedFiles for HostRuntime {
     ghost works = { false };
 
     fn open_named(&self, name: &str) -> io::Result<File> {
+        check_name(name)?;
         File::open(self, name)
     }
 
@@ -194,6 +224,7 @@ impl NamedFiles for HostRuntime {
     type Made = Output;
 
     fn make(&mut self, name: &str, is_forced: bool) -> io::Result<Output> {
+        check_name(name)?;
         if is_standard(name) {
             return Ok(Output::standard(self.stdout()));
         }

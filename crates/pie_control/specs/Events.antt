@@ -16,6 +16,7 @@ pub data ControlEvent : Type 0 where
   idled : ℕ → ControlEvent
   reset : RawParams → ControlEvent
 
+-- an update with the parameters in force, the elements, its delay and its moment
 abbrev pub update_at : RawParams → Elements → ℕ → ℕ → ControlEvent
 update_at params elements delay moment = updated (record { params = params; elements = elements; delay = delay; moment = moment })
 

@@ -20,6 +20,6 @@ pub enum CutFault {
         event: u64,
     },
     /// No event of the text has a selected number and effective moment.
-    #[error("no event of the text is wanted")]
+    #[error("no event of the text is selected")]
     NoEvents,
 }

@@ -89,6 +89,7 @@ abbrev pub choice_of : Elements → RawParams → Parts → Offered → ℕ → 
 choice_of elements params control offered accu =
     choice_at elements.picking params control (effective_prob_of elements params control offered) offered.bytes offered.ecn offered.word accu
 
+-- the accumulated probability after one more arrival (5.4)
 abbrev pub accu_after : Elements → RawParams → Parts → Offered → ℕ → ℕ
 accu_after elements params control offered accu =
     accu_at elements.picking params control (effective_prob_of elements params control offered) offered.bytes offered.word accu

@@ -18,6 +18,7 @@ pub data EarlyEvent : Type 0 where
   arrived : Arrival → EarlyEvent
   cleared : EarlyEvent
 
+-- an arrival: considered or not, with its effective probability, the picking and the choice
 abbrev pub arrival : Bool → ℕ → Picking → Choice → EarlyEvent
 arrival considered prob picking choice = arrived (record { considered = considered; prob = prob; picking = picking; choice = choice })
 

@@ -1,5 +1,5 @@
 -- An explanation in words, of several lines: the event, its cause, and the numbers before it.
-use Rattle.std.specs.Prelude.{ℕ, ◌+◌, ◌-◌, ◌*◌, ◌/◌, ◌%◌, ◌^◌, ◌==◌, Bool, true, false, if◌then◌else◌, min, max, List, [], ◌∷◌, ◌++◌}
+use Rattle.std.specs.Prelude.{ℕ, ◌+◌, ◌-◌, ◌*◌, ◌/◌, ◌%◌, ◌^◌, ◌==◌, Bool, true, false, if◌then◌else◌, min, max, nat_lt, List, [], ◌∷◌, ◌++◌}
 use Rattle.std.specs.Prelude.{Option, Some, None, codes}
 use Rattle.std.specs.Fmt.{decimal}
 use Rattle.pie_queue.specs.declared.ecn.Ecn.{Ecn}
@@ -169,22 +169,33 @@ cause_words shown cause = considered_words shown cause
 
 -- ---- The duration of a cause, by the laws of docs/GUARANTEES.md
 
--- the duration of a burst allowance: updates after the last one use it up (`burst_allowance_lasts`); the
--- duration of a low accumulated probability: the number of considered packets whose shares reach 0.85
--- (`picks_are_far_apart`)
-unfoldable pub lasting_words : Option Clock → ℕ → Cause → List ℕ
-lasting_words clock last (BurstAllowed burst) =
-    joined (codes "  with unchanged parameters nothing is marked or dropped early before " ∷ moment_words clock (min (last + burst) (2 ^ 64 - 1))
+-- the moment before which nothing is marked or dropped early while the parameters are unchanged, with this burst
+-- allowance left: that of the last update, plus the allowance, of which a reset or a calm update leaves at most `max_burst`
+-- (`since_last_update` of `burst_allowance_lasts`)
+abbrev pub burst_end : Registers → ℕ → ℕ
+burst_end before burst = min (before.last + min burst before.params.max_burst) (2 ^ 64 - 1)
+
+-- this moment, unless it is not after the arrival at `now`
+unfoldable pub burst_words : Option Clock → ℕ → Registers → ℕ → List ℕ
+burst_words clock now before burst =
+    if nat_lt now (burst_end before burst)
+    then joined (codes "  with unchanged parameters nothing is marked or dropped early before " ∷ moment_words clock (burst_end before burst)
     ∷ codes "\n" ∷ [])
-lasting_words clock last (LittleAccumulated accu counted) =
+    else codes ""
+
+-- the duration of a burst allowance, after an arrival at `now`; the duration of a low accumulated probability: the
+-- number of considered packets whose shares reach 0.85 (`picks_are_far_apart`)
+unfoldable pub lasting_words : Option Clock → ℕ → Registers → Cause → List ℕ
+lasting_words clock now before (BurstAllowed burst) = burst_words clock now before burst
+lasting_words clock now before (LittleAccumulated accu counted) =
     joined (codes "  where each counts as this one, at most one of " ∷ decimal (849_999_999_999 / max counted 1 + 1)
     ∷ codes " considered packets in a row is picked\n" ∷ [])
-lasting_words clock last _ = codes ""
+lasting_words clock now before _ = codes ""
 
--- the cause of an arrival and its duration, by the numbers before the event; nothing for any other event
-unfoldable pub reason_words : Option Clock → Registers → Option Cause → List ℕ
-reason_words clock before None = codes ""
-reason_words clock before (Some cause) = joined (cause_words before.prob cause ∷ lasting_words clock before.last cause ∷ [])
+-- the cause of an arrival at `now` and its duration, by the numbers before the event; nothing for any other event
+unfoldable pub reason_words : Option Clock → ℕ → Registers → Option Cause → List ℕ
+reason_words clock now before None = codes ""
+reason_words clock now before (Some cause) = joined (cause_words before.prob cause ∷ lasting_words clock now before cause ∷ [])
 
 -- the line for a change of activity, by the activity before and after the event
 unfoldable pub turned_words : Bool → Bool → List ℕ
@@ -217,5 +228,5 @@ unfoldable pub words_by : Option Clock → Explained → List ℕ
 words_by clock all =
     joined (effect_words all.explanation.number all.explanation.before.active all.explanation.event.command all.explanation.event.answer all.explanation.waited
     ∷ codes "  at " ∷ moment_words clock all.explanation.moment ∷ codes ", by caller " ∷ decimal all.explanation.event.caller ∷ codes "\n"
-    ∷ reason_words clock all.explanation.before all.explanation.cause ∷ turned_words all.explanation.before.active all.after.active
+    ∷ reason_words clock all.explanation.moment all.explanation.before all.explanation.cause ∷ turned_words all.explanation.before.active all.after.active
     ∷ before_words clock all.explanation ∷ [])

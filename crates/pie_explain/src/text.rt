@@ -2,7 +2,8 @@
 ghost use Rattle.std.specs.Prelude.{◌≡◌, ◌++◌, ◌∷◌, [], OnOk, codes, string_bytes, true};
 ghost use Rattle.std.specs.Fmt.{decimal};
 ghost use Rattle.pie_event.specs.declared.command.Answer.TheVariants.{Updated};
-ghost use Rattle.pie_explain.specs.Words.{accumulated_words, before_words, cause_words, compared_words, considered_words, counted_name, effect_words};
+ghost use Rattle.pie_explain.specs.Words.{accumulated_words, before_words, burst_end, burst_words, cause_words, compared_words};
+ghost use Rattle.pie_explain.specs.Words.{considered_words, counted_name, effect_words};
 ghost use Rattle.pie_explain.specs.Words.{ecn_name, joined, last_words, lasting_words, never_words, packet_words, picked_words, reason_words};
 ghost use Rattle.pie_explain.specs.Words.{scaled_words, setter_words, sum_words, turned_words, update_words, verdict_text, words_by};
 
@@ -300,22 +301,50 @@ fn push_considered(page: &mut String, shown: u64, cause: Cause) -> Written
     }
 }
 
-/// Writes the duration of the cause of an arrival, if a bound is known. `last` is the moment of the last update.
+/// Returns the moment before which no packet is marked or dropped early while the parameters are unchanged, with this
+/// burst allowance left. A reset or a calm update leaves at most `max_burst` of it.
+fn burst_end(before: &Registers, burst: u64) -> u64
+    ensures { result ≡ burst_end before.now burst }
+{
+    let lasts = burst.min(before.params.max_burst().units());
+    before.last.saturating_add(lasts)
+}
+
+/// Writes this moment, unless it is not after the arrival at `now`.
+#[tactic(auto, unfolding(crate::specs::Words::burst_words))]
+fn push_burst_end(
+    page: &mut String,
+    clock: Option<Clock>,
+    now: u64,
+    before: &Registers,
+    burst: u64,
+) -> Written
+    ensures { OnOk result (string_bytes page.new ≡ string_bytes page.old ++ burst_words clock now before.now burst) }
+{
+    let moment = burst_end(before, burst);
+    if now < moment {
+        let end = MomentWords { clock, moment };
+        return write!(
+            page,
+            "  with unchanged parameters nothing is marked or dropped early before {end}\n"
+        );
+    }
+    Ok(())
+}
+
+/// Writes the duration of the cause of an arrival at `now`, if a bound is known.
 #[tactic(auto, unfolding(crate::specs::Words::lasting_words))]
-fn push_lasting(page: &mut String, clock: Option<Clock>, last: u64, cause: Cause) -> Written
-    ensures { OnOk result (string_bytes page.new ≡ string_bytes page.old ++ lasting_words clock last cause) }
+fn push_lasting(
+    page: &mut String,
+    clock: Option<Clock>,
+    now: u64,
+    before: &Registers,
+    cause: Cause,
+) -> Written
+    ensures { OnOk result (string_bytes page.new ≡ string_bytes page.old ++ lasting_words clock now before.now cause) }
 {
     match cause {
-        Cause::BurstAllowed { burst } => {
-            let end = MomentWords {
-                clock,
-                moment: last.saturating_add(burst),
-            };
-            write!(
-                page,
-                "  with unchanged parameters nothing is marked or dropped early before {end}\n"
-            )
-        }
+        Cause::BurstAllowed { burst } => push_burst_end(page, clock, now, before, burst),
         Cause::LittleAccumulated { prob, .. } => {
             let many = 849_999_999_999 / prob.max(1) + 1;
             write!(
@@ -327,20 +356,21 @@ fn push_lasting(page: &mut String, clock: Option<Clock>, last: u64, cause: Cause
     }
 }
 
-/// Writes the cause of an arrival and its duration. For any other event it writes nothing.
+/// Writes the cause of an arrival at `now` and its duration. For any other event it writes nothing.
 #[tactic(auto, unfolding(crate::specs::Words::reason_words))]
 fn push_reason(
     page: &mut String,
     clock: Option<Clock>,
+    now: u64,
     before: &Registers,
     cause: Option<Cause>,
 ) -> Written
-    ensures { OnOk result (string_bytes page.new ≡ string_bytes page.old ++ reason_words clock before.now cause) }
+    ensures { OnOk result (string_bytes page.new ≡ string_bytes page.old ++ reason_words clock now before.now cause) }
 {
     match cause {
         Some(cause) => {
             push_cause(page, before.prob, cause)?;
-            push_lasting(page, clock, before.last, cause)
+            push_lasting(page, clock, now, before, cause)
         }
         None => Ok(()),
     }
@@ -414,13 +444,11 @@ pub(crate) fn push_text(page: &mut String, clock: Option<Clock>, all: &Explained
     let explanation = &all.explanation;
     let (event, was_active) = (&explanation.event, explanation.before.active);
     let caller = event.caller;
-    let now = MomentWords {
-        clock,
-        moment: explanation.moment,
-    };
+    let moment = explanation.moment;
+    let now = MomentWords { clock, moment };
     push_effect(page, explanation)?;
     write!(page, "  at {now}, by caller {caller}\n")?;
-    push_reason(page, clock, &explanation.before, explanation.cause)?;
+    push_reason(page, clock, moment, &explanation.before, explanation.cause)?;
     page.push_str(turned_text(was_active, all.after.active))?;
     push_before(page, clock, explanation)
 }

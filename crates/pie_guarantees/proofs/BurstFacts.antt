@@ -1,5 +1,5 @@
 -- The decrease of the burst allowance from update to update, the distance of updates, and the moments before which they are refused.
-use Rattle.pie_guarantees.proofs.Names.{◌≡◌, ◌≤◌, ◌+◌, ◌*◌, ℕ, List, [], ◌∷◌, ◌++◌, true, false, sym, arith, subst, max, All, append_assoc}
+use Rattle.pie_guarantees.proofs.Names.{◌≡◌, ◌≤◌, ◌+◌, ◌*◌, ℕ, List, [], ◌∷◌, ◌++◌, true, false, sym, arith, subst, max, min, All, append_assoc}
 use Rattle.pie_guarantees.proofs.Names.{effect, is_update, after_call, ControllerState, Waiting, Command, Update, Answer, Event, Opening, call_of, is_too_soon}
 use Rattle.pie_guarantees.proofs.Names.{state_after, params_after, parts_after, effective_moment, waiting_after, AllAllow, Allows, IsAllowed}
 use Rattle.pie_guarantees.proofs.Names.{KeepsParams, SetsAllow, nat_tests, burst_left, updates_in, IsLawful, IsEarly, ◌<◌, bytes_of}
@@ -85,21 +85,23 @@ module _ (burst least most : ℕ) (opening : Opening) (before between : List Eve
 keeps-allows : (burst least most : ℕ) (command : Command) → KeepsParams command → SetsAllow burst least most command
 keeps-allows burst least most command keep = grind (arith, nat_tests)
 
-allow-own : (opening : Opening) (before between : List Event) → IsAllowed opening before → All (λ event. KeepsParams event.command) between
-    → AllAllow (burst_left opening before) (params_after opening before).t_update (params_after opening before).t_update opening before between
-allow-own opening before between allowed keep = grind (arith, nat_tests, keeps-allows)
+allow-own : (opening : Opening) (before between : List Event) → All (λ event. KeepsParams event.command) between
+    → AllAllow (min (burst_left opening before) (params_after opening before).max_burst) (params_after opening before).t_update
+    (params_after opening before).t_update opening before between
+allow-own opening before between keep = grind (arith, nat_tests, keeps-allows)
 
 module _ (opening : Opening) (before : List Event) (between : List Event) (event : Event) (later : List Event)
-    (lawful : IsLawful opening (before ++ between ++ event ∷ later)) (allowed : IsAllowed opening before)
-    (keep : All (λ event. KeepsParams event.command) between) (early : IsEarly event) where
+    (lawful : IsLawful opening (before ++ between ++ event ∷ later)) (keep : All (λ event. KeepsParams event.command) between)
+    (early : IsEarly event) where
+  -- the allowance that lasts: a reset or a calm update sets it to `max_burst`, also if that is less than the remaining one
   abbrev left : ℕ
-  left = burst_left opening before
+  left = min (burst_left opening before) (params_after opening before).max_burst
 
   abbrev t : ℕ
   t = (params_after opening before).t_update
 
   own : AllAllow left t t opening before between
-  own = allow-own opening before between allowed keep
+  own = allow-own opening before between keep
 
   used : left ≤ updates_in between * t
   used = updates_before left t t opening before between event later lawful (omega arith) own early

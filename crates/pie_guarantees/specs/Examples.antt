@@ -38,44 +38,54 @@ limited bytes = record {
 
 -- ---- a limit that is lowered below the queued bytes
 
+-- the opening of the example in which a limit is lowered below the bytes in the queue
 abbrev pub lowered_opening : Opening
 lowered_opening = opened usual (limited 1000)
 
+-- the events of that example: 1000 bytes are queued, and the new limit is 500 bytes
 abbrev pub lowered : List Event
 lowered = happened (Arrive 0 (thousand_bytes 1) 0) Enqueued ∷ happened (SetParams 1 (limited 500)) Done ∷ []
 
 -- ---- a burst that begins just before an update: with updates 100 apart and an allowance of 200, its first packet at 99 and the first drop at 200
 
+-- the opening of the example
 abbrev pub burst_opening : Opening
 burst_opening = opened (record usual { delay = Stamp; picking = Random }) (limited 100000)
 
+-- the first packet of the burst
 abbrev pub burst_begins : List Event
 burst_begins = happened (Arrive 99 (thousand_bytes 1) 0) Enqueued ∷ []
 
+-- the events between the first packet and the first drop
 abbrev pub burst_continues : List Event
 burst_continues =
     happened (Arrive 99 (thousand_bytes 2) 0) Enqueued ∷ happened (Arrive 99 (thousand_bytes 3) 0) Enqueued
     ∷ happened (Depart 100) (Left (thousand_bytes 1))
     ∷ happened (Update 100) (Updated 1 0 100) ∷ happened (Depart 199) (Left (thousand_bytes 2)) ∷ happened (Update 200) (Updated 100 96191 0) ∷ []
 
+-- the first drop of the burst
 abbrev pub first_drop : Event
 first_drop = happened (Arrive 200 (thousand_bytes 4) 0) DroppedEarly
 
 -- ---- an update at the last moment of all, 2^60 - 1: no later update can be due
 
+-- an update at the last possible moment
 abbrev pub last_update : List Event
 last_update = happened (Update 1152921504606846975) (Updated 0 0 200) ∷ []
 
 -- ---- two flows that send in turn, at a probability of a half: every second considered packet is picked, and each is of flow 1
 
+-- the opening of the example
 abbrev pub flows_opening : Opening
 flows_opening = opened (record usual { delay = Stamp }) (record (limited 100000) { max_burst = 0 })
 
+-- the events after which the probability is a half
 abbrev pub half_is_reached : List Event
 half_is_reached =
     happened (Arrive 0 (thousand_bytes 9) 0) Enqueued ∷ happened (Arrive 0 (thousand_bytes 9) 0) Enqueued
     ∷ happened (Depart 512000001) (Left (thousand_bytes 9)) ∷ happened (Update 512000001) (Updated 512000001 500000000000 0) ∷ []
 
+-- arrivals of two flows in turn
 abbrev pub flows_in_turn : List Event
 flows_in_turn =
     happened (Arrive 512000002 (thousand_bytes 2) 0) Enqueued ∷ happened (Arrive 512000003 (thousand_bytes 1) 0) DroppedEarly
@@ -87,5 +97,6 @@ abbrev pub flow_of : Command → ℕ
 flow_of (Arrive moment packet word) = packet.tag
 flow_of _ = 0
 
+-- the number of packets of this flow that are marked or dropped early
 abbrev pub picks_of : ℕ → List Event → ℕ
 picks_of flow events = count_by (λ event. is_early event.answer && (flow_of event.command == flow)) events

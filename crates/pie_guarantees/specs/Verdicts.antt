@@ -50,9 +50,11 @@ packet_queued _ = None
 unfoldable pub packets_queued : List Event → List Packet
 packets_queued history = filter_map (λ event. packet_queued (effect_of event)) history
 
+-- the packets that departed, in order
 unfoldable pub packets_departed : List Event → List Packet
 packets_departed history = filter_map (λ event. departure (effect_of event)) history
 
+-- the queued packets after a history, the oldest first
 abbrev pub packets_waiting : Opening → List Event → List Packet
 packets_waiting opening history = map (λ (entry : Waiting). entry.packet) (waiting_after opening history)
 

@@ -1,5 +1,5 @@
 //! The time for which a burst passes (RFC 8033, section 4.4).
-ghost use Rattle.std.specs.Prelude.{◌≡◌, ◌≤◌, ◌+◌, ◌*◌, ◌++◌, ◌∷◌, [], All, List, ℕ, false, true};
+ghost use Rattle.std.specs.Prelude.{◌≡◌, ◌≤◌, ◌+◌, ◌*◌, ◌++◌, ◌∷◌, [], All, List, min, ℕ, false, true};
 ghost use Rattle.pie_guarantees.specs.{Event, Opening, active_after, params_after, parts_after, effective_moment, AllAllow, IsAllowed, IsWhole};
 ghost use Rattle.pie_guarantees.specs.{AtEachEvent, BetweenAny, IsCalmUpdate};
 ghost use Rattle.pie_guarantees.specs.{KeepsParams, burst_left, updates_in, IsLawful, IsEarly};
@@ -16,9 +16,10 @@ pub fn allowances_begin_whole()
 {}
 
 /// From any moment on, by the remaining burst allowance: ⌈remaining allowance / `t_update`⌉ updates come before the
-/// first packet that is marked or dropped early (`updates`, RFC 8033, section 4.4). Since updates are `t_update`
-/// apart, this packet comes no sooner than the remaining allowance, less one `t_update`, after that moment
-/// (`earliest`). It comes no sooner than the remaining allowance after the last update before that moment, or after
+/// first packet that is marked or dropped early (`updates`, RFC 8033, section 4.4). A reset and a calm update set
+/// the allowance to `max_burst`, also if that is less. So the allowance that lasts is the remaining one, at most `max_burst`. Since
+/// updates are `t_update` apart, the first such packet comes no sooner than this allowance, less one `t_update`, after
+/// that moment (`earliest`). It comes no sooner than this allowance after the last update before that moment, or after
 /// the opening (`since_last_update`). From a whole allowance with the defaults these are 10 updates, 135 and 150
 /// milliseconds.
 ///
@@ -32,13 +33,13 @@ pub fn burst_allowance_lasts()
         → AllAllow burst least most opening before between
         → effective_moment opening before + updates_in between * least ≤ effective_moment opening (before ++ between) + least) }
     ensures earliest { (opening : Opening) (before : List Event) (between : List Event) (event : Event) (later : List Event)
-        → IsLawful opening (before ++ between ++ event ∷ later) → IsAllowed opening before → All (λ event. KeepsParams event.command) between
-        → IsEarly event
-        → effective_moment opening before + burst_left opening before
+        → IsLawful opening (before ++ between ++ event ∷ later) → All (λ event. KeepsParams event.command) between → IsEarly event
+        → effective_moment opening before + min (burst_left opening before) (params_after opening before).max_burst
         ≤ effective_moment opening (before ++ between) + (params_after opening before).t_update }
     ensures since_last_update { (opening : Opening) (before : List Event) (between : List Event) (event : Event) (later : List Event)
-        → IsLawful opening (before ++ between ++ event ∷ later) → IsAllowed opening before → All (λ event. KeepsParams event.command) between
-        → IsEarly event → (parts_after opening before).last + burst_left opening before ≤ effective_moment opening (before ++ between) }
+        → IsLawful opening (before ++ between ++ event ∷ later) → All (λ event. KeepsParams event.command) between → IsEarly event
+        → (parts_after opening before).last + min (burst_left opening before) (params_after opening before).max_burst
+        ≤ effective_moment opening (before ++ between) }
     ensures allowed { (opening : Opening) (before : List Event) (later : List Event) → IsLawful opening (before ++ later)
         → All (λ event. KeepsParams event.command) before → IsAllowed opening before }
 {}

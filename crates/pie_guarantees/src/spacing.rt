@@ -49,10 +49,23 @@ pub fn picks_are_not_consecutive()
 /// last, unfinished sum (`at_most`). Other restarts are tail drops, resets, arrivals that activate the controller,
 /// and packets that are considered while the probability counts as 0. So these bound the share of picked packets for
 /// any course of the probability.
+///
+/// If each effective probability is at most `most`, and the accumulated probability is 0 at the first place, 0.85 for
+/// each pick is at most the number of considered packets times `most` (`few`). If each is also at least `least`, this
+/// number times `least` is less than 8.5 plus `most` for each pick, plus 8.5 for each other restart and for the last,
+/// unfinished sum (`many`). So at a constant probability p, and without other restarts, the share of picked packets
+/// lies between p / (8.5 + p) and p / 0.85 over a long time.
 pub fn picks_share_the_probability()
     ensures at_least { BetweenAny (λ opening before between. opening.choices.elements.picking ≡ Derandomized → accu_after opening before ≡ 0
         → 850_000_000_000 * picks_in between ≤ effective_sum_in opening before between) }
     ensures at_most { BetweenAny (λ opening before between. opening.choices.elements.picking ≡ Derandomized
         → effective_sum_in opening before between
         < 9_500_000_000_000 * picks_in between + 8_500_000_000_000 * (restarts_in opening before between + 1)) }
+    ensures few { (most : ℕ) → BetweenAny (λ opening before between. opening.choices.elements.picking ≡ Derandomized → accu_after opening before ≡ 0
+        → AllAlong (EffectiveAtMost most opening) before between
+        → 850_000_000_000 * picks_in between ≤ considered_in opening before between * most) }
+    ensures many { (least : ℕ) (most : ℕ) → BetweenAny (λ opening before between. opening.choices.elements.picking ≡ Derandomized
+        → AllAlong (EffectiveAtLeast least opening) before between → AllAlong (EffectiveAtMost most opening) before between
+        → considered_in opening before between * least
+        < (8_500_000_000_000 + most) * picks_in between + 8_500_000_000_000 * (restarts_in opening before between + 1)) }
 {}

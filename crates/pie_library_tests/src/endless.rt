@@ -1,7 +1,6 @@
 //! A reader without an end, and a writer that compares its input with expected bytes.
 
 use pie_book::Answer;
-use pie_record::history_record::line_of;
 use pie_trace::{HistoryLines, Line};
 use std::alloc::Global;
 use std::io;
@@ -83,18 +82,6 @@ pub(crate) fn departures(alloc: Global) -> io::Result<String> {
     Ok(history)
 }
 
-/// Returns the next line, if there is one without a record fault.
-pub(crate) fn next_line<R: Read + Drop>(lines: &mut HistoryLines<R>) -> Option<Line> {
-    if !matches!(lines.next_record(), Ok(true)) {
-        return None;
-    }
-    let mut line = Line::Note;
-    match line_of(lines.version(), lines.record(), &mut line) {
-        Ok(()) => Some(line),
-        Err(_) => None,
-    }
-}
-
 /// Tests that a history without an end has its opening and a thousand events.
 pub(crate) fn lines_come(alloc: Global) -> bool {
     let Ok((mut lines, opening)) = HistoryLines::open(alloc, Endless::of(b"depart,2,1,empty\n"))
@@ -102,8 +89,8 @@ pub(crate) fn lines_come(alloc: Global) -> bool {
         return false;
     };
     for _ in 0..1000 {
-        match next_line(&mut lines) {
-            Some(Line::Valid(event)) => {
+        match lines.next_line() {
+            Ok(Some(Line::Valid(event))) => {
                 if event.caller != 2 || event.answer != Answer::Empty {
                     return false;
                 }

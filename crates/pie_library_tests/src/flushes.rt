@@ -123,3 +123,27 @@ impl Writes {
         self.reports(alloc, whole) && self.reports(alloc, FAULT)
     }
 }
+
+/// A writer that accepts nothing, and counts its flushes.
+#[derive(Drop)]
+struct Refusing {
+    flushes: u64,
+}
+
+impl Write for Refusing {
+    fn write(&mut self, _buf: &[u8]) -> io::Result<usize> {
+        Err(io::Error::from(ErrorKind::BrokenPipe))
+    }
+
+    fn flush(&mut self) -> io::Result<()> {
+        self.flushes = self.flushes.saturating_add(1);
+        Ok(())
+    }
+}
+
+/// Tests that a run flushes its writer once, although the write before it failed, and reports the failure.
+pub(crate) fn failed_writes_are_flushed(alloc: Global) -> bool {
+    let mut writer = Refusing { flushes: 0 };
+    let fault = run_trace(alloc, TRACE, &mut writer).err();
+    is_write(fault) && writer.flushes == 1
+}

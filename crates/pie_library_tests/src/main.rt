@@ -4,6 +4,7 @@
 //! `calls` makes calls that may run out of memory, one after another, and prints their answers and effects;
 //! `tests/libraries/refused_memory.py` makes each request for memory of each call fail in turn. `tests` prints
 //! the result of each test, and `sleepers` that of the test whose system calls `bench/pie_lock_calls.sh` counts.
+//! `pace` prints the result of a test for a storm with a thread that starts late.
 //! `book`, `lock` and `link` measure (bench/README.md).
 #![tactic(auto)]
 
@@ -59,6 +60,7 @@ fn part<R: Threads + Wait + Clock + Print + Sync>(to: &mut Report<R>, alloc: Glo
     match name {
         "calls" => calls(to, alloc),
         "sleepers" => sleepers(to, alloc),
+        "pace" => pace(to, alloc),
         "book" => event_costs::measure(to, alloc),
         "lock" => lock_costs::measure(to, alloc),
         "link" => link_costs::measure(to, alloc),
@@ -102,6 +104,9 @@ fn tests<R: Threads + Wait + Clock + Print + Sync>(to: &mut Report<R>, alloc: Gl
         "the_largest_ring" words::the_largest_ring(alloc);
         "a_core_decides_worked_histories" rows::core_decides(alloc);
         "a_book_decides_worked_histories_and_folds" rows::book_decides(alloc);
+        "a_fault_of_a_history_is_repeated" rows::faults_are_repeated(alloc);
+        "quoted_records_are_copied" rows::quoted_records_are_copied(alloc);
+        "a_failed_write_is_followed_by_a_flush" flushes::failed_writes_are_flushed(alloc);
         "runs_end_with_registers_and_statistics" rows::runs_end(alloc);
         "runs_are_bounded_by_records" rows::runs_are_bounded(alloc);
         "a_history_without_an_end_is_read" endless::lines_come(alloc);
@@ -111,7 +116,7 @@ fn tests<R: Threads + Wait + Clock + Print + Sync>(to: &mut Report<R>, alloc: Gl
         "a_held_sender_comes_last" storms::held_comes_last(to.rt, alloc);
         "senders_see_the_flags_of_all_others" storms::flags_are_seen(to.rt, alloc);
         "folds_and_a_change_take_part" storms::folds_take_part(to.rt, alloc);
-        "a_fold_that_comes_too_early_is_passed_over" storms::early_fold_is_passed_over(to.rt, alloc);
+        "folds_that_come_too_early_are_passed_over" storms::early_folds_are_passed_over(to.rt, alloc);
         "plans_of_storms_are_checked" storms::plans_are_checked(to.rt, alloc);
         "a_storm_keeps_its_pace" storms::pace_is_kept(to.rt, alloc);
     );
@@ -122,4 +127,10 @@ fn tests<R: Threads + Wait + Clock + Print + Sync>(to: &mut Report<R>, alloc: Gl
 fn sleepers<R: Threads + Wait + Clock + Print + Sync>(to: &mut Report<R>, alloc: Global) {
     let wake = lock::all_wake(to.rt, alloc);
     say(to, "those_that_sleep_at_a_held_lock_all_wake", wake);
+}
+
+/// Runs the test that a storm reports a lost pace.
+fn pace<R: Threads + Wait + Clock + Print + Sync>(to: &mut Report<R>, alloc: Global) {
+    let lost = storms::pace_is_lost(to.rt, alloc);
+    say(to, "a_storm_reports_a_lost_pace", lost);
 }

@@ -2,12 +2,15 @@
 //! hand.
 
 use crate::books::packet;
-use crate::endless::{Compared, Endless, departures, next_line};
+use crate::endless::{Compared, Endless, departures};
 use pie_book::{Answer, Book, Core, Event, Opening, Profile, Registers, Stats};
 use pie_fixed::Nanos;
 use pie_queue::ByteQueue;
+use pie_record::record::Record;
+use pie_record::records::Records;
 use pie_trace::{HistoryLines, Line, RunEnd, TraceFault, run_trace, run_trace_within};
 use std::alloc::Global;
+use std::io;
 use std::io::Read;
 
 /// One packet comes and leaves, and the next departure finds none.
@@ -126,8 +129,8 @@ fn agree<D: Decides>(
     events: u64,
 ) -> bool {
     for _ in 0..events {
-        match next_line(lines) {
-            Some(Line::Valid(event)) => {
+        match lines.next_line() {
+            Ok(Some(Line::Valid(event))) => {
                 if place.decide(alloc, &event) != Some(event.answer) {
                     return false;
                 }
@@ -135,7 +138,7 @@ fn agree<D: Decides>(
             _ => return false,
         }
     }
-    matches!(lines.next_record(), Ok(false)) && matches!(lines.next_record(), Ok(false))
+    matches!(lines.next_line(), Ok(None)) && matches!(lines.next_line(), Ok(None))
 }
 
 /// Returns the registers after a history of this many events, each with the answer in the history.
@@ -184,6 +187,78 @@ pub(crate) fn core_decides(alloc: Global) -> bool {
 /// Returns true if a book does so too, and if the checkpoint after a fold of each event is the book's state.
 pub(crate) fn book_decides(alloc: Global) -> bool {
     are_decided::<Book>(alloc)
+}
+
+/// Returns true if the second record of the history has this fault, which each later call returns again.
+fn is_repeated(alloc: Global, history: &'static [u8], wanted: TraceFault) -> bool {
+    let Ok((mut lines, _)) = HistoryLines::open(alloc, history) else {
+        return false;
+    };
+    for _ in 0..3 {
+        match lines.next_line() {
+            Err(fault) if fault == wanted => {}
+            _ => return false,
+        }
+    }
+    true
+}
+
+/// Tests that a reader of a history repeats the fault of a record, although a valid record follows it.
+pub(crate) fn faults_are_repeated(alloc: Global) -> bool {
+    let row = 2;
+    let histories: [(&[u8], TraceFault); 4] = [
+        (
+            b"open,0,4,16,100\ndep\ndepart,1,1,empty\n",
+            TraceFault::Kind { row },
+        ),
+        (
+            b"open,0,4,16,100\ndepart,1,1\ndepart,1,1,empty\n",
+            TraceFault::Fields { row },
+        ),
+        (
+            b"open,0,4,16,100\ndepart,1,x,empty\ndepart,1,1,empty\n",
+            TraceFault::Number { row },
+        ),
+        (
+            b"open,0,4,16,100\ndepart,1,1,full\ndepart,1,1,empty\n",
+            TraceFault::Word { row },
+        ),
+    ];
+    for (history, wanted) in histories {
+        if !is_repeated(alloc, history, wanted) {
+            return false;
+        }
+    }
+    true
+}
+
+/// Returns true if the text of a record of this many fields, one of them in quotes, is the text without quotes.
+fn is_copied(alloc: Global, fields: u64) -> io::Result<bool> {
+    let mut text = String::from_str(alloc, "\"1\"")?;
+    let mut wanted = String::from_str(alloc, "1")?;
+    for _ in 1..fields {
+        text.push_str(",1")?;
+        wanted.push_str(",1")?;
+    }
+    text.push('\n')?;
+    wanted.push('\n')?;
+    let mut records = Records::new(alloc, text.as_bytes());
+    let mut row = Record::new(alloc);
+    let is_read = matches!(records.next(&mut row), Ok(true));
+    match row.text(alloc) {
+        Ok(copied) => Ok(is_read && copied.as_slice() == wanted.as_bytes()),
+        Err(_) => Ok(false),
+    }
+}
+
+/// Tests that records with quotes have a text, whatever their number of fields.
+pub(crate) fn quoted_records_are_copied(alloc: Global) -> bool {
+    for fields in [1, 2, 64, 65, 97, 128, 129, 1000] {
+        if !matches!(is_copied(alloc, fields), Ok(true)) {
+            return false;
+        }
+    }
+    true
 }
 
 // ---- runs

@@ -2,6 +2,8 @@
 //! receives the call's number, and a fold is made at the time that its gate allows. (Storms of the program:
 //! tests/program/storms.sh.)
 
+ghost use Rattle.pie_storm.specs.StormPlan.{HasStormRange};
+
 use crate::books::arrival;
 use crossbeam_utils::Backoff;
 use pie_book::{Event, Limits, OpenRefusal, Profile};
@@ -284,13 +286,16 @@ pub(crate) fn folds_take_part<R: Threads + Wait + Sync>(rt: &R, alloc: Global) -
     is_so && gate.passed.are(&[2, 1, 0, 0, 1, 3])
 }
 
-/// Returns true if a fold of two events before the first one is counted as one of too many. The only packets are delayed until it was answered.
-pub(crate) fn early_fold_is_passed_over<R: Threads + Wait + Sync>(rt: &R, alloc: Global) -> bool {
+/// Returns true if a hundred folds of two events before the first one are counted as folds of too many. The only packets
+/// are delayed until the folds were answered.
+pub(crate) fn early_folds_are_passed_over<R: Threads + Wait + Sync>(rt: &R, alloc: Global) -> bool {
     let mut plan = plan(alloc, 1, &[1, 2]);
     let _ = plan.arrivals.push(Vec::new(alloc));
-    let _ = plan.folds.push(2);
-    match storm(rt, alloc, &plan, &holding(1, FOLDER, 1)) {
-        Ok(end) => end.events.len() == 2 && end.too_many == 1 && end.folded == 0,
+    for _ in 0..100 {
+        let _ = plan.folds.push(2);
+    }
+    match storm(rt, alloc, &plan, &holding(1, FOLDER, 100)) {
+        Ok(end) => end.events.len() == 2 && end.too_many == 100 && end.folded == 0,
         Err(_) => false,
     }
 }
@@ -338,11 +343,11 @@ pub(crate) fn plans_are_checked<R: Threads + Wait + Sync>(rt: &R, alloc: Global)
     }
 }
 
-/// Returns true if in one of ten storms at their own pace, of two senders with a hundred packets, no wait for
-/// another caller times out. (With a gate that waits for a caller without calls, or for one that has made all its
-/// calls, a wait times out in each storm.)
-pub(crate) fn pace_is_kept<R: Threads + Wait + Clock + Sync>(rt: &R, alloc: Global) -> bool {
-    let numbers = StormNumbers {
+/// Returns the numbers of a storm of two senders with a hundred packets.
+fn usual_numbers() -> StormNumbers
+    ensures { HasStormRange result }
+{
+    StormNumbers {
         senders: 2,
         packets: 100,
         burst: 1,
@@ -352,9 +357,15 @@ pub(crate) fn pace_is_kept<R: Threads + Wait + Clock + Sync>(rt: &R, alloc: Glob
         folds: 0,
         profile: Profile::One,
         elements: Elements::usual(),
-    };
+    }
+}
+
+/// Returns true if in one of ten storms at their own pace, of two senders with a hundred packets, no wait for
+/// another caller times out. (With a gate that waits for a caller without calls, or for one that has made all its
+/// calls, a wait times out in each storm.)
+pub(crate) fn pace_is_kept<R: Threads + Wait + Clock + Sync>(rt: &R, alloc: Global) -> bool {
     for _ in 0..10 {
-        match make_storm(rt, alloc, numbers) {
+        match make_storm(rt, alloc, usual_numbers()) {
             Ok(made) => {
                 if !made.lost_pace {
                     return true;
@@ -364,4 +375,13 @@ pub(crate) fn pace_is_kept<R: Threads + Wait + Clock + Sync>(rt: &R, alloc: Glob
         }
     }
     false
+}
+
+/// Returns true if a wait of one storm for another caller timed out. `tests/libraries/refused_memory.py` holds the thread
+/// of a caller until all others have ended.
+pub(crate) fn pace_is_lost<R: Threads + Wait + Clock + Sync>(rt: &R, alloc: Global) -> bool {
+    match make_storm(rt, alloc, usual_numbers()) {
+        Ok(made) => made.lost_pace,
+        Err(_) => false,
+    }
 }

@@ -2,7 +2,6 @@
 //! calls without another caller.
 
 use crate::books::limits;
-use crate::endless::next_line;
 use crate::flushes::HISTORY;
 use pie_book::{Book, EndRefusal, FoldRefusal, OpenRefusal, QueueRefusal, Refusal, ResumeRefusal};
 use pie_fixed::{Accu, Gain, Prob};
@@ -127,7 +126,7 @@ fn are_gains_bounded() -> bool {
 fn is_history_read(alloc: Global) -> bool {
     match HistoryLines::open(alloc, HISTORY) {
         Ok((mut lines, opening)) => {
-            let is_made = matches!(next_line(&mut lines), Some(Line::Valid(_)));
+            let is_made = matches!(lines.next_line(), Ok(Some(Line::Valid(_))));
             is_made & (opening.limits.packets == 4)
         }
         Err(_) => false,

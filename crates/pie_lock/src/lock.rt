@@ -3,7 +3,7 @@ ghost use Rattle.std.specs.Prelude.{◌≡◌, ◌≢◌, ◌+◌, ◌<◌, ◌�
 
 use crate::entries::Entries;
 use crate::kept::Kept;
-use crate::pass::{Held, Pass, WakeDue};
+use crate::pass::{Announced, Held, MaySleep, Pass, WakeDue};
 use crate::refusal::{LockRefusal, OneNumber, StillHeld};
 use crate::rule::{
     Adding, FreeStep, JoinTwo, LockRule, LookStep, MergeStep, SplitHighest, TakeStep,
@@ -231,21 +231,26 @@ impl<S: Kept> RuledLock<S> {
     /// [`RuledLock::wake`] after its put.
     pub fn take<R: Wait>(&self, rt: &R, pass: Pass<S>) -> (Held<S>, WakeDue)
         requires own { pass.lock ≡ self.now }
-        ensures { HasTaken S.number_of S.origin_of S.represents_list pass result.0 }
+        ensures taken { HasTaken S.number_of S.origin_of S.represents_list pass result.0 }
+        ensures calls { result.1.calls.value ≡ 0 }
     {
         self.take_for(rt, pass, 0)
     }
 
     /// Takes the state as [`RuledLock::take`] does, for a turn of `calls` calls. A thread that waits for a long turn
     /// takes the state sooner after a put. The state then changes hands more often, which pays if turns are long. The
-    /// history does not depend on `calls`.
+    /// history does not depend on `calls`, which the due wake names for the prover.
     pub fn take_for<R: Wait>(&self, rt: &R, pass: Pass<S>, calls: usize) -> (Held<S>, WakeDue)
         requires own { pass.lock ≡ self.now }
-        ensures { HasTaken S.number_of S.origin_of S.represents_list pass result.0 }
+        ensures taken { HasTaken S.number_of S.origin_of S.represents_list pass result.0 }
+        ensures calls { result.1.calls.value ≡ calls }
     {
+        let due = WakeDue {
+            calls: Snapshot::of(&calls),
+        };
         match self.take_if_free(pass) {
-            Ok(held) => (held, WakeDue(())),
-            Err(pass) => (self.wait_and_take(rt, pass, looks_for(calls)), WakeDue(())),
+            Ok(held) => (held, due),
+            Err(pass) => (self.wait_and_take(rt, pass, looks_for(calls)), due),
         }
     }
 
@@ -260,26 +265,69 @@ impl<S: Kept> RuledLock<S> {
         let mut rounds = ROUNDS;
         let backoff = Backoff::new();
         for _ in rt.forever() {
-            let sleeps = rounds == 0;
-            // Set AWAITED before each look at the word that a sleep may follow. A put that does not see AWAITED came
-            // before this look. After a sleep, set it again, since other threads may still sleep: the put of the next
-            // holder then wakes one of them.
-            if sleeps {
-                self.awaited.store(AWAITED, Ordering::SeqCst);
+            if rounds == 0 {
+                break;
             }
             waiting = match self.try_take(waiting) {
                 Ok(held) => return held,
                 Err(pass) => pass,
             };
-            if sleeps {
-                self.awaited
-                    .park_timeout(rt, AWAITED as u32, Duration::from_millis(SLEEP));
-            } else if !self.seen_free(looks) {
+            if !self.seen_free(looks) {
                 backoff.snooze();
                 rounds -= 1;
             }
         }
+        self.sleep_and_take(rt, waiting)
+    }
+
+    // Waits for the state, and sleeps between two looks.
+    fn sleep_and_take<R: Wait>(&self, rt: &R, pass: Pass<S>) -> Held<S>
+        requires own { pass.lock ≡ self.now }
+        ensures { HasTaken S.number_of S.origin_of S.represents_list pass result }
+    {
+        let mut waiting = pass;
+        for _ in rt.forever() {
+            waiting = match self.look_awaited(waiting, self.announce()) {
+                Ok(held) => return held,
+                Err((pass, leave)) => {
+                    self.sleep(rt, leave);
+                    pass
+                }
+            };
+        }
         unreachable!()
+    }
+
+    // Announces that this thread may sleep. After a sleep it announces again, since other threads may still sleep: the
+    // put of the next holder then wakes one of them.
+    fn announce(&self) -> Announced {
+        self.awaited.store(AWAITED, Ordering::SeqCst);
+        Announced(())
+    }
+
+    // Looks at the word after an announcement, and takes the state if it is free. A put that did not see the
+    // announcement came before this look.
+    fn look_awaited(
+        &self,
+        pass: Pass<S>,
+        announced: Announced,
+    ) -> Result<Held<S>, (Pass<S>, MaySleep)>
+        requires own { pass.lock ≡ self.now }
+        ensures taken { IfOk result (HasTaken S.number_of S.origin_of S.represents_list pass) }
+        ensures busy { IfErr result (λ back. back.0 ≡ pass) }
+    {
+        let Announced(()) = announced;
+        match self.try_take(pass) {
+            Ok(held) => Ok(held),
+            Err(pass) => Err((pass, MaySleep(()))),
+        }
+    }
+
+    // Sleeps until a put wakes this thread, at most `SLEEP` milliseconds.
+    fn sleep<R: Wait>(&self, rt: &R, leave: MaySleep) {
+        let MaySleep(()) = leave;
+        self.awaited
+            .park_timeout(rt, AWAITED as u32, Duration::from_millis(SLEEP));
     }
 
     // Returns true if one of `looks` looks finds that no pass has the state.
@@ -321,7 +369,7 @@ impl<S: Kept> RuledLock<S> {
         requires own { pass.now.lock ≡ self.now }
     {
         let _ = pass;
-        let WakeDue(()) = due;
+        let WakeDue { calls: _ } = due;
         if self.awaited.load(Ordering::SeqCst) == AWAITED {
             self.awaited.store(NOT_AWAITED, Ordering::SeqCst);
             self.awaited.wake_one();

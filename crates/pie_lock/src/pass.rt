@@ -5,6 +5,7 @@ use crate::kept::Kept;
 use crate::view::SeatKnowledge;
 use atomic_table::Seat;
 use std::marker::Model;
+use std::snapshot::Snapshot;
 
 /// The right to take the state under the numbers `first()..limit()`, at least one.
 ///
@@ -84,4 +85,13 @@ impl<S: Kept> Held<S> {
 
 /// The duty to wake the next thread. A call that may wait returns it with the state. It has no bytes. It is not `Drop`:
 /// `RuledLock::wake` ends it, and needs the pass of the put. A function that forgets to wake does not compile.
-pub struct WakeDue(pub(crate) ());
+pub struct WakeDue {
+    /// The number of calls of the turn, for the prover alone.
+    pub calls: Snapshot<usize>,
+}
+
+/// The announcement that this thread may sleep. `RuledLock::look_awaited` ends it, so that look comes after it.
+pub(crate) struct Announced(pub(crate) ());
+
+/// The leave to sleep: a look after the announcement found the state taken. `RuledLock::sleep` ends it.
+pub(crate) struct MaySleep(pub(crate) ());

@@ -3,7 +3,7 @@ use Rattle.std.proofs.Common.{◌≡◌, ◌*◌, ◌^◌, ◌∷◌, [], refl}
 use Rattle.std.specs.Prelude.{true, false, Some, None, map}
 use Rattle.pie_fixed.specs.declared.TheConstants.{ONE}
 use Rattle.pie_params.specs.declared.raw.Field.TheVariants.{Target, TUpdate, DqThreshold}
-use Rattle.pie_params.specs.Profile.{default_profile, profile_for}
+use Rattle.pie_params.specs.Profile.{default_profile, limit_for, profile_for}
 use Rattle.pie_params.specs.Range.{first_bad, is_dq_threshold}
 
 -- `ONE`, the bound of the marking threshold, is the probability 1
@@ -17,9 +17,12 @@ defaults : (default_profile.target ≡ 15 * 10 ^ 6) × (default_profile.t_update
     × (default_profile.limit_bytes ≡ 2 ^ 18) × (default_profile.mark_ecnth * 10 ≡ ONE) × (default_profile.dq_threshold ≡ 2 ^ 14)
 defaults = (refl, refl, refl, refl, refl, refl, refl, refl, refl)
 
+-- the limits are 200 ms from 1.93792 Mbit/s on; at 500 kbit/s, 48448 bytes are 775 ms
 rates : (profile_for 0 ≡ default_profile) × (profile_for 1_000_000_001 ≡ record default_profile { limit_bytes = 25_000_001 })
+    × (profile_for 500_000 ≡ record default_profile { limit_bytes = 48_448 }) × (limit_for 1 ≡ 48_448)
+    × (limit_for 1_937_920 ≡ 48_448) × (limit_for 1_937_921 ≡ 48_449) × (limit_for (10 ^ 7) ≡ 250_000)
     × (profile_for (10 ^ 11) ≡ record default_profile { limit_bytes = 2 ^ 30 })
-rates = (refl, refl, refl)
+rates = (refl, refl, refl, refl, refl, refl, refl, refl)
 
 -- the first bad field; of two, the one that is checked first
 first_bads : map first_bad (default_profile ∷ record default_profile { target = 1 } ∷ record default_profile { dq_threshold = 3000 }

@@ -1,5 +1,5 @@
 -- Default parameters.
-use Rattle.std.specs.Prelude.{ℕ, ◌^◌, max, min}
+use Rattle.std.specs.Prelude.{ℕ, ◌*◌, ◌^◌, ◌==◌, max, min, if◌then◌else◌}
 use Rattle.std.specs.Int.{div_ceil}
 use Rattle.pie_params.specs.declared.raw.RawParams.{RawParams}
 
@@ -17,7 +17,11 @@ default_profile = record {
   dq_threshold = 16384;
 }
 
--- the defaults for a link of `rate` bits per second: the limit is 200 ms at this rate, at least the default limit and
--- at most the greatest limit of its range
+-- the limit of a queue for a link of `rate` bits per second, in bytes: 200 ms at this rate, at least 32 packets of 1514
+-- bytes and at most the greatest limit of its range; for rate 0, which is unknown, the default limit
+abbrev pub limit_for : ℕ → ℕ
+limit_for rate = if rate == 0 then default_profile.limit_bytes else min (max (div_ceil rate 40) (32 * 1514)) (2 ^ 30)
+
+-- the defaults for a link of `rate` bits per second, with the limit for this rate
 abbrev pub profile_for : ℕ → RawParams
-profile_for rate = record default_profile { limit_bytes = min (max (div_ceil rate 40) default_profile.limit_bytes) (2 ^ 30) }
+profile_for rate = record default_profile { limit_bytes = limit_for rate }

@@ -71,6 +71,7 @@ abbrev pub IsTriedAll : EventCall → Option ℕ → (Reply → Bool) → Caller
 IsTriedAll call budget continues before events count code written after =
     IsAnswered call budget continues before events count code written after ⊎ WasNotTried before events count code written after
 
+-- the results of a burst of calls at a link
 abbrev pub TriesAll : EventCall → Option ℕ → (Reply → Bool) → Option CallerView → List PieEvent → ℕ → ℕ → List PieEvent → Option CallerView → Type 0
 TriesAll call budget continues port events count code written after =
     AtPort port code after ((written ≡ events) × (count ≡ 0)) (λ before now. IsTriedAll call budget continues before events count code written now)

@@ -43,6 +43,7 @@ IsTriedUnless true call before e code written after =
     (code ≡ 111) × (written ≡ under before.first (event_with_code call e 111)) × (after ≡ before)
 IsTriedUnless false call before e code written after = IsTried (command_in call e) (filled call before.first e) before code written after
 
+-- the result of one call at a link: its code, and each field of the event
 abbrev pub Tries : EventCall → Option CallerView → PieEvent → ℕ → PieEvent → Option CallerView → Type 0
 Tries call port e code written after =
     AtPort port code after (written ≡ e) (λ before now. IsTriedUnless (has_bad_ecn call e) call before e code written now)
@@ -60,6 +61,7 @@ abbrev pub IsSetIfInRange : Bool → RawParams → CallerView → PieEvent → �
 IsSetIfInRange false params before e code written after = (code ≡ 107) × (written ≡ under before.first (bare_event 5 e 107)) × (after ≡ before)
 IsSetIfInRange true params before e code written after = IsTried (SetParams e.moment params) (set_event before.first e) before code written after
 
+-- the result of new parameters at a link
 abbrev pub TriesToSet : RawParams → Option CallerView → PieEvent → ℕ → PieEvent → Option CallerView → Type 0
 TriesToSet params port e code written after =
     AtPort port code after (written ≡ e) (λ before now. IsSetIfInRange (are_in_range params) params before e code written now)
@@ -74,6 +76,7 @@ pub record IsShared (before : CallerView) (code : ℕ) (port new : Option Caller
   pub one : (code ≡ 125) ↔ (before.limit ≡ before.first + 1)
   pub codes : (code ≡ 0) ⊎ (code ≡ 125) ⊎ (code ≡ 123)
 
+-- the result of splitting a port; a refused share loses no number
 abbrev pub Shares : Option CallerView → Option CallerView → ℕ → Option CallerView → Option CallerView → Type 0
 Shares None other code port new = (code ≡ 122) × (port ≡ None) × (new ≡ other)
 Shares (Some before) (Some other) code port new = (code ≡ 127) × (port ≡ Some before) × (new ≡ Some other)
@@ -87,6 +90,7 @@ pub record IsGathered (before other : CallerView) (code : ℕ) (port left : Opti
   pub beside : (code ≡ 0) ↔ IsBeside before other
   pub codes : (code ≡ 0) ⊎ (code ≡ 126)
 
+-- the result of joining two ports
 abbrev pub Gathers : Option CallerView → Option CallerView → ℕ → Option CallerView → Option CallerView → Type 0
 Gathers None other code port left = (code ≡ 122) × (port ≡ None) × (left ≡ other)
 Gathers (Some before) None code port left = (code ≡ 122) × (port ≡ Some before) × (left ≡ None)

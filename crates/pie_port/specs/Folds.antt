@@ -78,6 +78,7 @@ pub record IsFolded (before : CallerView) (structs : List PieEvent) (l : ℕ) (p
   pub filled : written ≡ written_events structs events
   pub set : params ≡ params_after p events
 
+-- the result of a fold at a link: its code, and the fields of the folded events
 abbrev pub TriesToFoldAll : Option CallerView → List PieEvent → ℕ → RawParams → ℕ → List PieEvent → ℕ → ℕ → RawParams → Option CallerView → Type 0
 TriesToFoldAll port structs l p code written folded last params after =
     AtPort port code after ((written ≡ structs) × (folded ≡ 0) × (last ≡ l) × (params ≡ p))

@@ -58,5 +58,6 @@ module _ {A B : Type 0} (value_after : Opening → List Event → A) (struct_of 
     pub code_is : code ≡ read_code reply
     pub filled : written ≡ read_into struct_of held reply
 
+  -- the result of a reading at a link: its code, and the fields of the struct
   abbrev pub TriesToReadInto : Option CallerView → B → ℕ → B → Option CallerView → Type 0
   TriesToReadInto port held code written after = AtPort port code after (written ≡ held) (λ before now. IsReadInto before held code written now)

@@ -7,6 +7,7 @@ pub record Departure : Type 0 where
   pub bytes_left : ℕ
   pub moment : ℕ
 
+-- a departure: the packet's size, the bytes that remain in the queue, and the moment
 abbrev pub departure : ℕ → ℕ → ℕ → Departure
 departure size bytes_left moment = record { size = size; bytes_left = bytes_left; moment = moment }
 

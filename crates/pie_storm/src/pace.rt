@@ -1,6 +1,6 @@
 //! The pace of a storm: its callers start together, and none runs far ahead of another.
 
-ghost use Rattle.std.specs.Prelude.{◌≡◌, ◌≤◌, ◌↔◌, ◌⊎◌, [], IsTrue};
+ghost use Rattle.std.specs.Prelude.{◌≡◌, ◌≤◌, ◌<◌, ◌+◌, ◌-◌, ◌*◌, ◌/◌, ◌^◌, ◌↔◌, ◌⊎◌, [], IsTrue, max};
 ghost use Rattle.pie_storm.specs.Plans.{calls_of};
 
 use crate::gate::Gate;
@@ -51,6 +51,24 @@ fn is_level(plan: &Plan, caller: u16, published: u64, least: u64) -> bool
     least <= published || plan.calls(caller) == 0
 }
 
+/// Returns the moment at which a caller must be before another makes a call at `moment`: at most `AHEAD` before it, and
+/// later than `AWAY`, so that every caller has started.
+fn least_before(moment: u64) -> u64
+    ensures { result ≡ max (moment - 4_000_000) 1 }
+{
+    moment.saturating_sub(AHEAD).max(AWAY + 1)
+}
+
+/// Returns the moment of fold number `place`, counted from 0, of `folds` folds that are spread evenly over the time until
+/// `last`, at least 1.
+fn fold_moment(last: u64, folds: u64, place: u64) -> u64
+    requires some { 0 < folds }
+    requires fits { place < 2 ^ 64 - 1 }
+    ensures { last / folds * (place + 1) < 2 ^ 64 → result ≡ max (last / folds * (place + 1)) 1 }
+{
+    (last / folds).saturating_mul(place + 1).max(1)
+}
+
 impl<'a, C: Clock> Pace<'a, C> {
     /// Returns the pace of a storm with this plan.
     pub(crate) fn new(clock: &'a C, plan: &'a Plan) -> Pace<'a, C> {
@@ -75,11 +93,9 @@ impl<'a, C: Clock> Pace<'a, C> {
         match self.plan.call(caller, first) {
             Some(Call::Apply(command)) => command.moment().max(1),
             Some(Call::Fold(_)) => {
-                let folds = (self.plan.folds.len() as u64).max(1);
                 let last = self.plan.updates.last().copied().unwrap_or(0);
-                (last / folds)
-                    .saturating_mul(place.saturating_add(1))
-                    .max(1)
+                let folds = (self.plan.folds.len() as u64).max(1);
+                fold_moment(last, folds, place.min(u64::MAX - 1))
             }
             None => GONE,
         }
@@ -125,7 +141,7 @@ impl<C: Clock> Gate for Pace<'_, C> {
     fn before(&self, caller: u16, call: u64) {
         let moment = self.moment(caller, call);
         self.publish(caller, moment);
-        let least = moment.saturating_sub(AHEAD).max(AWAY + 1);
+        let least = least_before(moment);
         let begun = Instant::now(self.clock);
         let mut naps = 0;
         for _ in 0..LOOKS {

@@ -211,16 +211,14 @@ fn make_all<R: Wait, G: Gate>(
         let count = turn.min(calls - k);
         call += 1;
         gate.before(number, call);
-        match make_turn(rt, link, plan, number, caller, folding, k, count) {
+        let made = make_turn(rt, link, plan, number, caller, folding, k, count);
+        gate.after(number, call);
+        match made {
             Some(more) => {
-                gate.after(number, call);
                 passed += more;
                 k += count;
             }
-            None => {
-                gate.after(number, call);
-                return passed;
-            }
+            None => return passed,
         }
     }
     passed

@@ -52,6 +52,7 @@ abbrev pub size_by : Command → Option ℕ
 size_by (Arrive moment packet word) = Some packet.size
 size_by _ = None
 
+-- the size of an explained event's packet, if it is an arrival or a departure of a packet
 abbrev pub size_in : Explained → Option ℕ
 size_in all = size_by all.explanation.event.command
 
@@ -115,9 +116,11 @@ conditions_of_event one = record {
   target = one.after.params.target;
 }
 
+-- the explained event has these conditions
 abbrev pub HasConditions : Conditions → Explained → Type 0
 HasConditions met one = conditions_of_event one ≡ met
 
+-- the numbers of an explanation that a meter adds
 abbrev pub meter_input_of : Explained → MeterInput
 meter_input_of one = meter_input_by (conditions_of_event one) one.explanation.event.answer (cause_of one) (size_in one) one.explanation.waited
 

@@ -86,7 +86,7 @@ disagree_words above late =
 -- departed packets that waited longer than the target, and their time at the head of the queue
 unfoldable pub above_words : Meter → List ℕ
 above_words meter =
-    joined (codes "  delays were above the target for " ∷ millis meter.above ∷ codes ";\n    at the end it was " ∷ millis meter.target
+    joined (codes "  delays were above the target for " ∷ millis meter.above ∷ codes ";\n    at the end the target was " ∷ millis meter.target
     ∷ codes ",\n    and the burst allowance " ∷ millis meter.burst ∷ codes "\n" ∷ codes "  " ∷ decimal meter.longer
     ∷ codes " packets, " ∷ share meter.longer (left_in meter)
     ∷ codes " of those that left, had waited longer than the target,\n    at the head of the queue for " ∷ millis meter.late ∷ codes "\n"

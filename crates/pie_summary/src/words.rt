@@ -139,7 +139,7 @@ fn push_above(page: &mut String, meter: &Meter) -> Written
     };
     write!(
         page,
-        "  delays were above the target for {above};\n    at the end it was {target},\n    and the burst allowance {burst}\n"
+        "  delays were above the target for {above};\n    at the end the target was {target},\n    and the burst allowance {burst}\n"
     )?;
     write!(
         page,

@@ -1,5 +1,5 @@
 -- Parameters and elements of `tc`'s options, and the opening of a book with them.
-use Rattle.std.specs.Prelude.{ℕ, ◌*◌, ◌/◌, ◌^◌, ◌==◌, Bool, not, ◌&&◌, nat_lt, if◌then◌else◌}
+use Rattle.std.specs.Prelude.{ℕ, ◌+◌, ◌-◌, ◌*◌, ◌/◌, ◌^◌, ◌==◌, Bool, min, not, ◌&&◌, nat_lt, if◌then◌else◌}
 use Rattle.pie_params.specs.declared.elements.Delay.TheVariants.{Rate, Stamp}
 use Rattle.pie_params.specs.declared.elements.Elements.{Elements}
 use Rattle.pie_params.specs.declared.elements.Picking.TheVariants.{Derandomized, Random}
@@ -28,6 +28,23 @@ params_for tuning = record (profile_for tuning.rate) {
   mean_pkt = size_on_link tuning.layer (if tuning.bytemode then tuning.mtu else default_profile.mean_pkt);
   mark_ecnth = if tuning.ecn then default_profile.mark_ecnth else 0;
 }
+
+-- ---- The limit in packets
+
+-- the limit without an option: 1000 packets without a rate, otherwise packets of 64 bytes with the limit's bytes, at most
+-- 2^20
+abbrev pub default_packets : ℕ → ℕ
+default_packets rate = if rate == 0 then 1000 else min ((profile_for rate).limit_bytes / 64) (2 ^ 20)
+
+-- true if the rate is known, and fewer bytes are in these packets of the MTU than leave in the target and the burst
+-- allowance together
+abbrev pub drops_bursts : TuningOptions → RawParams → Bool
+drops_bursts tuning params =
+    nat_lt (tuning.packets * tuning.mtu * 8_000_000_000) (tuning.rate * min (params.target + params.max_burst) (2 ^ 64 - 1))
+
+-- true if the rate is known, and more bits are in these packets of the MTU than leave in a second
+abbrev pub is_above_a_second : TuningOptions → Bool
+is_above_a_second tuning = not (tuning.rate == 0) && nat_lt tuning.rate (tuning.packets * tuning.mtu * 8)
 
 -- ---- RFC 8033's optional elements
 

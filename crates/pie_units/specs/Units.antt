@@ -20,6 +20,7 @@ abbrev pub some_rate : Result ℕ OptionFault → Result ℕ OptionFault
 some_rate (Ok rate) = if rate == 0 then Err NoRate else Ok rate
 some_rate (Err why) = Err why
 
+-- the rate in bits per second of a text such as `100mbit`
 abbrev pub rate_of : List ℕ → Result ℕ OptionFault
 rate_of text = some_rate (option_number Rate text)
 

@@ -29,7 +29,10 @@ pub use moment::{Moment, MomentFault};
 pub use number::{UnitFault, read};
 pub use opening::{opening_for, write_opening};
 pub use option_units::{OptionFault, packets_of, rate_of, time_of};
-pub use options::{TuningOptions, can_stall, elements_for, gain_of, is_short, params_for};
+pub use options::{
+    TuningOptions, can_stall, default_packets, drops_bursts, elements_for, gain_of,
+    is_above_a_second, is_short, params_for,
+};
 pub use unit::Quantity;
 pub use utc::{Utc, UtcFault};
 pub use when::{When, WhenFault};

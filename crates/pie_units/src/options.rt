@@ -1,6 +1,6 @@
 //! Options of `tc` (`TuningOptions`), with their parameters and optional elements.
 ghost use Rattle.std.specs.Prelude.{◌≡◌, ◌≤◌, ◌*◌, nat_lt};
-ghost use Rattle.pie_units.specs.Opening.{can_stall, elements_for, gain_of, params_for};
+ghost use Rattle.pie_units.specs.Opening.{can_stall, default_packets, drops_bursts, elements_for, gain_of, is_above_a_second, params_for};
 
 use crate::layer::{Layer, size_on_link};
 use pie_params::{Decay, Delay, Elements, Params, Picking, RawParams, Size, Step};
@@ -97,6 +97,36 @@ pub fn params_for(tuning: &TuningOptions) -> RawParams
         mark_ecnth: if tuning.ecn { usual.mark_ecnth } else { 0 },
         ..usual
     }
+}
+
+/// Returns the limit in packets that has no option. If `rate` is 0, it is unknown, and the limit is 1000 packets, as for
+/// `tc`. Otherwise the limit is as many packets of 64 bytes as `limit_bytes` at this rate contains, at most 2^20.
+pub fn default_packets(rate: u64) -> u64
+    ensures { result ≡ default_packets rate }
+{
+    if rate == 0 {
+        1000
+    } else {
+        (Params::for_rate(rate).raw().limit_bytes / 64).min(1 << 20)
+    }
+}
+
+/// Returns true if the limit in packets of the MTU leaves at the link's rate in less than the target and the burst
+/// allowance together. Then a burst that the allowance admits fills the queue.
+pub fn drops_bursts(tuning: &TuningOptions, params: &RawParams) -> bool
+    ensures { result ≡ drops_bursts tuning.now params.now }
+{
+    let longest = params.target.saturating_add(params.max_burst);
+    let wanted = u128::from(tuning.rate) * u128::from(longest);
+    u128::from(tuning.packets) * u128::from(tuning.mtu) * 8_000_000_000 < wanted
+}
+
+/// Returns true if the rate is known and the limit in packets of the MTU takes more than a second at this rate.
+pub fn is_above_a_second(tuning: &TuningOptions) -> bool
+    ensures { result ≡ is_above_a_second tuning.now }
+{
+    let bits = u128::from(tuning.packets) * u128::from(tuning.mtu) * 8;
+    tuning.rate != 0 && u128::from(tuning.rate) < bits
 }
 
 /// Returns true if `limit_bytes` bytes leave in less than the target at `rate` bits per second. Then the queue is full

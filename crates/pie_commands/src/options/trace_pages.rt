@@ -200,8 +200,13 @@ Values are not rounded: 1.5ns and 0.5bit are errors. A negative overhead needs a
 
 alpha and beta are in sixteenths per second, as for tc: 2 and 20 are 125 and 1250 thousandths, the
 values of RFC 8033. With --ecn, packets of ECN-capable endpoints are marked while the probability is
-below 10 per cent. limit_bytes is 200 ms at the rate, at least 262144 and at most 2^30. If it is
-below rate x target, standard error has a warning.
+below 10 per cent.
+
+Without --rate, the limits are 262144 bytes and 1000 packets. With --rate, limit_bytes is 200 ms at
+the rate, at least 48448 (32 packets of 1514 bytes) and at most 2^30, and the limit in packets is
+limit_bytes / 64, at most 2^20. --limit replaces the limit in packets. Standard error has a warning
+if limit_bytes is below rate x target, and if --limit, in packets of --mtu, is below rate x (target +
+burst allowance) or above one second at the rate. The burst allowance is 150 ms.
 
 By default the delay is the waiting time of the packet that departed last. With --dq_rate_estimator
 it is computed from an estimate of the departure rate. Too few bytes in the queue can stop the
@@ -218,24 +223,23 @@ sizes on the link, as examples/link records them. mean_pkt is the size on the li
 1024 bytes, or with --bytemode of the MTU, as tc stab computes it. limit_bytes is 200 ms of bytes on
 the link.
 
-Example: the options of tc qdisc add dev eth0 root pie target 20ms limit 1000p ecn
-dq_rate_estimator, at 100 Mbit/s:
+Example: the options of tc qdisc add dev eth0 root pie target 20ms limit 2000p ecn, at 100 Mbit/s:
 
-  pie params --rate 100mbit --target 20ms --limit 1000p --ecn --dq_rate_estimator
+  pie params --rate 100mbit --target 20ms --limit 2000p --ecn
 
 The output is one line:
 
-  open3,1,rate,derandomized,capped,unscaled,rolling,0,1000,1000,140737488355328,20000000,15000000,150000000,125,1250,1024,2500000,100000000000,16384",
+  open3,1,stamp,derandomized,capped,unscaled,rolling,0,2000,2000,140737488355328,20000000,15000000,150000000,125,1250,1024,2500000,100000000000,16384",
     arguments: &[
-        row!("rate": Value("RATE"), "Rate of the link, such as 100mbit: limit_bytes is 200 ms at it. Default: limit_bytes is 262144"),
+        row!("rate": Value("RATE"), "Rate of the link, such as 100mbit: the limits are 200 ms at it. Default: 262144 bytes, 1000 packets"),
         row!("target": Value("TIME"), "Reference delay. Default: 15ms"),
         row!("tupdate": Value("TIME"), "Time between updates. Default: 15ms"),
-        row!("limit": Value("PACKETS"), "Capacity of the queue in packets, such as 1000p. Default: 1000"),
+        row!("limit": Value("PACKETS"), "Capacity of the queue in packets, such as 1000p. Default: limit_bytes / 64, or 1000 without --rate"),
         row!("alpha": Number(0, 32), "Gain alpha of tc, 0 to 32. Default: 2"),
         row!("beta": Number(0, 32), "Gain beta of tc, 0 to 32. Default: 20"),
         row!("ecn": Nothing, "Mark packets of ECN-capable endpoints. Default: off, they are dropped"),
         row!("bytemode": Nothing, "Pick a packet below the MTU less often, in proportion to its size. Default: off"),
-        row!("mtu": Number(1, 65535), "MTU of the link in bytes, for --bytemode. Default: 1514"),
+        row!("mtu": Number(1, 65535), "MTU of the link in bytes, for --bytemode and the warnings about --limit. Default: 1514"),
         row!("dq_rate_estimator": Nothing, "Compute delays from the departure rate. Default: off, from time stamps"),
         row!("no_derandomization": Nothing, "Pick packets by the random word alone. Default: off"),
         row!("no_cap_drop_adjustment": Nothing, "Do not cap a rise of the probability. Default: off"),

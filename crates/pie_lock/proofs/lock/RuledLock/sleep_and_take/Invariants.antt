@@ -1,0 +1,5 @@
+use Rattle.pie_lock.proofs.Names.{◌≡◌}
+use Rattle.pie_lock.proofs.lock.RuledLock.sleep_and_take.Given as goal
+
+abbrev pub invariant-loop : goal.invariant-loop
+invariant-loop g l = l.waiting ≡ l.fn.pass

@@ -11,10 +11,10 @@ pub use Rattle.pie_audit.specs.{differs_from, event_in, event_row, fault_after, 
 pub use Rattle.pie_audit.specs.{finding_by, finding_from, first_difference, first_setter, from_opening, is_active_after, is_active_at, is_io_or_memory}
 pub use Rattle.pie_audit.specs.{is_resumed, is_same_answer, is_some, lines_after, min, most_events, nat_lt, next_number, number_at, number_of}
 pub use Rattle.pie_audit.specs.{opening_refusal, option_map, records_of, refusal_by_rule, remaining_after_opening, remaining_by, remaining_from}
-pub use Rattle.pie_audit.specs.{resumed_rows, same_answers, sets_after, sets_probability, setter_after, setter_at, setter_by, setter_from_start}
+pub use Rattle.pie_audit.specs.{IsTextFrom, core_of_excerpt, rows_from, same_answers, sets_after, sets_probability, setter_after, setter_at, setter_by, setter_from_start}
 pub use Rattle.pie_audit.specs.{setter_in, setter_with, start_after, start_at, text_finding, written_rows, ⊤, Origin.Origin, Start.Start}
 pub use Rattle.pie_audit.specs.declared.auditor.Finding.{Finding}
-pub use Rattle.pie_book.specs.{Core.answer_in, Core.core_after, Core.refusal_of, Decision.refusal_with, Run.refused_or}
+pub use Rattle.pie_book.specs.{Balanced.snapshot_of, Core.answer_in, Core.core_after, Core.refusal_of, Decision.refusal_with, Run.refused_or}
 pub use Rattle.pie_event.specs.{Setter.setter_from, declared.command.Command.TheVariants.Depart, declared.command.Command.TheVariants.Update}
 pub use Rattle.pie_event.specs.{declared.opening.Limits.Limits, declared.refusal.Refusal.Refusal, declared.registers.Registers.Registers}
 pub use Rattle.pie_excerpt.specs.{Preamble.HasPreamble, Written.begun_at, Written.resume_of_excerpt, Written.resume_with}

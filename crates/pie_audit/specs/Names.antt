@@ -1,14 +1,14 @@
 -- Definitions from lower crates that this crate's definitions, code and proofs use.
 pub use Rattle.pie_audit.specs.declared.auditor.Finding.TheVariants.{Clean, Differs}
 pub use Rattle.pie_book.specs.{CallerQueue.state_after_calls, Core.CoreView, Core.Represents, Decision.IsLegal, Decision.IsLegalAt, Decision.answer_by}
-pub use Rattle.pie_book.specs.{Decision.decision, Decision.refusal_by_rule, Estimates.active_after, Excerpt.Ends, Excerpt.ExcerptView}
+pub use Rattle.pie_book.specs.{Decision.decision, Decision.refusal_by_rule, Estimates.active_after, Excerpt.Ends, Excerpt.ExcerptView, Excerpt.core_of_excerpt}
 pub use Rattle.pie_book.specs.declared.snapshot.CoreSnapshot.{CoreSnapshot}
 pub use Rattle.pie_event.specs.{Opening.opening_refusal, Ranges.CommandFits, Ranges.ParamsFit}
 pub use Rattle.pie_event.specs.declared.{command.Answer.Answer, command.Command.Command, command.Event.Event, opening.Opening.Opening}
 pub use Rattle.pie_event.specs.declared.{refusal.OpenRefusal.TheVariants.Memory, setter.Setter.Setter}
 pub use Rattle.pie_event.specs.declared.command.Command.TheVariants.{Arrive, Reset, Update}
 pub use Rattle.pie_excerpt.specs.Preamble.{Preamble, Resumes, is_resumed}
-pub use Rattle.pie_excerpt.specs.Written.{IsWritten, excerpt_rows, resumed_rows}
+pub use Rattle.pie_excerpt.specs.Written.{IsWritten, excerpt_rows, rows_from}
 pub use Rattle.pie_params.specs.Range.{first_bad}
 pub use Rattle.pie_record.specs.{Fault.IsOfInput, Fault.IsWriteOrMemory, Fault.is_io_or_memory, ReadBack.EventFits, ReadBack.IsHistoryText, Text.HasField, Text.Row}
 pub use Rattle.pie_record.specs.{Text.TakesRow, Text.records_of, Write.event_row, Write.written_rows}

@@ -48,5 +48,4 @@ pub use pie_event::{
 pub use recorded::Recorded;
 pub use snapshot::{
     CoreSnapshot, Resuming, excerpts_are_legal_after_any_history, packets_of_a_core_are_taken,
-    packets_that_waited_are_taken,
 };

@@ -35,19 +35,18 @@ pub whole_written : (o : PieOpening) (events : List Event) (kept : List WrittenE
 unfolding rows_text
 whole_written o events kept free is = rw (free, events-written kept events is) refl
 
-pub part_written : (o : PieOpening) (s : PieState) (t : PieStats) (count set_by packets bytes : ℕ) (past events : List Event) (kept : List WrittenEvent)
-    → opening_refusal o ≡ 0 → is_sound s ≡ true → is_snapshot o s count packets bytes ≡ true → All CanWait (waiting_after (opening_in o) past)
+pub part_written : (o : PieOpening) (s : PieState) (t : PieStats) (count set_by packets bytes : ℕ) (waiting : List Waiting) (events : List Event)
+    (kept : List WrittenEvent) → opening_refusal o ≡ 0 → is_sound s ≡ true → is_snapshot o s count packets bytes ≡ true → All CanWait waiting
     → map event_of_written kept ≡ map Some events
-    → resume_text (resume_of o s t count set_by packets bytes)
-    ++ (flat_map waiting_text (waiting_after (opening_in o) past) ++ flat_map written_text kept)
-    ≡ rows_text (resumed_rows (opening_in o) (snapshot_in s t count packets bytes) past (set_by_of set_by) (map event_row events))
+    → resume_text (resume_of o s t count set_by packets bytes) ++ (flat_map waiting_text waiting ++ flat_map written_text kept)
+    ≡ rows_text (resumed_rows (opening_in o) (snapshot_in s t count packets bytes) waiting (set_by_of set_by) (map event_row events))
 unfolding rows_text
-part_written o s t count set_by packets bytes past events kept free sound stands can is =
+part_written o s t count set_by packets bytes waiting events kept free sound stands can is =
     rw (
       free,
       sound,
       stands,
       events-written kept events is,
-      packets-written (waiting_after (opening_in o) past) can,
-      flat_map-append text_of (map queued_row (waiting_after (opening_in o) past)) (map event_row events),
+      packets-written waiting can,
+      flat_map-append text_of (map queued_row waiting) (map event_row events),
     ) refl

@@ -4,7 +4,7 @@ ghost use Rattle.pie_c.specs.Names.{Opening};
 ghost use Rattle.pie_c.specs.{flat_map, Event, cause_after, state_after, wait_of, effect_of, Setter, explanation, moment_of, with_after, Clock};
 ghost use Rattle.pie_c.specs.{rows_text, event_row, written_rows, resumed_rows, PieOpening, PieStats, PieState, WrittenEvent, opening_text, event_of_written};
 ghost use Rattle.pie_c.specs.{written_text, opening_in, opening_of, opening_refusal, CanWait, is_snapshot, resume_of, resume_text, set_by_of};
-ghost use Rattle.pie_c.specs.{snapshot_in, waiting_text, controller_state, is_sound, ExplainsCall};
+ghost use Rattle.pie_c.specs.{Waiting, snapshot_in, waiting_text, controller_state, is_sound, ExplainsCall};
 ghost use Rattle.pie_book.specs.History.{waiting_after};
 
 /// States that the writing calls produce the records of a history (this project's own).
@@ -20,12 +20,11 @@ ghost use Rattle.pie_book.specs.History.{waiting_after};
 pub fn written_calls_are_records()
     ensures whole { (o : PieOpening) (events : List Event) (kept : List WrittenEvent) → opening_refusal o ≡ 0 → map event_of_written kept ≡ map Some events
         → opening_text (opening_of o) ++ flat_map written_text kept ≡ rows_text (written_rows (opening_in o) events) }
-    ensures part { (o : PieOpening) (s : PieState) (t : PieStats) (count set_by packets bytes : ℕ) (past events : List Event) (kept : List WrittenEvent)
-        → opening_refusal o ≡ 0 → is_sound s ≡ true → is_snapshot o s count packets bytes ≡ true → All CanWait (waiting_after (opening_in o) past)
+    ensures part { (o : PieOpening) (s : PieState) (t : PieStats) (count set_by packets bytes : ℕ) (waiting : List Waiting) (events : List Event)
+        (kept : List WrittenEvent) → opening_refusal o ≡ 0 → is_sound s ≡ true → is_snapshot o s count packets bytes ≡ true → All CanWait waiting
         → map event_of_written kept ≡ map Some events
-        → resume_text (resume_of o s t count set_by packets bytes)
-        ++ (flat_map waiting_text (waiting_after (opening_in o) past) ++ flat_map written_text kept)
-        ≡ rows_text (resumed_rows (opening_in o) (snapshot_in s t count packets bytes) past (set_by_of set_by) (map event_row events)) }
+        → resume_text (resume_of o s t count set_by packets bytes) ++ (flat_map waiting_text waiting ++ flat_map written_text kept)
+        ≡ rows_text (resumed_rows (opening_in o) (snapshot_in s t count packets bytes) waiting (set_by_of set_by) (map event_row events)) }
 {}
 
 /// States that the summing calls add their event to `period` as pie_explain explains it. `ExplainsCall` holds for that

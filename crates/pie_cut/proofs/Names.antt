@@ -1,17 +1,17 @@
 -- Definitions from lower crates that the files of this folder use.
-pub use Rattle.pie_audit.proofs.AuditorFacts.{Audits-finding, answered-within, count-push, event_count-append, few_lines, made-count, shown-count}
+pub use Rattle.pie_audit.proofs.AuditorFacts.{Audits-finding, IsAmong, count-push, event_count-append, few_lines, made-count, named-within, stands-count}
 pub use Rattle.pie_audit.proofs.LegalFacts.{all-made, difference-push, difference_here, event_count-push, events_of-none, first_difference-push}
 pub use Rattle.pie_audit.proofs.LegalFacts.{legal-clean, legal-of-clean, line_places-push, made-events, none_of}
-pub use Rattle.pie_audit.proofs.ProcessorFacts.{begun-found, one-value, part-begun, processed-found}
-pub use Rattle.pie_audit.specs.{Finding.agrees, Finding.event_in, Finding.finding_by, Origin.RepresentsAfter, Origin.agrees_after}
+pub use Rattle.pie_audit.proofs.ProcessorFacts.{begun-found, one-value, part-begun, processed-found, text-past}
+pub use Rattle.pie_audit.specs.{Finding.agrees, Finding.event_in, Finding.finding_by, Origin.agrees_after}
 pub use Rattle.pie_audit.specs.{Preambles.WholeBegun, Text.FindsAfter, Text.FindsBy, Text.IsExcerptText, Text.lines_after}
 pub use Rattle.pie_book.specs.Snapshot.{core_of}
 pub use Rattle.pie_cut.specs.{All, AreSegments, Clean, Clock, CoreSnapshot, CoreView, Differs, EndView, Err, Event, Finding, IsCut, IsFound}
-pub use Rattle.pie_cut.specs.{IsInSegments, IsSnapshotOf, IsText, Limits, Line, LinePlace, None, Ok, Opening, Option, Origin, Result, Row, Some}
+pub use Rattle.pie_cut.specs.{IsInSegments, IsText, Limits, Line, LinePlace, None, Ok, Opening, Option, Origin, Result, Row, Some}
 pub use Rattle.pie_cut.specs.{Start, TraceFault, Valid, Waiting, append_known, at_core, at_opening, cons_option, count_after, end_place, finding}
 pub use Rattle.pie_cut.specs.{finding_from, first_difference, first_place, flat_map, from_opening, has_begun, history_lines, is_past, is_past_at}
 pub use Rattle.pie_cut.specs.{is_reached_at, is_some, kept, moment_in, next_number, past_by, place_after, position_at, position_by, queued_row}
-pub use Rattle.pie_cut.specs.{reached_by, records_of, resume_with, segment, set_by_after, setter_field_of, snapshot_of, start_after, text_of, up_to}
+pub use Rattle.pie_cut.specs.{RepresentsAfter, reached_by, records_of, rows_from, resume_with, segment, set_by_after, setter_field_of, snapshot_of, start_after, start_at, text_of, up_to}
 pub use Rattle.pie_cut.specs.{Represents, are_in_range, latest_clock, opening_refusal, whole_lines, within}
 pub use Rattle.pie_cut.specs.declared.{joint_audit.Joined.Joined, joint_audit.Joint.Joint, span.Position.Position, span.Span.Span}
 pub use Rattle.pie_cut.specs.declared.joint_audit.Joint.TheVariants.{Gap, Unlike}
@@ -32,8 +32,8 @@ pub use Rattle.std.proofs.Common.{max, refl, rules, subst, suc, sym, take, true,
 pub use Rattle.std.proofs.KnownBytes.{Appends-nil, Appends-trans, Keeps-refl, append_known-grown}
 pub use Rattle.std.proofs.lemmas.List.Elements.{All-append, All-cons, All-head, All-map, All-nil, All-tail, filter_map-append}
 pub use Rattle.std.specs.{List.filter_map, List.find, Option.option_or}
-pub use Rattle.std.specs.Prelude.{nat_le, nat_lt, not, slice_get, ◌&&◌, ◌||◌, ◌⊎◌}
+pub use Rattle.std.specs.Prelude.{nat_le, nat_lt, not, slice_get, ◌&&◌, ◌==◌, ◌||◌, ◌⊎◌}
 unfoldable pub use Rattle.pie_cut.specs.{chosen, difference_from, event_count, events_of, excerpt_lines, line_places, resume_row, rows_text}
-unfoldable pub use Rattle.pie_cut.specs.{waiting_after}
+unfoldable pub use Rattle.pie_cut.specs.{core_along}
 unfoldable pub use Rattle.pie_excerpt.specs.Preamble.{resumed_of}
 unfoldable pub use Rattle.pie_record.specs.ReadBack.{AreLinesOf}

@@ -1,15 +1,17 @@
 -- Definitions from lower crates that this crate's definitions, code and proofs use.
 pub use Rattle.pie_audit.specs.{Auditor.AuditorView, Auditor.Audits, Auditor.AuditsFrom, Finding.LinePlace, Finding.finding, Finding.finding_from}
 pub use Rattle.pie_audit.specs.{Finding.first_difference, Replay.Replays, Replay.next_number, Setters.setter_in, Start.Start, Start.from_opening}
-pub use Rattle.pie_audit.specs.{Start.setter_from_start, Start.start_after, Text.FindsEither, Text.IsFound, Text.whole_finding}
-pub use Rattle.pie_audit.specs.Origin.{Origin, at_core, at_opening, count_after, opening_in}
+pub use Rattle.pie_audit.specs.{Start.setter_from_start, Start.start_after, Start.start_at, Text.FindsEither, Text.IsFound, Text.IsFoundFrom}
+pub use Rattle.pie_audit.specs.{Text.IsTextFrom, Text.whole_finding}
+pub use Rattle.pie_audit.specs.Origin.{IsAccepted, Origin, RepresentsAfter, at_core, at_opening, count_after, opening_in}
 pub use Rattle.pie_audit.specs.Preambles.{BeginsAt, BeginsAtCore, BegunBy, PreamblesDetermine, TextProcessedBy, fault_by, remaining_by, whole_lines}
 pub use Rattle.pie_audit.specs.declared.{auditor.Finding.Finding, auditor.Finding.TheVariants.Clean, auditor.Finding.TheVariants.Differs}
-pub use Rattle.pie_book.specs.{Core.CoreView, Core.Represents, Decision.IsLegal, declared.snapshot.CoreSnapshot.CoreSnapshot}
+pub use Rattle.pie_book.specs.{Balanced.snapshot_of, Core.CoreView, Core.Represents, Decision.IsLegal, Snapshot.MayOpen}
+pub use Rattle.pie_book.specs.declared.snapshot.CoreSnapshot.{CoreSnapshot}
 pub use Rattle.pie_event.specs.Opening.{are_in_range, opening_refusal}
 pub use Rattle.pie_event.specs.declared.{command.Event.Event, opening.Limits.Limits, opening.Opening.Opening, setter.Setter.Setter}
-pub use Rattle.pie_excerpt.specs.{Fits.WaitingFits, Preamble.Resumes, Preamble.is_resumed, Rows.queued_row}
-pub use Rattle.pie_excerpt.specs.Written.{IsWritten, resume_with, resumed_rows}
+pub use Rattle.pie_excerpt.specs.{Fits.WaitingFits, Preamble.Resumes, Preamble.is_resumed, Preamble.is_set_within, Rows.queued_row}
+pub use Rattle.pie_excerpt.specs.Written.{IsWritten, resume_with, resumed_rows, rows_from}
 pub use Rattle.pie_queue.specs.declared.packet.Waiting.{Waiting}
 pub use Rattle.pie_record.specs.{Fault.is_io_or_memory, ReadBack.EventFits, Text.Row, Text.records_of, Text.text_of, Write.change_event, Write.line_rows}
 pub use Rattle.pie_record.specs.HistoryLines.{IsRecordOf, RemainingLines, events_in, history_lines, latest_clock}

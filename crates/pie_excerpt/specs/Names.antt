@@ -1,5 +1,6 @@
 -- Definitions from lower crates that this crate's definitions, code and proofs use.
 pub use Rattle.csv.specs.Writing.{needs_quotes}
+pub use Rattle.pie_book.specs.Balanced.{AreQueued, snapshot_of}
 pub use Rattle.pie_book.specs.{Core.CoreView, Core.Represents, Excerpt.ExcerptView, declared.snapshot.CoreSnapshot.CoreSnapshot}
 pub use Rattle.pie_book.specs.Snapshot.{MayOpen, ResumingView, SnapshotRepresents, begun_with, core_of, end_refusal, queue_refusal, resume_refusal}
 pub use Rattle.pie_book.specs.Snapshot.{with_packet}

@@ -1,10 +1,10 @@
 //! The laws of reading back.
-ghost use Rattle.pie_excerpt.specs.{All, CommandFits, CoreSnapshot, Event, HasField, HasPreamble, IsWritten, List, Ok, Opening, Option, Resume};
-ghost use Rattle.pie_excerpt.specs.{ResumeFits, Resumes, Row, Waiting, WaitingFits, begun_at, is_resumed, map, queued_of, queued_row, records_of};
-ghost use Rattle.pie_excerpt.specs.{resume_of, resume_row, resume_with, resumed_of, rows_text, take, true, waiting_after, ℕ, Preamble.Preamble};
+ghost use Rattle.pie_excerpt.specs.{All, CoreSnapshot, CoreView, Event, HasField, HasPreamble, IsWritten, List, Ok, Opening, Option, Represents};
+ghost use Rattle.pie_excerpt.specs.{Resume, ResumeFits, Resumes, Row, Waiting, WaitingFits, begun_at, is_resumed, map, queued_of, queued_row, records_of};
+ghost use Rattle.pie_excerpt.specs.{resume_of, resume_row, resume_with, resumed_of, rows_from, rows_text, take, true, ℕ, Preamble.Preamble};
 ghost use Rattle.std.specs.Prelude.{◌++◌, ◌∷◌, ◌≡◌};
 
-use pie_book::packets_that_waited_are_taken;
+use pie_book::packets_of_a_core_are_taken;
 use pie_record::openings_are_checked;
 
 /// The law of records, for all numbers of their types (this project's own). The state of a core, with each register
@@ -34,21 +34,19 @@ pub fn preambles_are_written_again()
     openings_are_checked();
 }
 
-/// The law of preambles. A text begins with the records of registers that represent a history, and of the packets
-/// that waited after it. Then it is an excerpt (`resumes`) after that history (`continues`), whatever follows, and
-/// its preamble is read back as it was written (`read_back`; this project's own).
+/// The law of preambles. A text begins with the records of a core's numbers, and of the packets that wait in it. Then it
+/// is an excerpt (`resumes`), and its preamble is read back as it was written (`read_back`), whether a history leads to
+/// the core's numbers or not. It is an excerpt after each history that the core represents, whatever follows
+/// (`continues`; this project's own).
 ///
 /// The function does nothing: its contract is the law.
 pub fn preambles_are_resumed()
     ensures resumes { (opening : Opening) (snapshot : CoreSnapshot) (set_by : Option ℕ) (rows : List Row)
         → is_resumed (resume_row (resume_with opening snapshot set_by) ∷ rows) ≡ true }
-    ensures read_back { (opening : Opening) (snapshot : CoreSnapshot) (past : List Event) (set_by : Option ℕ) (more : List Row)
-        → All (λ event. CommandFits event.command) past → IsWritten opening snapshot past set_by
-        → resumed_of (resume_row (resume_with opening snapshot set_by) ∷ (map queued_row (waiting_after opening past) ++ more))
-        ≡ Ok (begun_at opening snapshot past set_by more) }
-    ensures continues { (opening : Opening) (snapshot : CoreSnapshot) (past : List Event) (set_by : Option ℕ) (more : List Row)
-        → All (λ event. CommandFits event.command) past → IsWritten opening snapshot past set_by
-        → Resumes (resume_row (resume_with opening snapshot set_by) ∷ (map queued_row (waiting_after opening past) ++ more)) opening past }
+    ensures read_back { (opening : Opening) (core : CoreView) (set_by : Option ℕ) (more : List Row) → IsWritten opening core set_by
+        → resumed_of (rows_from opening core set_by more) ≡ Ok (begun_at opening core set_by more) }
+    ensures continues { (opening : Opening) (core : CoreView) (past : List Event) (set_by : Option ℕ) (more : List Row) → IsWritten opening core set_by
+        → Represents opening core past → Resumes (rows_from opening core set_by more) opening past }
 {
-    packets_that_waited_are_taken();
+    packets_of_a_core_are_taken();
 }

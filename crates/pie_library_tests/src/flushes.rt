@@ -93,6 +93,12 @@ fn written(alloc: Global, writer: &mut Sink) -> bool {
     event.fits() && is_write(write_history(alloc, writer, &opening(), &[event]).err())
 }
 
+/// Returns true if both findings are reported as not written.
+fn found(writer: &mut Sink) -> bool {
+    let is_clean = is_write(write_finding(Finding::Clean { events: 3 }, writer).err());
+    is_clean && is_write(write_finding(Finding::Differs { event: 2 }, writer).err())
+}
+
 impl Writes {
     /// Returns true if the run reports that the writer failed. (A run of at most one record meets a text that is
     /// too long.)
@@ -102,7 +108,7 @@ impl Writes {
             Writes::RunWithin => is_write(run_trace_within(alloc, text, writer, 1).err()),
             Writes::Migrate => is_write(migrate(alloc, text, writer).err()),
             Writes::Explain => explained(alloc, text, writer),
-            Writes::Finding => is_write(write_finding(Finding::Clean { events: 3 }, writer).err()),
+            Writes::Finding => found(writer),
             Writes::Opening => write_opening(&opening(), writer).is_err(),
             Writes::History => written(alloc, writer),
         }

@@ -317,7 +317,11 @@ fn is_too_long<R: Read + Drop>(alloc: Global, trace: R, max_records: u64, wanted
     fault == Some(TraceFault::TooLong) && writer.is_all()
 }
 
-/// Runs of three records, and of a thousand of a trace without an end.
+/// A trace behind a preamble of three records: the state after two arrivals, and two packets.
+const EXCERPT: &[u8] =
+    b"resume,1,rate,derandomized,capped,unscaled,bounded,0,4,16,100,15000000,15000000,150000000,125,1250,1024,262144,100000000000,16384,15000000,15000000,150000000,125,1250,1024,262144,100000000000,16384,2,0,2,3000,10,0,0,0,150000000,0,0,0,0,0,0,1,2,2,0,0,0,0,0,0,0,0,0,0,3000,0,0\nqueued,7,1500,ect0,10\nqueued,8,1500,ect0,10\ndepart,2,25\n";
+
+/// Runs of three records, of a thousand of a trace without an end, and of fewer records than a preamble has.
 pub(crate) fn runs_are_bounded(alloc: Global) -> bool {
     let (trace, wanted) = (
         b"open,0,4,4,2\ndepart,1,1\ndepart,1,1\ndepart,1,1\n",
@@ -328,6 +332,7 @@ pub(crate) fn runs_are_bounded(alloc: Global) -> bool {
         Ok(history) => {
             is_too_long(alloc, trace.as_slice(), 3, wanted)
                 && is_too_long(alloc, endless, 1000, history.as_bytes())
+                && is_too_long(alloc, EXCERPT, 2, b"")
         }
         Err(_) => false,
     }

@@ -16,7 +16,7 @@
 //!   has the lock's origin and represents the front with these entries (`origin`, `represents`). The pass then
 //!   has this front. `Held` is not `Drop`: a function that loses a `Held` does not compile.
 //! - A call that may wait (`take`, `take_for`) also returns a `WakeDue`, which is not `Drop`. Only `wake` ends it, and
-//!   `wake` needs the pass that the put returned. So after each such turn a sleeping thread is woken.
+//!   `wake` needs the pass that the put returned. So no such turn ends without its call of `wake`.
 //! - `share` refuses a pass of one number (`one_number`), and `gather` refuses ranges that are not adjacent (`beside`).
 //!   There is no other refusal, and a refusal changes nothing. A gathered pass has both ranges and the longer front,
 //!   which begins with the shorter one.

@@ -247,6 +247,7 @@ impl<S: Kept> RuledLock<S> {
     {
         let due = WakeDue {
             calls: Snapshot::of(&calls),
+            of_lock: (),
         };
         match self.take_if_free(pass) {
             Ok(held) => (held, due),
@@ -369,7 +370,10 @@ impl<S: Kept> RuledLock<S> {
         requires own { pass.now.lock ≡ self.now }
     {
         let _ = pass;
-        let WakeDue { calls: _ } = due;
+        let WakeDue {
+            calls: _,
+            of_lock: (),
+        } = due;
         if self.awaited.load(Ordering::SeqCst) == AWAITED {
             self.awaited.store(NOT_AWAITED, Ordering::SeqCst);
             self.awaited.wake_one();

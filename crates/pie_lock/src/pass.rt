@@ -88,6 +88,8 @@ impl<S: Kept> Held<S> {
 pub struct WakeDue {
     /// The number of calls of the turn, for the prover alone.
     pub calls: Snapshot<usize>,
+    // Not public, so no other crate can make or end one.
+    pub(crate) of_lock: (),
 }
 
 /// The announcement that this thread may sleep. `RuledLock::look_awaited` ends it, so that look comes after it.

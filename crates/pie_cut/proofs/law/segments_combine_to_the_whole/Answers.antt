@@ -1,21 +1,47 @@
-use Rattle.pie_cut.proofs.Names.{[], excerpt_lines, from_opening, history_lines, refl, start_after}
-use Rattle.pie_cut.proofs.{JoinedFacts.is-chain, JoinedFacts.legal-none, TextFacts.part-fits, TextFacts.whole-fits}
+use Rattle.pie_cut.proofs.Names.{[], at_core, at_opening, excerpt_lines, from_opening, history_lines, made-count, map, refl, start_after, start_at, Valid}
+use Rattle.pie_cut.proofs.Names.{arith, ◌≤◌, event_count}
+use Rattle.pie_cut.proofs.{JoinedFacts.agree-none, JoinedFacts.agree-past, JoinedFacts.is-chain, TextFacts.excerpt-fits, TextFacts.part-fits}
+use Rattle.pie_cut.proofs.{TextFacts.valid-accepted, TextFacts.whole-fits}
+use Rattle.pie_cut.specs.{MayBegin}
 use Rattle.pie_cut.proofs.law.segments_combine_to_the_whole.Goals as goal
 
 pub returns-clause-whole : goal.returns-clause-whole
 returns-clause-whole c = λ every rows opening text some accepted.
-    is-chain from_opening every opening [] (legal-none opening) refl (history_lines 4294967296 rows) text (record {
+    let none = made-count [] in
+    is-chain from_opening every (at_opening opening) [] (agree-none (at_opening opening)) none (history_lines 4294967296 rows) text (record {
       some = some;
       accepted = accepted;
+      valid = tt;
+      begins = omega (arith, none);
       fit = whole-fits rows;
+      law = c.written_excerpts_are_read.ensures.lines;
+    })
+
+pub returns-clause-state : goal.returns-clause-state
+returns-clause-state c = λ every rows opening core set_by text some begins.
+    let has = c.preambles_are_written_again.ensures.opens rows _ begins.2 in
+    let valid : MayBegin opening core set_by =
+    record { accepted = has.accepted; opened = has.opened; counted = has.counted; names = has.set_by } in
+    let none = made-count [] in
+    is-chain (start_at core set_by) every (at_core opening core set_by) [] (agree-none (at_core opening core set_by)) (omega (arith, none))
+    (excerpt_lines rows) text (record {
+      some = some;
+      accepted = valid-accepted opening core set_by valid;
+      valid = valid;
+      begins = omega (arith, none);
+      fit = excerpt-fits rows;
       law = c.written_excerpts_are_read.ensures.lines;
     })
 
 pub returns-clause-part : goal.returns-clause-part
 returns-clause-part c = λ every rows opening past set_by text some accepted fit legal.
-    is-chain (start_after set_by past) every opening past legal refl (excerpt_lines rows) text (record {
+    let none = made-count [] in
+    is-chain (start_after set_by past) every (at_opening opening) (map Valid past) (agree-past opening past legal) (made-count past)
+    (excerpt_lines rows) text (record {
       some = some;
       accepted = accepted;
+      valid = tt;
+      begins = omega (arith, none);
       fit = part-fits past rows fit;
       law = c.written_excerpts_are_read.ensures.lines;
     })

@@ -8,5 +8,5 @@ pub mod Setters
 pub mod Start
 pub mod Replay
 pub mod Kinds
-pub mod Preambles
-unfoldable pub use Rattle.pie_audit.specs.{Names.*, Origin.*, Finding.*, Auditor.*, Text.*, Legal.*, Setters.*, Start.*, Replay.*, Kinds.*, Preambles.*}
+pub mod Beginnings
+unfoldable pub use Rattle.pie_audit.specs.{Names.*, Origin.*, Finding.*, Auditor.*, Text.*, Legal.*, Setters.*, Start.*, Replay.*, Kinds.*, Beginnings.*}

@@ -7,13 +7,13 @@ pub use Rattle.pie_event.specs.{Opening.opening_refusal, Ranges.CommandFits, Ran
 pub use Rattle.pie_event.specs.declared.{command.Answer.Answer, command.Command.Command, command.Event.Event, opening.Opening.Opening}
 pub use Rattle.pie_event.specs.declared.{refusal.OpenRefusal.TheVariants.Memory, setter.Setter.Setter}
 pub use Rattle.pie_event.specs.declared.command.Command.TheVariants.{Arrive, Reset, Update}
-pub use Rattle.pie_excerpt.specs.Preamble.{Preamble, Resumes, is_resumed}
+pub use Rattle.pie_excerpt.specs.Beginning.{Beginning, Continues}
 pub use Rattle.pie_excerpt.specs.Written.{IsWritten, excerpt_rows, rows_from}
 pub use Rattle.pie_params.specs.Range.{first_bad}
 pub use Rattle.pie_record.specs.{Fault.IsOfInput, Fault.IsWriteOrMemory, Fault.is_io_or_memory, ReadBack.EventFits, ReadBack.IsHistoryText, Text.HasField, Text.Row}
 pub use Rattle.pie_record.specs.{Text.TakesRow, Text.records_of, Write.event_row, Write.written_rows}
 pub use Rattle.pie_record.specs.HistoryLines.{IsRecordOf, LinesView, RemainingLines, remaining_after_opening, remaining_from}
-pub use Rattle.pie_record.specs.declared.{fault.TraceFault.TraceFault, history_record.Line.Line, version.Version.TheVariants.Three}
+pub use Rattle.pie_record.specs.declared.{fault.TraceFault.TraceFault, history_record.Line.Line, version.Version.TheVariants.Three, version.Version.Version}
 pub use Rattle.pie_record.specs.declared.history_reader.ReaderState.TheVariants.{Faulted, Going}
 pub use Rattle.pie_record.specs.declared.history_record.Line.TheVariants.{Invalid, Note, Valid}
 pub use Rattle.std.proofs.Common.{rules}
@@ -21,6 +21,6 @@ pub use Rattle.std.specs.{Fmt.decimal, Io.KnownBytes.Appends, List.filter_map, L
 pub use Rattle.std.specs.Prelude.{All, Bool, Decides, Err, IfErr, IfOk, IfSome, List, None, Ok, OnOk, Option, Result, Some, [], codes, false, length}
 pub use Rattle.std.specs.Prelude.{map, min, nat_lt, not, option_map, take, true, unwrap_or, ℕ, ⊤}
 unfoldable pub use Rattle.pie_book.specs.History.{waiting_after}
-unfoldable pub use Rattle.pie_excerpt.specs.Preamble.{resumed_of}
+unfoldable pub use Rattle.pie_excerpt.specs.Beginning.{beginning_of}
 unfoldable pub use Rattle.pie_record.specs.{FirstRecord.opening_of, FirstRecord.version_of, ReadBack.AreLinesOf, Text.rows_text}
 unfoldable pub use Rattle.pie_record.specs.HistoryLines.{event_count, fault_from, history_opening, latest_clock, lines_from}

@@ -22,11 +22,11 @@ pub mod visitor;
 
 pub use auditor::{Auditor, Finding};
 pub use law::{
-    clean_excerpts_are_legal, clean_is_legal, events_are_lines, findings_look_back,
-    recorded_calls_are_clean, written_excerpts_are_read,
+    clean_is_legal, clean_texts_are_legal, events_are_lines, findings_look_back,
+    histories_are_found, recorded_calls_are_clean, written_excerpts_are_read,
 };
 pub use opened_text::{OpenedText, begin};
-pub use processor::{TextProcessor, preambles_determine, process_text};
+pub use processor::{TextProcessor, beginnings_determine, process_text};
 pub use replay::{LineKind, Replay, kind_of};
 pub use text_audit::{audit, write_finding};
 pub use visitor::{Auditing, LineVisitor, visit_lines};

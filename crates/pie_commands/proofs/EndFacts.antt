@@ -1,13 +1,13 @@
 -- Facts about the end of a subcommand and its output, and about the files meanwhile.
 use Rattle.std.proofs.lemmas.Bool.Decides.{nat_tests}
 use Rattle.pie_commands.proofs.Names.{◌≡◌, ◌≤◌, ℕ, List, Option, Some, arith, IfSome, EndsBy, EndsRead, End, status_of, inr, inl, refl, Ok, Err, TraceFault}
-use Rattle.pie_commands.proofs.Names.{Row, records_of, LastEither, Fault, CutsLast, end_of_cut, last_of, None, subst, sym, Elements, EndsStorm}
+use Rattle.pie_commands.proofs.Names.{Row, records_of, HasLast, Fault, CutsLast, end_of_cut, last_of, None, subst, sym, Elements, EndsStorm}
 use Rattle.pie_commands.proofs.Names.{elements_in, numbers_in, storm_ends, Done, Failed, IsWriteOrMemory, Bool, true, false, IsSome, Text, file_of, Held}
 use Rattle.pie_commands.proofs.Names.{IsEmpty, Keeps, Places, Settles, NoOutputFile, ◌&&◌, if◌then◌else◌, not, after_output, EndsAt, EndsIn, is_whole}
 use Rattle.pie_record.specs.Text.{Row as Fields}
 use Rattle.std.proofs.lemmas.Option.{IfSome_then}
 use Rattle.pie_cut.specs.declared.fault.CutFault.TheVariants.{Trace}
-use Rattle.pie_cut.specs.Answer.{CutsEither}
+use Rattle.pie_cut.specs.Answer.{CutsText}
 use Rattle.pie_event.specs.declared.command.Event.{Event}
 use Rattle.pie_book.specs.Decision.{IsLegal}
 use Rattle.pie_storm.specs.declared.plan_numbers.StormNumbers.{StormNumbers}
@@ -46,13 +46,13 @@ by-kept end_for has_result old new end before now keeps promise = grind (arith, 
 
 -- counting the events found a fault
 pub last-faulted : (many : ℕ) (known : Option (List ℕ)) (why : TraceFault) (before : Option (List ℕ))
-    → IfSome known (λ text. LastEither (records_of text) (Err why)) → EndsBy end_of_cut (CutsLast many) known (Fault why) before before
+    → IfSome known (λ text. HasLast (records_of text) (Err why)) → EndsBy end_of_cut (CutsLast many) known (Fault why) before before
 last-faulted many known why before counts = (Err (Trace why), refl, IfSome_then known counts (λ text fault. (Err why, fault, (refl, refl))))
 
 -- the events were counted, and the excerpt up to the last of them was cut
 pub last-counted : (opens : Type 0) (many number : ℕ) (known : Option (List ℕ)) (end : End) (before now : Option (List ℕ))
-    → IfSome known (λ text. LastEither (records_of text) (Ok number))
-    → EndsRead opens (EndsBy end_of_cut (CutsEither (last_of number many)) known) end before now
+    → IfSome known (λ text. HasLast (records_of text) (Ok number))
+    → EndsRead opens (EndsBy end_of_cut (CutsText (last_of number many)) known) end before now
     → EndsRead opens (EndsBy end_of_cut (CutsLast many) known) end before now
 last-counted opens many number known end before now counts (inl unopened) = inl unopened
 last-counted opens many number known end before now counts (inr (outcome, is, cuts)) =

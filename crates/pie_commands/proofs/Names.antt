@@ -12,13 +12,13 @@ pub use Rattle.std.specs.Str.{bytes_eq}
 pub use Rattle.clap.proofs.WalkLemmas.{one_text-rows, raw_values-rows, first_value-rows}
 pub use Rattle.clap.specs.Words.{App, HasMatchesOf, Text, app_of, found_of, kind_of, one_text, rows_of, subcommand_name_of, subcommand_rows_of, takes}
 pub use Rattle.clap.specs.Words.{AddsSubcommand, Row, is_simple, new_app, with_rule, with_subcommand}
-pub use Rattle.pie_audit.specs.Text.{FindsEither}
+pub use Rattle.pie_audit.specs.Text.{Finds}
 pub use Rattle.pie_commands.specs.Explanations.{output_kind_of, output_text, units_of, end_of_explain, explain_ends}
 unfoldable pub use Rattle.pie_commands.specs.Explanations.{selection_of}
 pub use Rattle.pie_commands.specs.CutEnds.{CutsInto, CutsLast, around, between, cut_ends, end_of_cut, is_named, last_of}
 unfoldable pub use Rattle.pie_commands.specs.CutEnds.{cut_request_of}
 pub use Rattle.pie_commands.specs.Ends.{EndsBy, EndsRead, Migrates, end_of, status_of}
-pub use Rattle.pie_commands.specs.FileAudits.{HaveOutcomes, AuditsFiles, EndsEither, EndsFiles, LacksFinding, HasReadOutcome, HasFileOutcome, HasTextOutcome, FileOutcome}
+pub use Rattle.pie_commands.specs.FileAudits.{HaveOutcomes, AuditsFiles, EndsAuditing, EndsFiles, LacksFinding, HasReadOutcome, HasFileOutcome, HasTextOutcome, FileOutcome}
 pub use Rattle.pie_commands.specs.FileAudits.{is_broken, is_unfound, lines_of, outcome_lines, worst}
 pub use Rattle.pie_commands.specs.Files.{Name, ReadsNamed, file_of, text_given, Held, IsEmpty, Keeps, Places, Settles, EndsAt, EndsIn, is_whole}
 pub use Rattle.pie_commands.specs.Files.{after_output}
@@ -32,7 +32,7 @@ pub use Rattle.pie_commands.specs.declared.end.End.{End}
 pub use Rattle.pie_commands.specs.declared.end.End.TheVariants.{Done, Failed, Fault, CannotStart, NoOutputFile, Unopened}
 pub use Rattle.pie_commands.specs.declared.options.subcommand.Subcommand.TheVariants.{Audit, Cut, Explain, Migrate, Params, Run, Storm}
 pub use Rattle.pie_cut.specs.Joined.{EndView, JoinsText}
-pub use Rattle.pie_cut.specs.Last.{LastEither}
+pub use Rattle.pie_cut.specs.Last.{HasLast}
 pub use Rattle.pie_cut.specs.declared.joint_audit.Joined.{Joined}
 pub use Rattle.pie_explain.specs.declared.selection.Selection.{Selection}
 pub use Rattle.pie_explain.specs.declared.explanation.Explained.{Explained}

@@ -4,8 +4,8 @@ use Rattle.std.proofs.lemmas.Bool.Decides.{nat_tests}
 use Rattle.pie_commands.proofs.Names.{◌≡◌, ◌∙◌, ℕ, List, [], ◌∷◌, Option, Some, Bool, true, subst, sym, IfErr, IfOk, Result, Ok, Err, option_map, App}
 use Rattle.pie_commands.proofs.Names.{HasMatchesOf, Text, kind_of, subcommand_name_of, subcommand_rows_of, takes, End, CannotStart, Failed, Audit, file_in, get_or, inl, inr, None, take}
 use Rattle.pie_commands.proofs.Names.{files_in, is_forced, is_joined, options_in, pie_app, subcommand_in, Joined, EndView, text_given, Held, Keeps}
-use Rattle.pie_commands.proofs.Names.{AuditsFiles, HaveOutcomes, FileOutcome, HasFileOutcome, EndsBy, EndsRead, EndsEither, EndsFiles, LacksFinding, Answers, EndsAs, EndsTo, Finds}
-use Rattle.pie_commands.proofs.Names.{may_differ, output_for, FindsEither, JoinsText, records_of, ◌++◌, false}
+use Rattle.pie_commands.proofs.Names.{AuditsFiles, HaveOutcomes, FileOutcome, HasFileOutcome, EndsBy, EndsRead, EndsAuditing, EndsFiles, LacksFinding, Answers, EndsAs, EndsTo, Finds}
+use Rattle.pie_commands.proofs.Names.{may_differ, output_for, Finds, JoinsText, records_of, ◌++◌, false}
 use Rattle.pie_commands.proofs.Names.{IfSome}
 use Rattle.pie_commands.specs.Files.{CanRead, Opens, opens_after}
 use Rattle.pie_commands.specs.declared.audit.Unaudited.{Unaudited}
@@ -44,11 +44,11 @@ outcome-kept : (works joined : Bool) (input : Option (List ℕ)) (old new : Held
 outcome-kept works joined input old new keeps earlier name before (Err Unopened) after has =
     (λ opens. has.0 (opens.0, opens-kept old new earlier name keeps opens.1), has.1)
 outcome-kept works joined input old new keeps earlier name before (Err (Faulty why)) after has =
-    (text-still input old new name (λ text. FindsEither (records_of text) (Err why)) keeps has.0, has.1)
+    (text-still input old new name (λ text. Finds (records_of text) (Err why)) keeps has.0, has.1)
 outcome-kept works true input old new keeps earlier name before (Ok found) after has =
     (has.0, text-still input old new name (λ text. JoinsText (records_of text) before found after) keeps has.1)
 outcome-kept works false input old new keeps earlier name before (Ok found) after has =
-    (has.0, text-still input old new name (λ text. FindsEither (records_of text) (Ok found.finding)) keeps has.1)
+    (has.0, text-still input old new name (λ text. Finds (records_of text) (Ok found.finding)) keeps has.1)
 
 all-kept : (works joined : Bool) (input : Option (List ℕ)) (old new : Held) → Keeps old new → (earlier : List Text) (before : Option EndView)
     (outcomes : List FileOutcome) (after : Option EndView) → HaveOutcomes works joined input new earlier before outcomes after
@@ -96,7 +96,7 @@ files-kept works joined input old new names end before now keeps (inr (unfound, 
     inr (unfound, broken, last, is, audits-kept works joined input old new keeps names unfound broken last before now audits)
 
 either-kept : (works joined : Bool) (input : Option (List ℕ)) (old new : Held) (names : List Text) (end : End) (before now : Option (List ℕ))
-    → Keeps old new → EndsEither works joined input new names end before now → EndsEither works joined input old names end before now
+    → Keeps old new → EndsAuditing works joined input new names end before now → EndsAuditing works joined input old names end before now
 either-kept works joined input old new [] end before now keeps promise = promise
 either-kept works joined input old new (name ∷ names) end before now keeps promise =
     files-kept works joined input old new (name ∷ names) end before now keeps promise

@@ -6,12 +6,11 @@ use Rattle.std.specs.Str.{bytes_eq}
 use Rattle.clap.specs.Words.{Row, Text}
 use Rattle.pie_record.specs.declared.fault.TraceFault.{TraceFault}
 use Rattle.pie_record.specs.Text.{Row as Fields}
-use Rattle.pie_excerpt.specs.Preamble.{is_resumed}
 use Rattle.pie_cut.specs.declared.fault.CutFault.{CutFault}
 use Rattle.pie_cut.specs.declared.fault.CutFault.TheVariants as fault
 use Rattle.pie_cut.specs.declared.span.Span.{Span}
-use Rattle.pie_cut.specs.Answer.{CutsEither, HasTextResult}
-use Rattle.pie_cut.specs.Last.{LastEither}
+use Rattle.pie_cut.specs.Answer.{CutsText, HasTextResult}
+use Rattle.pie_cut.specs.Last.{HasLast}
 use Rattle.pie_cut.specs.Segment.{IsInSegments, every_answer}
 use Rattle.pie_units.specs.declared.when.When.{When}
 use Rattle.pie_commands.specs.Words.{number_given}
@@ -81,16 +80,16 @@ end_of_cut (Err fault.NoEvents) = Failed
 
 -- a cut into pieces of either kind
 abbrev pub CutsInto : Pieces → List Fields → Result ℕ CutFault → Option (List ℕ) → Option (List ℕ) → Type 0
-CutsInto (Part span) rows outcome before now = CutsEither span rows outcome before now
-CutsInto (Every every) rows outcome before now = HasTextResult every_answer (IsInSegments every) (is_resumed rows) rows outcome before now
+CutsInto (Part span) rows outcome before now = CutsText span rows outcome before now
+CutsInto (Every every) rows outcome before now = HasTextResult every_answer (IsInSegments every) rows outcome before now
 
 -- a cut of the last `many` events, after a first pass found the number of the last event or a fault
 abbrev pub CutsUpTo : ℕ → Result ℕ TraceFault → List Fields → Result ℕ CutFault → Option (List ℕ) → Option (List ℕ) → Type 0
-CutsUpTo many (Ok last) rows outcome before now = CutsEither (last_of last many) rows outcome before now
+CutsUpTo many (Ok last) rows outcome before now = CutsText (last_of last many) rows outcome before now
 CutsUpTo many (Err why) rows outcome before now = (outcome ≡ Err (fault.Trace why)) × (now ≡ before)
 
 abbrev pub CutsLast : ℕ → List Fields → Result ℕ CutFault → Option (List ℕ) → Option (List ℕ) → Type 0
-CutsLast many rows outcome before now = (last : Result ℕ TraceFault) × LastEither rows last × CutsUpTo many last rows outcome before now
+CutsLast many rows outcome before now = (last : Result ℕ TraceFault) × HasLast rows last × CutsUpTo many last rows outcome before now
 
 -- true if the file has a name, other than `-`, so that it can be read twice
 abbrev pub is_named : Option Text → Bool

@@ -8,11 +8,11 @@ use Rattle.pie_record.specs.declared.fault.TraceFault.TheVariants as trace_fault
 use Rattle.pie_record.specs.Fault.{NoIoOrMemoryFailed, is_io_or_memory}
 use Rattle.pie_trace.specs.declared.run.RunEnd.{RunEnd}
 use Rattle.pie_trace.specs.Migrate.{history_events, history_fault, migrated_text}
-use Rattle.pie_trace.specs.Resumed.{RunsEither}
+use Rattle.pie_trace.specs.Runs.{RunsText}
 use Rattle.pie_record.specs.Text.{Row, records_of}
 use Rattle.pie_audit.specs.declared.auditor.Finding.{Finding}
 use Rattle.pie_audit.specs.declared.auditor.Finding.TheVariants as finding
-use Rattle.pie_audit.specs.Text.{FindsEither, finding_line}
+use Rattle.pie_audit.specs.Text.{Finds, finding_line}
 use Rattle.pie_commands.specs.declared.end.End.{End}
 use Rattle.pie_commands.specs.declared.end.End.TheVariants.{Done, Differs, Fault, Unopened, Failed}
 
@@ -63,7 +63,7 @@ end_of (Err why) = Fault why
 -- text of the records before it is written and the end is the fault; otherwise the reader, the writer or memory
 -- failed
 abbrev pub EndsRun : Option (List ℕ) → End → Option (List ℕ) → Option (List ℕ) → Type 0
-EndsRun = EndsBy end_of (RunsEither (2 ^ 32))
+EndsRun = EndsBy end_of (RunsText (2 ^ 32))
 
 -- the line with the number of events that a run recorded, and the number of records that it refused
 abbrev pub counts_line : RunEnd → List ℕ
@@ -86,7 +86,7 @@ WritesFinding (Ok found) end before now = (end ≡ Fault trace_fault.Write) ⊎ 
 -- text has a fault, or the reader or memory failed, nothing is written
 abbrev pub EndsAudit : Option (List ℕ) → End → Option (List ℕ) → Option (List ℕ) → Type 0
 EndsAudit known end before now =
-    (found : Result Finding TraceFault) × WritesFinding found end before now × IfSome known (λ text. FindsEither (records_of text) found)
+    (found : Result Finding TraceFault) × WritesFinding found end before now × IfSome known (λ text. Finds (records_of text) found)
 
 -- ---- `pie migrate`
 

@@ -22,7 +22,7 @@ use Rattle.pie_summary.specs.Summary.{without_packets, summary_of}
 use Rattle.pie_commands.specs.declared.explain.OutputKind.{OutputKind}
 use Rattle.pie_commands.specs.declared.explain.OutputKind.TheVariants.{Digest, Flows, Records, Sums, Words}
 use Rattle.pie_explain.specs.declared.fault.ExplainFault.{ExplainFault}
-use Rattle.pie_explain.specs.Either.{ExplainsEither}
+use Rattle.pie_explain.specs.TextAnswer.{ExplainsText}
 use Rattle.pie_commands.specs.declared.end.End.{End}
 use Rattle.pie_commands.specs.declared.end.End.TheVariants.{Done, Differs, Fault, Failed}
 use Rattle.pie_commands.specs.Ends.{EndsBy, WritesNothing}
@@ -152,7 +152,7 @@ end_of_explain (Err _) = Failed
 -- no event, the end is an error and nothing is written
 abbrev pub explain_ends : Option Selection → (List Explained → List ℕ) → Option (List ℕ) → End → Option (List ℕ) → Option (List ℕ) → Type 0
 explain_ends None text known = WritesNothing
-explain_ends (Some selection) text known = EndsBy end_of_explain (ExplainsEither selection text) known
+explain_ends (Some selection) text known = EndsBy end_of_explain (ExplainsText selection text) known
 
 -- the end of an explanation with the selection and the kind of output of these options
 abbrev pub EndsExplain : List Row → Option (List ℕ) → End → Option (List ℕ) → Option (List ℕ) → Type 0

@@ -8,7 +8,7 @@ use Rattle.pie_record.specs.declared.fault.TraceFault.TheVariants as trace_fault
 use Rattle.pie_record.specs.Text.{records_of}
 use Rattle.pie_audit.specs.declared.auditor.Finding.{Finding}
 use Rattle.pie_audit.specs.declared.auditor.Finding.TheVariants as finding
-use Rattle.pie_audit.specs.Text.{FindsEither}
+use Rattle.pie_audit.specs.Text.{Finds}
 use Rattle.pie_cut.specs.declared.joint_audit.Joined.{Joined}
 use Rattle.pie_cut.specs.declared.joint_audit.Joint.{Joint}
 use Rattle.pie_cut.specs.declared.joint_audit.Joint.TheVariants.{Follows, Gap, Unlike}
@@ -87,10 +87,10 @@ worst false false = Done
 abbrev pub HasTextOutcome : Bool → Type 0 → Option (List ℕ) → Option EndView → Result Joined Unaudited → Option EndView → Type 0
 HasTextOutcome joined opens known before (Err Unopened) after = (opens → ⊥) × (joined ≡ true → after ≡ None)
 HasTextOutcome joined opens known before (Err (Faulty why)) after =
-    IfSome known (λ text. FindsEither (records_of text) (Err why)) × (joined ≡ true → after ≡ None)
+    IfSome known (λ text. Finds (records_of text) (Err why)) × (joined ≡ true → after ≡ None)
 HasTextOutcome true opens known before (Ok outcome) after = IsLeftBy outcome.finding after × IfSome known (λ text. JoinsText (records_of text) before outcome after)
 HasTextOutcome false opens known before (Ok outcome) after =
-    (outcome.joint ≡ None) × IfSome known (λ text. FindsEither (records_of text) (Ok outcome.finding))
+    (outcome.joint ≡ None) × IfSome known (λ text. Finds (records_of text) (Ok outcome.finding))
 
 -- the result of a text that was read by `reads`, or of a file that could not be opened
 abbrev pub HasReadOutcome : Bool → Type 0 → (Option (List ℕ) → Type 0) → Option EndView → Result Joined Unaudited → Option EndView → Type 0
@@ -143,6 +143,6 @@ EndsFiles works joined input files names end before now =
     × AuditsFiles works joined input files names unfound broken last before now)
 
 -- without a file: an audit of the caller's reader, which has no joint
-abbrev pub EndsEither : Bool → Bool → Option (List ℕ) → (Text → Option (List ℕ)) → List Text → End → Option (List ℕ) → Option (List ℕ) → Type 0
-EndsEither works joined input files [] = EndsAudit input
-EndsEither works joined input files (name ∷ names) = EndsFiles works joined input files (name ∷ names)
+abbrev pub EndsAuditing : Bool → Bool → Option (List ℕ) → (Text → Option (List ℕ)) → List Text → End → Option (List ℕ) → Option (List ℕ) → Type 0
+EndsAuditing works joined input files [] = EndsAudit input
+EndsAuditing works joined input files (name ∷ names) = EndsFiles works joined input files (name ∷ names)

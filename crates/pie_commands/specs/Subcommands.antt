@@ -18,7 +18,7 @@ use Rattle.pie_commands.specs.declared.end.End.TheVariants.{CannotStart, Differs
 use Rattle.pie_commands.specs.CutEnds.{CutsInto, EndsCut, HasSome, end_of_cut}
 use Rattle.pie_commands.specs.Ends.{EndsAudit, EndsBy, EndsMigrate, EndsRead, EndsRun, status_of}
 use Rattle.pie_commands.specs.Explanations.{EndsExplain}
-use Rattle.pie_commands.specs.FileAudits.{EndsEither}
+use Rattle.pie_commands.specs.FileAudits.{EndsAuditing}
 use Rattle.pie_commands.specs.Files.{EndsIn}
 use Rattle.pie_commands.specs.StormEnds.{EndsStorm}
 use Rattle.pie_commands.specs.Tuning.{EndsParams}
@@ -41,7 +41,7 @@ CanDo _ = ⊤
 -- before it writes anything
 abbrev pub EndsAs : Subcommand → List Row → Bool → Option (List ℕ) → Held → End → Option (List ℕ) → Option (List ℕ) → Type 0
 EndsAs Run options works input files = EndsRead (Opens works files (file_in options)) (EndsRun (text_given input files (file_in options)))
-EndsAs Audit options works input files = EndsEither works (is_joined options) input files (files_in options)
+EndsAs Audit options works input files = EndsAuditing works (is_joined options) input files (files_in options)
 EndsAs Explain options works input files =
     EndsRead (Opens works files (file_in options)) (EndsExplain options (text_given input files (file_in options)))
 EndsAs Cut options works input files =

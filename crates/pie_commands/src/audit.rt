@@ -2,9 +2,9 @@
 ghost use Rattle.std.specs.Prelude.{◌≡◌, ◌<◌, ◌||◌, [], Err, IfErr, IfOk, IfSome, None, Ok, OnErr, OnOk, get_or, length, map, true, ⊤};
 ghost use Rattle.std.specs.Io.KnownBytes.{Appends};
 ghost use Rattle.clap.specs.Words.{found_of, rows_of};
-ghost use Rattle.pie_audit.specs.Text.{FindsEither};
+ghost use Rattle.pie_audit.specs.Text.{Finds};
 ghost use Rattle.pie_commands.specs.Ends.{WritesFinding, end_found};
-ghost use Rattle.pie_commands.specs.FileAudits.{EndsEither, EndsFiles, HasReadOutcome, HasTextOutcome, is_broken, line_of_joint, lines_of, named_line, worst};
+ghost use Rattle.pie_commands.specs.FileAudits.{EndsAuditing, EndsFiles, HasReadOutcome, HasTextOutcome, is_broken, line_of_joint, lines_of, named_line, worst};
 ghost use Rattle.pie_commands.specs.Files.{CanOpen, ReadsNamed, left_for};
 ghost use Rattle.pie_commands.specs.Words.{files_in, is_joined};
 ghost use Rattle.pie_cut.specs.declared.joint_audit.Joined.{Joined};
@@ -71,7 +71,7 @@ fn found_in<R: Read + Drop>(
     end: &mut Option<TextEnd>,
 ) -> Result<Joined, TraceFault>
     ensures writes_line { IfOk result (λ joined. HasTextOutcome are_joined ⊤ (R.remaining reader) end.old (Ok joined) end.new) }
-    ensures fault { IfSome (R.remaining reader) (λ text. IfErr result (λ why. FindsEither (records_of text) (Err why))) }
+    ensures fault { IfSome (R.remaining reader) (λ text. IfErr result (λ why. Finds (records_of text) (Err why))) }
     ensures none { OnErr result (are_joined ≡ true → end.new ≡ None) }
 {
     if are_joined {
@@ -259,7 +259,7 @@ fn audit_any<H: NamedFiles + Screen, R: Read + Drop, W: Write, E: Write>(
     output: &mut W,
     errors: &mut E,
 ) -> End
-    ensures { EndsEither H.works (is_joined (rows_of (found_of options.now))) (R.remaining input) (H.holds rt.now) (map (λ name. name.now) names.now) result
+    ensures { EndsAuditing H.works (is_joined (rows_of (found_of options.now))) (R.remaining input) (H.holds rt.now) (map (λ name. name.now) names.now) result
         (W.contents output.old) (W.contents output.new) }
 {
     let is_shown = shows_progress(rt, options, false);
@@ -284,7 +284,7 @@ pub(crate) fn audit<H: NamedFiles + Screen, R: Read + Drop, W: Write, E: Write>(
     output: &mut W,
     errors: &mut E,
 ) -> End
-    ensures { EndsEither H.works (is_joined (rows_of (found_of options.now))) (R.remaining input) (H.holds rt.now)
+    ensures { EndsAuditing H.works (is_joined (rows_of (found_of options.now))) (R.remaining input) (H.holds rt.now)
         (files_in (rows_of (found_of options.now))) result (W.contents output.old) (W.contents output.new) }
 {
     match options.get_strs("file") {

@@ -3,7 +3,7 @@ ghost use Rattle.std.specs.Prelude.{◌≡◌, false, true, Some, IfSome, IsSome
 ghost use Rattle.std.specs.Str.{bytes_eq};
 ghost use Rattle.clap.specs.Words.{found_of, rows_of};
 ghost use Rattle.pie_record.specs.Text.{records_of};
-ghost use Rattle.pie_cut.specs.Last.{LastEither};
+ghost use Rattle.pie_cut.specs.Last.{HasLast};
 ghost use Rattle.pie_commands.specs.Files.{Opens, text_given};
 ghost use Rattle.pie_commands.specs.Words.{file_in};
 ghost use Rattle.pie_commands.specs.CutEnds.{CutsInto, CutsLast, EndsCut, HasSome, WantsSome, chosen, end_of_cut, cut_request_of, within};
@@ -145,7 +145,7 @@ fn last_named<H: NamedFiles + Clock, R: Read + Drop, E: Write>(
     name: &str,
     errors: &mut E,
 ) -> Option<Result<u64, TraceFault>>
-    ensures last { IfSome result (λ last. IfSome (H.holds rt.now name.now) (λ text. LastEither (records_of text) last)) }
+    ensures last { IfSome result (λ last. IfSome (H.holds rt.now name.now) (λ text. HasLast (records_of text) last)) }
     ensures opens { H.works ≡ true → IsSome (H.holds rt.now name.now) → IsSome result }
 {
     match rt.open_named(name) {

@@ -2,7 +2,7 @@
 ghost use Rattle.std.specs.Prelude.{◌≡◌, IfSome};
 ghost use Rattle.clap.specs.Words.{found_of, rows_of};
 ghost use Rattle.pie_record.specs.Text.{records_of};
-ghost use Rattle.pie_explain.specs.Either.{ExplainsEither};
+ghost use Rattle.pie_explain.specs.TextAnswer.{ExplainsText};
 ghost use Rattle.pie_commands.specs.Explanations.{selection_of, chosen_events, every_of, is_summary, output_kind_of, output_text, EndsExplain, end_of_explain};
 
 use crate::end::{End, end_failed, end_with_fault, fault};
@@ -157,7 +157,7 @@ fn explain_with<R: Read + Drop, W: Write>(
     selection: Selection,
     kind: OutputKind,
 ) -> Result<u64, ExplainFault>
-    ensures { IfSome (R.remaining input) (λ text. ExplainsEither selection (output_text kind) (records_of text) result (W.contents output.old)
+    ensures { IfSome (R.remaining input) (λ text. ExplainsText selection (output_text kind) (records_of text) result (W.contents output.old)
         (W.contents output.new)) }
 {
     match kind {

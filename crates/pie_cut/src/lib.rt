@@ -5,7 +5,7 @@
 //! `cut` reads a history or an excerpt as an audit does, and decides each event again up to the last selected one.
 //! `cut_every` cuts the whole text into segments of equally many events. The definitions that the contracts cite
 //! are in `specs/`. If no reader, writer or memory failed, the result of `cut` is `answer_since` and its output is
-//! the excerpt (`IsCut`). For an excerpt as input both are those of the whole history from there on (`CutsEither`).
+//! the excerpt (`IsCut`). For an excerpt as input both are those of the whole history from there on (`CutsText`).
 #![tactic(auto)]
 
 mod counting;
@@ -22,6 +22,6 @@ pub use counting::last_number;
 pub use cutter::cut;
 pub use fault::CutFault;
 pub use joint_audit::{Joined, Joint, TextEnd, audit_joined, texts_that_follow_are_one_history};
-pub use law::{cuts_are_found_as_the_whole, resumed_texts_follow, segments_combine_to_the_whole};
+pub use law::{continued_texts_follow, cuts_are_found_as_the_whole, segments_combine_to_the_whole};
 pub use segments::cut_every;
 pub use span::Span;

@@ -1,3 +1,4 @@
 mod Names
 pub mod RowFacts
 pub mod BackFacts
+mod Examples

@@ -1,9 +1,11 @@
-//! The preamble of an excerpt: the state of a core, and the packets that wait.
+//! The beginning of a text: the state of a core before its first event, and the packets that wait.
 //!
-//! pie_book defines their meaning (`CoreSnapshot`, `Core::resume`). This crate writes them (`make_resume`,
-//! `put_queued`, and a whole excerpt by `write_excerpt`) and reads them (a whole preamble by `begin_resumed`).
+//! pie_book defines their meaning (`CoreSnapshot`, `Core::resume`). This crate writes them as the preamble of an excerpt
+//! (`make_resume`, `put_queued`, and a whole excerpt by `write_excerpt`). It reads the beginning of a text, a whole
+//! history or an excerpt, by `begin`; `beginning_of` defines it.
 #![tactic(auto)]
 
+pub mod beginning;
 pub mod law;
 pub mod number_ranges;
 pub mod preamble;
@@ -12,9 +14,13 @@ pub mod resume;
 mod round_trip;
 mod writing;
 
-pub use law::{preambles_are_resumed, preambles_are_written_again, records_are_read_back};
+pub use beginning::{TextBeginning, begin};
+pub use law::{
+    beginnings_are_written_again, histories_begin_at_openings, preambles_are_resumed,
+    records_are_read_back,
+};
 pub use number_ranges::{params_are_good, resume_fits};
-pub use preamble::{ExcerptStart, begin_resumed, fault_within, is_resume};
+pub use preamble::fault_within;
 pub use reading::read_resume;
 pub use resume::Resume;
 pub use round_trip::{add_queue, add_resume, resume_of_excerpt, write_excerpt};

@@ -8,8 +8,8 @@ pub mod Output
 pub mod Names
 pub mod Explanations
 pub mod Answer
-pub mod Either
+pub mod TextAnswer
 unfoldable pub use Names.*
 unfoldable pub use Explanations.*
 unfoldable pub use Answer.*
-unfoldable pub use Either.*
+unfoldable pub use TextAnswer.*

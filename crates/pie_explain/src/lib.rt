@@ -9,7 +9,7 @@
 //! `explain` reads a history as an audit does and decides each event again. It explains the chosen events from the
 //! core before them. The definitions that the contracts cite are in `specs/`. If no reader, writer or memory
 //! failed, the result of `explain` is `answer_since` and its output is `IsExplanationText`: the record or the words of each
-//! chosen event, in order. For an excerpt both are those of the whole history from there on (`ExplainsEither`).
+//! chosen event, in order. For an excerpt both are those of the whole history from there on (`ExplainsText`).
 #![tactic(auto)]
 
 pub mod choice;

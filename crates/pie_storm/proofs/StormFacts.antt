@@ -26,14 +26,14 @@ use Rattle.pie_event.specs.Effect.{fits}
 use Rattle.pie_event.specs.Opening.{opening_refusal}
 use Rattle.pie_record.specs.ReadBack.{IsHistoryText}
 use Rattle.pie_record.specs.Text.{Row, records_of, rows_text}
-use Rattle.pie_excerpt.specs.Preamble.{resumed_of}
+use Rattle.pie_excerpt.specs.Beginning.{beginning_of}
 use Rattle.pie_record.specs.Write.{written_rows}
 use Rattle.pie_record.specs.declared.history_record.Line.{Line}
 use Rattle.pie_record.specs.declared.history_record.Line.TheVariants.{Valid}
 use Rattle.pie_audit.specs.Auditor.{Audits, AuditorView}
 use Rattle.pie_audit.specs.Finding.{events_of, finding, first_difference}
 use Rattle.pie_audit.specs.Legal.{EventsAreLines, AreLegal}
-use Rattle.pie_audit.specs.Text.{excerpt_lines, text_finding, whole_finding}
+use Rattle.pie_audit.specs.Text.{text_lines, text_finding, whole_finding}
 use Rattle.pie_audit.specs.declared.auditor.Finding.TheVariants.{Clean, Differs}
 use Rattle.pie_storm.specs.StormHistory.{WritesHistory}
 
@@ -167,20 +167,20 @@ fit-legal kinds opening events legal =
 
 -- ---- the events are found clean, and their number is bounded
 
--- legal events after a preamble are found clean
+-- legal events before a text are found clean
 abbrev WholeIsClean : Type 0
-WholeIsClean = (rows : List Row) (opening : Opening) (past : List Event) → AreLegal opening (map Valid past ++ excerpt_lines rows)
-    → whole_finding opening past rows ≡ Clean (length (events_of (map Valid past ++ excerpt_lines rows)))
+WholeIsClean = (rows : List Row) (opening : Opening) (past : List Event) → AreLegal opening (map Valid past ++ text_lines rows)
+    → whole_finding opening past rows ≡ Clean (length (events_of (map Valid past ++ text_lines rows)))
 
-no-lines : excerpt_lines [] ≡ []
-unfolding excerpt_lines resumed_of
+no-lines : text_lines [] ≡ []
+unfolding text_lines beginning_of
 no-lines = refl
 
 -- all events of a legal history are found clean, as those before a text without lines
 clean-legal : EventsAreLines → WholeIsClean → (opening : Opening) (events : List Event) → IsLegal opening events
     → finding opening (map Valid events) ≡ Clean (length events)
 clean-legal are_lines whole opening events legal =
-    let none : map Valid events ++ excerpt_lines [] ≡ map Valid events =
+    let none : map Valid events ++ text_lines [] ≡ map Valid events =
     ap (λ (ls : List Line). map Valid events ++ ls) no-lines ∙ append-nil (map Valid events) in
     let all = subst (λ (ls : List Line). AreLegal opening ls) (sym none) (record {
       made = are_lines.made events;

@@ -17,7 +17,7 @@ use crate::plan_numbers::StormNumbers;
 use crate::planning::plan_of;
 use crate::run::storm;
 use crate::storm_end::{StormEnd, StormFault};
-use pie_audit::{Auditor, Finding, clean_excerpts_are_legal, clean_is_legal, events_are_lines};
+use pie_audit::{Auditor, Finding, clean_is_legal, clean_texts_are_legal, events_are_lines};
 use pie_book::{Event, OpenRefusal, Opening, all_numbers_fit};
 use pie_record::{Line, TraceFault};
 use pie_text::write_history;
@@ -107,7 +107,7 @@ pub fn write_storm<W: Write>(
     all_numbers_fit();
     events_are_lines();
     clean_is_legal();
-    clean_excerpts_are_legal();
+    clean_texts_are_legal();
     let opening = plan.opening();
     let auditor = match auditor_of(alloc, &opening, events) {
         Ok(auditor) => auditor,

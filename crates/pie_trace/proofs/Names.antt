@@ -3,7 +3,7 @@ pub use Rattle.pie_audit.specs.{Legal.AreLegal, Legal.CanBeMade, Text.text_findi
 pub use Rattle.pie_book.specs.Decision.{IsLegal, decision, is_refused_full, or_full, refusal_by_rule}
 pub use Rattle.pie_book.specs.Run.{event_of, tail_length_with_one, recorded, refused_or}
 pub use Rattle.pie_event.specs.declared.{command.Command.Command, opening.Limits.Limits, opening.Mode.Mode}
-pub use Rattle.pie_excerpt.specs.Preamble.{Preamble, is_resumed}
+pub use Rattle.pie_excerpt.specs.Beginning.{Beginning, opened_at}
 pub use Rattle.pie_params.specs.Range.{first_bad}
 pub use Rattle.pie_record.proofs.Laws.{event_count-cons, kind-first, line_in-flaw, line_in-line, line_in-long, reads-one, records_left-written}
 pub use Rattle.pie_record.proofs.Laws.{rows_text-cons, same-before-three, tested}
@@ -14,11 +14,11 @@ pub use Rattle.pie_trace.specs.{Answer, Appends, Apply, BadParams, Begins, BookR
 pub use Rattle.pie_trace.specs.{FirstKind, RecordFault, Fold, FoldRefusal, HasField, HasOutcome, HaveSameLines, IfErr, IfOk, IfSome, IsAt, IsHistoryText}
 pub use Rattle.pie_trace.specs.{IsProgressOf, IsWriteOrMemory, Line, NoIoOrMemoryFailed, None, Ok, OnOk, One, Opening, Option, Progress, Promises, Refusal}
 pub use Rattle.pie_trace.specs.{Registers, RemainingLines, Replies, Represents, Request, Result, Rolling, Row, Show, Some, Stats, Tally, Three}
-pub use Rattle.pie_trace.specs.{TraceFault, Two, Version, after, append_known, apply_in, beginning_of_preamble, after_flush, code_of, core_after, end_at}
+pub use Rattle.pie_trace.specs.{TraceFault, Two, Version, after, append_known, apply_in, after_flush, code_of, core_after, end_at}
 pub use Rattle.pie_trace.specs.{end_left, events_in, fault_at, fold_outcome, fold_reply, history_row, is_io_or_memory, is_kind, later_records_pass}
 pub use Rattle.pie_trace.specs.{later_rows, line_in, line_of_reply, lines_left, migrated_text, migrated_version, migration_pass, opening_refusal}
 pub use Rattle.pie_trace.specs.{outcome, progress_at_end, queued_row, records_of, refused, refused_count, registers_of, reply, reply_to_command}
-pub use Rattle.pie_trace.specs.{reply_to_fold, request_in, resumed_progress, resumed_within, rows_left, rows_without_fault, run_by, runs_on, start}
+pub use Rattle.pie_trace.specs.{reply_to_fold, request_in, resumed_progress, rows_left, rows_without_fault, run_by, runs_on, start}
 pub use Rattle.pie_trace.specs.{stats_after, text_of, whole_begun, Reply.Reply, declared.run.RunEnd.RunEnd}
 pub use Rattle.std.proofs.{Math.Seq.take-append_seam, lemmas.Bool.eqb-true, lemmas.Bool.le-ltb, lemmas.Bool.lt-ltb, lemmas.Bool.Decides.nat_tests}
 pub use Rattle.std.proofs.{lemmas.Fmt.decimal_digit, lemmas.List.append-nil, lemmas.List.length-drop, lemmas.List.take-append-drop}
@@ -29,7 +29,7 @@ pub use Rattle.std.proofs.KnownBytes.{Appends-nil, Appends-trans, Keeps-refl, ap
 pub use Rattle.std.proofs.lemmas.List.Elements.{All-append, All-cons, All-nil, filter_map-append}
 pub use Rattle.std.specs.{List.filter_map, Prelude.All, Prelude.OnErr, Prelude.codes, Prelude.nat_lt, Prelude.option_map}
 unfoldable pub use Rattle.csv.specs.Records.{field_at}
-unfoldable pub use Rattle.pie_excerpt.specs.Preamble.{resumed_of}
+unfoldable pub use Rattle.pie_excerpt.specs.{Beginning.beginning_of, Reading.resume_of}
 unfoldable pub use Rattle.pie_record.specs.{Command.command_kind, Field.number, ReadBack.AreLinesOf, Write.command_fields}
 unfoldable pub use Rattle.pie_record.specs.FirstRecord.{draft_at, limits_at, version_one_fields}
 unfoldable pub use Rattle.pie_record.specs.HistoryLines.{event_count, fault_from, lines_from}

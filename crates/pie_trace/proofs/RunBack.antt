@@ -1,27 +1,27 @@
 -- The history text of a trace is read back: its opening, the events of its run, and notes.
 use Rattle.pie_trace.proofs.Names.{All, All-append, All-cons, All-nil, AreLegal, AreLinesOf, Apply, BadParams, Begins, Bool, CanBeMade, Clean, Clock}
 use Rattle.pie_trace.proofs.Names.{Command, Draft, Err, Event, Finding, FirstKind, RecordFault, Fold, FoldRefusal, IsHistoryText, IsLegal, Line, List, Mode}
-use Rattle.pie_trace.proofs.Names.{None, Ok, Opening, Option, Preamble, Progress, Promises, Refusal, Reply, Represents, Request, Result, Row, RunEnd}
-use Rattle.pie_trace.proofs.Names.{Show, Some, Tally, TextsAreReadBack, Three, TraceFault, Version, [], after, and_then, ap, append-nil, append_assoc}
-use Rattle.pie_trace.proofs.Names.{arith, before_fault, beginning_of_preamble, code_of, decision, drop, end_left, end_of, event_of, false, fault_from}
+use Rattle.pie_trace.proofs.Names.{None, Ok, Opening, Option, Progress, Promises, Refusal, Reply, Represents, Request, Result, Row, RunEnd}
+use Rattle.pie_trace.proofs.Names.{Show, Some, Tally, TextsAreReadBack, TraceFault, Version, [], after, and_then, ap, append-nil, append_assoc}
+use Rattle.pie_trace.proofs.Names.{arith, before_fault, code_of, decision, drop, end_left, end_of, event_of, false, fault_from}
 use Rattle.pie_trace.proofs.Names.{fault_of, field_at, filter_map-append, first_bad, first_fault, first_fields, first_kind, flat_map-append}
 use Rattle.pie_trace.proofs.Names.{fold_outcome, fold_reply, tail_length_with_one, history_row, history_rows, history_text, if◌then◌else◌, is_refused_full}
-use Rattle.pie_trace.proofs.Names.{is_resumed, kind-first, kind_word, length, length-append, line_in-line, line_of, line_of_reply, lines_from}
+use Rattle.pie_trace.proofs.Names.{kind-first, kind_word, length, length-append, line_in-line, line_of, line_of_reply, lines_from}
 use Rattle.pie_trace.proofs.Names.{lines_left, lines_of_replies, lost-later, map, nat_lt, nat_tests, opening_of, opening_read, opening_refusal}
 use Rattle.pie_trace.proofs.Names.{or_full, progress_after, progress_at_end, record_fault, recorded, records_of, refl, refusal_by_rule, refused}
-use Rattle.pie_trace.proofs.Names.{refused_or, registers_after, replies, reply, reply_to_command, reply_to_fold, request_of, requests_of, resumed_of}
-use Rattle.pie_trace.proofs.Names.{resumed_progress, resumed_within, rows_left, rows_text, rows_without_fault, run_lines, start, steps_of, subst, sym}
+use Rattle.pie_trace.proofs.Names.{refused_or, registers_after, replies, reply, reply_to_command, reply_to_fold, request_of, requests_of, beginning_of, opened_at, Beginning}
+use Rattle.pie_trace.proofs.Names.{resumed_progress, rows_left, rows_text, rows_without_fault, run_lines, start, steps_of, subst, sym}
 use Rattle.pie_trace.proofs.Names.{take, take-append-drop, text_finding, text_left, true, version_of, ℕ, ◌++◌, ◌+◌, ◌-◌, ◌<◌, ◌==◌, ◌^◌, ◌∙◌, ◌∷◌}
 use Rattle.pie_trace.proofs.Names.{◌≡◌, ◌≢◌, ◌≤◌}
 use Rattle.pie_audit.specs.{Finding.event_in, Finding.events_of, Legal.EventsAreLines}
-use Rattle.pie_audit.specs.Text.{IsExcerptText, IsFound, excerpt_fault, excerpt_lines, fault_after, whole_finding}
+use Rattle.pie_audit.specs.Text.{IsTextAfter, IsFound, text_fault, text_lines, fault_after, whole_finding}
 use Rattle.pie_event.specs.Ranges.{CommandFits, ParamsFit}
-use Rattle.pie_excerpt.specs.{Preamble.HasPreamble, Preamble.Resumes, Reading.resume_of, Rows.queued_row, declared.resume.Resume.Resume}
+use Rattle.pie_excerpt.specs.{Beginning.IsWellBegun, Beginning.Continues, Reading.resume_of, Rows.queued_row, declared.resume.Resume.Resume}
 use Rattle.pie_queue.specs.declared.packet.Waiting.{Waiting}
 use Rattle.pie_record.specs.{FirstRecord.opening_by, declared.history_record.Line.TheVariants.Note, declared.history_record.Line.TheVariants.Valid}
 use Rattle.pie_text.specs.Lost.{lost_row}
-use Rattle.pie_trace.proofs.RunFacts.{first-one, part-opened, progress_after-request, whole-opened}
-use Rattle.pie_trace.specs.{TextStart, answered, long_by, progress_resumed, resumed_end, resumed_fault, resumed_text, text_in, within_by, within_max}
+use Rattle.pie_trace.proofs.RunFacts.{first-one, progress_after-request, whole-opened}
+use Rattle.pie_trace.specs.{answered, beginning_within, long_by, progress_resumed, end_of_run, fault_of_run, text_of_run, text_in, within_by, within_max}
 use Rattle.pie_record.specs.declared.fault.TraceFault.TheVariants as fault
 use Rattle.pie_event.specs.declared.refusal.Refusal.TheVariants as refusal
 use Rattle.pie_record.specs.declared.trace_record.Request.TheVariants as request
@@ -241,7 +241,7 @@ pub sound-start : (promises : Promises) (opening : Opening) → Sound opening st
 sound-start promises opening = record { legal = promises.legal_at_first opening; fit = All-nil (λ (e : Event). CommandFits e.command); bounded = omega arith }
 
 -- the records of the beginning, and those of the replies
-pub text-begun : (max_records : ℕ) (past : List Event) (rows : List Row) (b : TextStart)
+pub text-begun : (max_records : ℕ) (past : List Event) (rows : List Row) (b : Beginning)
     → text_in max_records past rows (Ok b)
     ≡ rows_text (take b.records_read rows ++ rows_left b.version max_records b.opening (b.records_read + 1) (resumed_progress past) b.left)
 unfolding text_left rows_text
@@ -252,7 +252,7 @@ pub text-whole : (max_records : ℕ) (row : Row) (rows : List Row) (opening : Op
 unfolding history_text
 text-whole max_records row rows opening some opens =
     rw (whole-opened max_records row rows opening some opens)
-    (text-begun max_records [] (row ∷ rows) (record { version = version_of row; opening = opening; records_read = 1; left = rows })
+    (text-begun max_records [] (row ∷ rows) (opened_at (version_of row) opening rows)
     ∙ ap (λ (first : List Row). rows_text (first ++ rows_left (version_of row) max_records opening 2 start rows)) (first-one row rows))
 
 pub run-written : (promises : Promises) (max_records : ℕ) (kind : FirstKind) (rest : Row) (rows : List Row) (opening : Opening) → max_records ≤ 2 ^ 32
@@ -414,99 +414,99 @@ whole-clean read_back clean promises max_records (row ∷ rows) end few sound ru
         (before-all (version_of row) max_records 2 rows none)
         ∙ ap (λ (r : RunEnd). found r.events) same
 
--- ==== The audit finds the output of a run of an excerpt clean, with the events before it
+-- ==== The audit finds the output of a run clean, with the events before it
 
 -- the laws of the crates below
 pub record Below : Type 0 where
   pub promises : Promises
-  pub opens : (rows : List Row) (begun : Preamble) → resumed_of rows ≡ Ok begun → HasPreamble rows begun
-  pub behind : (rows more : List Row) (begun : Preamble) (opening : Opening) (past : List Event) (lines : List Line) → resumed_of rows ≡ Ok begun
-      → Resumes rows opening past → AreLinesOf Three more lines → begun.records_read + length more ≤ 2 ^ 32
-      → IsExcerptText (rows_text (take begun.records_read rows ++ more)) opening past lines
-  pub clean : (rows : List Row) (opening : Opening) (past : List Event) → AreLegal opening (map Valid past ++ excerpt_lines rows)
-      → whole_finding opening past rows ≡ Clean (length (events_of (map Valid past ++ excerpt_lines rows)))
+  pub opens : (rows : List Row) (begun : Beginning) → beginning_of rows ≡ Ok begun → IsWellBegun begun
+  pub behind : (rows more : List Row) (begun : Beginning) (opening : Opening) (past : List Event) (lines : List Line) → beginning_of rows ≡ Ok begun
+      → Continues rows opening past → AreLinesOf begun.version more lines → begun.records_read + length more ≤ 2 ^ 32
+      → IsTextAfter (rows_text (take begun.records_read rows ++ more)) opening past lines
+  pub clean : (rows : List Row) (opening : Opening) (past : List Event) → AreLegal opening (map Valid past ++ text_lines rows)
+      → whole_finding opening past rows ≡ Clean (length (events_of (map Valid past ++ text_lines rows)))
   pub events : EventsAreLines
 
--- ---- the preamble
+-- ---- the beginning
 
--- a preamble with at most `max_records` records
-record Within (max_records : ℕ) (rows : List Row) (b : Preamble) : Type 0 where
-  begun : resumed_of rows ≡ Ok b
+-- a beginning with at most `max_records` records
+record Within (max_records : ℕ) (rows : List Row) (b : Beginning) : Type 0 where
+  begun : beginning_of rows ≡ Ok b
   few : b.records_read ≤ max_records
 
-behind : (max_records : ℕ) (rows : List Row) (b : Preamble) → resumed_within max_records rows ≡ Ok b → and_then (resumed_of rows) (within_max max_records) ≡ Ok b
-behind max_records [] b e = e
+behind : (max_records : ℕ) (rows : List Row) (b : Beginning) → beginning_within max_records rows ≡ Ok b → and_then (beginning_of rows) (within_max max_records) ≡ Ok b
+behind max_records [] b e = cc
 behind max_records (row ∷ rows) b e = by (max_records == 0) (long_by max_records (resume_of row)) e
   where
     by : (none : Bool) (long : Option Resume)
         → (if none then Err fault.TooLong else within_by max_records long (row ∷ rows) rows) ≡ Ok b
-        → and_then (resumed_of (row ∷ rows)) (within_max max_records) ≡ Ok b
+        → and_then (beginning_of (row ∷ rows)) (within_max max_records) ≡ Ok b
     by true long e = cc
     by false (Some r) e = cc
     by false None e = e
 
-within : (max_records : ℕ) (rows : List Row) (b : Preamble) → resumed_within max_records rows ≡ Ok b → Within max_records rows b
+within : (max_records : ℕ) (rows : List Row) (b : Beginning) → beginning_within max_records rows ≡ Ok b → Within max_records rows b
 within max_records rows b e = grind (arith, nat_tests, behind)
 
 -- ---- the text
 
-text-resumed : (max_records : ℕ) (past : List Event) (rows : List Row) (b : Preamble) → resumed_within max_records rows ≡ Ok b
-    → resumed_text max_records past rows
-    ≡ rows_text (take b.records_read rows ++ rows_left Three max_records b.opening (b.records_read + 1) (resumed_progress past) b.left)
-unfolding resumed_text
-text-resumed max_records past rows b e = rw (part-opened max_records rows b e) (text-begun max_records past rows (beginning_of_preamble b))
+text-resumed : (max_records : ℕ) (past : List Event) (rows : List Row) (b : Beginning) → beginning_within max_records rows ≡ Ok b
+    → text_of_run max_records past rows
+    ≡ rows_text (take b.records_read rows ++ rows_left b.version max_records b.opening (b.records_read + 1) (resumed_progress past) b.left)
+unfolding text_of_run
+text-resumed max_records past rows b e = rw e (text-begun max_records past rows b)
 
 -- legal lines are found clean
 lines-clean : Below → (text : List ℕ) (opening : Opening) (past : List Event) (lines : List Line) (history : List Event)
-    → IsExcerptText text opening past lines → AreRuns opening (map Valid past ++ lines) history → IsFound text opening past (Clean (length history))
+    → IsTextAfter text opening past lines → AreRuns opening (map Valid past ++ lines) history → IsFound text opening past (Clean (length history))
 lines-clean law text opening past lines history is_text runs = grind (arith, nat_tests)
 
-pub resumed-clean : Below → (max_records : ℕ) (rows : List Row) (opening : Opening) (past : List Event) (b : Preamble) → max_records ≤ 2 ^ 32
-    → Resumes rows opening past → All (λ event. CommandFits event.command) past → resumed_within max_records rows ≡ Ok b
-    → IsFound (resumed_text max_records past rows) opening past (Clean (length (progress_resumed max_records past b).history))
+pub resumed-clean : Below → (max_records : ℕ) (rows : List Row) (opening : Opening) (past : List Event) (b : Beginning) → max_records ≤ 2 ^ 32
+    → Continues rows opening past → All (λ event. CommandFits event.command) past → beginning_within max_records rows ≡ Ok b
+    → IsFound (text_of_run max_records past rows) opening past (Clean (length (progress_resumed max_records past b).history))
 resumed-clean law max_records rows opening past b few goes fit e =
     let at = within max_records rows b e in
     let same : goes.beginning ≡ b = cc in
-    let opened : b.opening ≡ opening = subst (λ (it : Preamble). it.opening ≡ opening) same goes.opened in
-    let shows : Represents opening b.core past = subst (λ (it : Preamble). Represents opening it.core past) same goes.shown in
+    let opened : b.opening ≡ opening = subst (λ (it : Beginning). it.opening ≡ opening) same goes.opened in
+    let shows : Represents opening b.core past = subst (λ (it : Beginning). Represents opening it.core past) same goes.represents in
     let legal : IsLegal b.opening past = subst (λ (o : Opening). IsLegal o past) (sym opened) shows.legal in
     let well = law.opens rows b at.begun in
     let opens : Opens b.opening = record { accepted = well.accepted; params = law.promises.params b.opening.params well.in_range } in
     let sound : Sound b.opening (resumed_progress past) = record { legal = legal; fit = fit; bounded = omega arith } in
-    let more = rows_left Three max_records b.opening (b.records_read + 1) (resumed_progress past) b.left in
-    let lines = lines_left Three max_records b.opening (b.records_read + 1) (resumed_progress past) b.left in
-    let are_lines : AreLinesOf Three more lines = rows-lines Three law.promises max_records b.opening (b.records_read + 1) (resumed_progress past) b.left few opens sound in
+    let more = rows_left b.version max_records b.opening (b.records_read + 1) (resumed_progress past) b.left in
+    let lines = lines_left b.version max_records b.opening (b.records_read + 1) (resumed_progress past) b.left in
+    let are_lines : AreLinesOf b.version more lines = rows-lines b.version law.promises max_records b.opening (b.records_read + 1) (resumed_progress past) b.left few opens sound in
     let within = at.few in
-    let count = few-left Three max_records b.opening (b.records_read + 1) (resumed_progress past) b.left (omega (arith, within)) in
-    let is_text : IsExcerptText (rows_text (take b.records_read rows ++ more)) opening past lines =
+    let count = few-left b.version max_records b.opening (b.records_read + 1) (resumed_progress past) b.left (omega (arith, within)) in
+    let is_text : IsTextAfter (rows_text (take b.records_read rows ++ more)) opening past lines =
     law.behind rows more b opening past lines at.begun goes are_lines (omega (arith, count, few)) in
     let runs = lines-legal law.promises b.opening (resumed_progress past) (map Valid past)
-    (requests_of Three (before_fault Three max_records (b.records_read + 1) b.left))
+    (requests_of b.version (before_fault b.version max_records (b.records_read + 1) b.left))
     (law.events.made past) (law.events.events past) legal in
     subst (λ (text : List ℕ). IsFound text opening past (Clean (length (progress_resumed max_records past b).history)))
     (sym (text-resumed max_records past rows b e))
     (lines-clean law (rows_text (take b.records_read rows ++ more)) opening past lines (progress_resumed max_records past b).history is_text
     (subst (λ (o : Opening). AreRuns o (map Valid past ++ lines) (progress_resumed max_records past b).history) opened runs))
 
--- ---- an excerpt without a fault
+-- ---- a text without a fault
 
 pub resumed-whole : Below → (max_records : ℕ) (rows : List Row) (opening : Opening) (past : List Event) (end : RunEnd) → max_records ≤ 2 ^ 32
-    → Resumes rows opening past → All (λ event. CommandFits event.command) past → resumed_fault max_records rows ≡ None
-    → resumed_end max_records past rows ≡ Some end → IsFound (resumed_text max_records past rows) opening past (Clean end.events)
-unfolding resumed_fault resumed_end
-resumed-whole law max_records rows opening past end few goes fit sound run_end = by (resumed_within max_records rows) refl
+    → Continues rows opening past → All (λ event. CommandFits event.command) past → fault_of_run max_records rows ≡ None
+    → end_of_run max_records past rows ≡ Some end → IsFound (text_of_run max_records past rows) opening past (Clean end.events)
+unfolding fault_of_run end_of_run
+resumed-whole law max_records rows opening past end few goes fit sound run_end = by (beginning_within max_records rows) refl
   where
     found : ℕ → Type 0
-    found events = IsFound (resumed_text max_records past rows) opening past (Clean events)
+    found events = IsFound (text_of_run max_records past rows) opening past (Clean events)
 
-    by : (read : Result Preamble TraceFault) → resumed_within max_records rows ≡ read → found end.events
+    by : (read : Result Beginning TraceFault) → beginning_within max_records rows ≡ read → found end.events
     by (Err why) is = absurd (grind (arith, nat_tests, sound, is))
     by (Ok b) is =
-        let none : first_fault Three max_records (b.records_read + 1) b.left ≡ None = grind (arith, nat_tests, sound, is) in
-        let same : end_left Three b.opening (resumed_progress past) 0 b.left ≡ end = grind (arith, nat_tests, run_end, is) in
+        let none : first_fault b.version max_records (b.records_read + 1) b.left ≡ None = grind (arith, nat_tests, sound, is) in
+        let same : end_left b.version b.opening (resumed_progress past) 0 b.left ≡ end = grind (arith, nat_tests, run_end, is) in
         subst (λ (r : RunEnd). found r.events) same
-        (subst (λ (rest : List Row). found (length (progress_after b.opening (resumed_progress past) (steps_of (requests_of Three rest))).history))
-        (before-all Three max_records (b.records_read + 1) b.left none) (resumed-clean law max_records rows opening past b few goes fit is))
+        (subst (λ (rest : List Row). found (length (progress_after b.opening (resumed_progress past) (steps_of (requests_of b.version rest))).history))
+        (before-all b.version max_records (b.records_read + 1) b.left none) (resumed-clean law max_records rows opening past b few goes fit is))
 
 -- ==== The run of an excerpt after a history gives the answers of the whole from there on
 
@@ -535,7 +535,7 @@ pub whole_ends : (opening : Opening) (earlier later : List Request)
 unfolding progress_after steps_of
 whole_ends opening earlier later = grind (arith, nat_tests, progress-append)
 
--- ==== A record of lost events is a fault of every excerpt
+-- ==== A record of lost events is a fault of every text
 
 -- a record of `count` lost events among these records
 record HasLost (count : ℕ) (rows : List Row) : Type 0 where
@@ -556,25 +556,23 @@ behind-queue count (packet ∷ waiting) (row ∷ before) after left is =
       behind-queue count waiting before after left (let rest : before ++ (lost_row count ∷ after) ≡ map queued_row waiting ++ left = cc in rest),
     )
 
--- the laws of pie_excerpt on all preambles
-module _ (again : (row : Row) (rows : List Row) (begun : Preamble) → resumed_of (row ∷ rows) ≡ Ok begun
+-- the laws of pie_excerpt on all beginnings
+module _ (again : (row : Row) (rows : List Row) (begun : Beginning) → beginning_of (row ∷ rows) ≡ Ok begun
     → take begun.records_read (row ∷ rows) ≡ row ∷ map queued_row begun.core.waiting)
-    (alone : (rows more : List Row) (begun : Preamble) → resumed_of rows ≡ Ok begun
-    → resumed_of (take begun.records_read rows ++ more) ≡ Ok (record begun { left = more }))
-    (opens : (rows : List Row) (begun : Preamble) → resumed_of rows ≡ Ok begun → HasPreamble rows begun) where
+    (alone : (rows more : List Row) (begun : Beginning) → beginning_of rows ≡ Ok begun
+    → beginning_of (take begun.records_read rows ++ more) ≡ Ok (record begun { left = more })) where
   -- the records behind a preamble are those that its reader left
-  left-is : (rows : List Row) (begun : Preamble) → resumed_of rows ≡ Ok begun → drop begun.records_read rows ≡ begun.left
-  left-is rows begun is = same (resumed_of rows) (record begun { left = drop begun.records_read rows }) begun
-      (ap resumed_of (sym (take-append-drop begun.records_read rows)) ∙ alone rows (drop begun.records_read rows) begun is) is
+  left-is : (rows : List Row) (begun : Beginning) → beginning_of rows ≡ Ok begun → drop begun.records_read rows ≡ begun.left
+  left-is rows begun is = same (beginning_of rows) (record begun { left = drop begun.records_read rows }) begun
+      (ap beginning_of (sym (take-append-drop begun.records_read rows)) ∙ alone rows (drop begun.records_read rows) begun is) is
     where
-      same : (read : Result Preamble TraceFault) (a b : Preamble) → read ≡ Ok a → read ≡ Ok b → a.left ≡ b.left
+      same : (read : Result Beginning TraceFault) (a b : Beginning) → read ≡ Ok a → read ≡ Ok b → a.left ≡ b.left
       same read a b e f = cc
 
-  begun-left : (count : ℕ) (before after : List Row) (begun : Preamble) → resumed_of (before ++ (lost_row count ∷ after)) ≡ Ok begun
+  begun-left : (count : ℕ) (before after : List Row) (begun : Beginning) → beginning_of (before ++ (lost_row count ∷ after)) ≡ Ok begun
       → HasLost count begun.left
-  unfolding field_at
-  begun-left count [] after begun is =
-      let wrong : is_resumed (lost_row count ∷ after) ≡ true = (opens (lost_row count ∷ after) begun is).resumes in cc
+  unfolding beginning_of opening_of first_kind field_at
+  begun-left count [] after begun is = cc
   begun-left count (row ∷ before) after begun is =
       let rows : List Row = row ∷ (before ++ (lost_row count ∷ after)) in
       let whole : row ∷ (before ++ (lost_row count ∷ after)) ≡ row ∷ (map queued_row begun.core.waiting ++ begun.left) =
@@ -584,12 +582,12 @@ module _ (again : (row : Row) (rows : List Row) (begun : Preamble) → resumed_o
       behind-queue count begun.core.waiting before after begun.left
       (let rest : before ++ (lost_row count ∷ after) ≡ map queued_row begun.core.waiting ++ begun.left = cc in rest)
 
-  pub lost-part-is-fault : (count : ℕ) (before after : List Row) → excerpt_fault (before ++ (lost_row count ∷ after)) ≢ None
-  unfolding excerpt_fault
-  lost-part-is-fault count before after = by (resumed_of (before ++ (lost_row count ∷ after))) refl
+  pub lost-part-is-fault : (count : ℕ) (before after : List Row) → text_fault (before ++ (lost_row count ∷ after)) ≢ None
+  unfolding text_fault
+  lost-part-is-fault count before after = by (beginning_of (before ++ (lost_row count ∷ after))) refl
     where
-      by : (r : Result Preamble TraceFault) → resumed_of (before ++ (lost_row count ∷ after)) ≡ r → fault_after r ≢ None
+      by : (r : Result Beginning TraceFault) → beginning_of (before ++ (lost_row count ∷ after)) ≡ r → fault_after r ≢ None
       by (Err why) is = λ e. cc
       by (Ok begun) is = let has = begun-left count before after begun is in λ e.
-          lost-later Three (2 ^ 32) (begun.records_read + 1) count has.before has.after
-          (ap (λ (rs : List Row). fault_from Three (2 ^ 32) (begun.records_read + 1) rs) (sym has.is) ∙ e)
+          lost-later begun.version (2 ^ 32) (begun.records_read + 1) count has.before has.after
+          (ap (λ (rs : List Row). fault_from begun.version (2 ^ 32) (begun.records_read + 1) rs) (sym has.is) ∙ e)

@@ -4,6 +4,6 @@ pub mod History
 pub mod RunState
 pub mod Steps
 pub mod Laws
-pub mod Resumed
+pub mod Runs
 pub mod Migrate
-unfoldable pub use Rattle.pie_trace.specs.{Names.*, Reply.*, History.*, RunState.*, Steps.*, Laws.*, Resumed.*, Migrate.*}
+unfoldable pub use Rattle.pie_trace.specs.{Names.*, Reply.*, History.*, RunState.*, Steps.*, Laws.*, Runs.*, Migrate.*}

@@ -6,7 +6,7 @@ pub use Rattle.pie_event.specs.Opening.{opening_refusal}
 pub use Rattle.pie_event.specs.declared.{command.Answer.Answer, command.Event.Event, opening.Opening.Opening, refusal.FoldRefusal.FoldRefusal}
 pub use Rattle.pie_event.specs.declared.{refusal.Refusal.Refusal, registers.Registers.Registers, stats.Stats.Stats}
 pub use Rattle.pie_event.specs.declared.opening.Mode.TheVariants.{Bounded, Rolling}
-pub use Rattle.pie_excerpt.specs.{Preamble.Preamble, Preamble.Resumes, Preamble.is_resumed, Preamble.resumed_of, Rows.queued_row}
+pub use Rattle.pie_excerpt.specs.{Beginning.Beginning, Beginning.Continues, Beginning.begun_by_opening, Rows.queued_row}
 pub use Rattle.pie_record.specs.{Answer.code_of, Answer.code_of_fold, Answer.code_of_params, Fault.IsWriteOrMemory, Fault.NoIoOrMemoryFailed, Fault.after_flush}
 pub use Rattle.pie_record.specs.{Fault.fault_at, Fault.is_io_or_memory, Field.and_then, Field.is_kind, ReadBack.Begins, ReadBack.IsHistoryText}
 pub use Rattle.pie_record.specs.{Text.HasField, Text.Row, Text.records_of, Text.text_of, Write.command_fields, Write.version_two_row}
@@ -20,6 +20,7 @@ pub use Rattle.std.specs.{Io.KnownBytes.Appends, Io.KnownBytes.append_known, Lis
 pub use Rattle.std.specs.Prelude.{All, Bool, Err, IfErr, IfOk, IfSome, List, None, Ok, OnOk, Option, Result, Some, [], codes, cond, count_by, drop}
 pub use Rattle.std.specs.Prelude.{false, length, map, nat_lt, take, true, ℕ, ⊤}
 unfoldable pub use Rattle.pie_book.specs.{Registers.registers_after, Run.progress_after}
+unfoldable pub use Rattle.pie_excerpt.specs.Beginning.{beginning_of}
 unfoldable pub use Rattle.pie_record.specs.{Command.request_of, Text.rows_text}
 unfoldable pub use Rattle.pie_record.specs.Answer.{answer_fields, folded_row, refused_row, shown_row, tallied_row}
 unfoldable pub use Rattle.pie_record.specs.FirstRecord.{first_kind, opening_of, version_of}

@@ -1,19 +1,19 @@
 //! The laws of runs and migrations: history texts are read back and are clean, and excerpts continue a history.
-ghost use Rattle.pie_audit.specs.Text.{IsFound, excerpt_fault};
+ghost use Rattle.pie_audit.specs.Text.{IsFound, text_fault};
 ghost use Rattle.pie_event.specs.Ranges.{CommandFits};
 ghost use Rattle.pie_text.specs.Lost.{lost_row};
-ghost use Rattle.pie_trace.specs.{All, Clean, Event, HaveSameLines, IsHistoryText, List, None, Ok, Opening, Preamble, Promises, Request, Resumes};
+ghost use Rattle.pie_trace.specs.{All, Clean, Event, HaveSameLines, IsHistoryText, List, None, Ok, Opening, Beginning, Continues, Promises, Request};
 ghost use Rattle.pie_trace.specs.{Row, Some, before_fault, end_of, fault_of, first_in_two, fold_reply, history_fault, history_lines, history_opening};
 ghost use Rattle.pie_trace.specs.{history_text, history_version, length, migrated_text, migrated_version, opening_of, progress_after};
-ghost use Rattle.pie_trace.specs.{progress_at_end, progress_resumed, records_of, replies, requests_of, resumed_end, resumed_fault, resumed_progress};
-ghost use Rattle.pie_trace.specs.{resumed_text, resumed_within, run_lines, start, steps_of, text_finding, version_of, ℕ, declared.run.RunEnd.RunEnd};
+ghost use Rattle.pie_trace.specs.{progress_at_end, progress_resumed, records_of, replies, requests_of, end_of_run, fault_of_run, resumed_progress};
+ghost use Rattle.pie_trace.specs.{text_of_run, beginning_within, run_lines, start, steps_of, text_finding, version_of, whole_begun, ℕ, declared.run.RunEnd.RunEnd};
 ghost use Rattle.std.specs.Prelude.{◌++◌, ◌<◌, ◌^◌, ◌∷◌, ◌≡◌, ◌≢◌, ◌≤◌};
 
 use pie_audit::{
-    clean_excerpts_are_legal, clean_is_legal, events_are_lines, written_excerpts_are_read,
+    clean_is_legal, clean_texts_are_legal, events_are_lines, written_excerpts_are_read,
 };
 use pie_book::{all_numbers_fit, profile_one_is_always_active};
-use pie_excerpt::preambles_are_written_again;
+use pie_excerpt::{beginnings_are_written_again, histories_begin_at_openings};
 use pie_record::{
     answers_are_read_back, openings_are_checked, requests_are_written_again, texts_are_read_back,
 };
@@ -59,6 +59,17 @@ pub fn resumed_runs_continue_the_whole()
         progress_at_end opening (earlier ++ Request.Fold there.tail_length ∷ later) ≡ progress_after opening (resumed_progress there.history) (steps_of later) }
 {}
 
+/// The law of whole traces: a trace whose first record is an opening begins with it. So its run is that of the whole
+/// trace (`fault_of`, `history_text`, `end_of`).
+///
+/// The function does nothing: its contract is the law (this project's own).
+pub fn whole_traces_begin_at_openings()
+    ensures { (max_records : ℕ) (row : Row) (rows : List Row) (opening : Opening) → opening_of row ≡ Ok opening
+        → beginning_within max_records (row ∷ rows) ≡ whole_begun max_records (row ∷ rows) }
+{
+    histories_begin_at_openings();
+}
+
 /// The law of clean runs. The finding of a trace's history text is `Clean`, with the number of events that the run
 /// recorded (`whole`). If the trace has a fault, its history text is that of the records before it, and that text
 /// is clean (`up_to_fault`).
@@ -76,35 +87,35 @@ pub fn runs_are_clean()
     history_texts_are_read_back();
 }
 
-/// The law of clean runs of excerpts. The output of a run of an excerpt continues every history that the excerpt
+/// The law of clean runs after a history. The output of the run of a text continues every history that the text
 /// continues and whose commands fit their types, and is clean with it. The finding has the number of all events,
-/// including those before (`whole`). If the excerpt has a fault after its preamble, its history text is that of the
+/// including those before (`whole`). If the text has a fault after its beginning, its history text is that of the
 /// records before it, and that text is clean (`up_to_fault`).
 ///
 /// The function does nothing: its contract is the law (this project's own).
-pub fn resumed_runs_are_clean()
-    ensures whole { (max_records : ℕ) (rows : List Row) (opening : Opening) (past : List Event) (end : RunEnd) → max_records ≤ 2 ^ 32 → Resumes rows opening past
-        → All (λ event. CommandFits event.command) past → resumed_fault max_records rows ≡ None → resumed_end max_records past rows ≡ Some end
-        → IsFound (resumed_text max_records past rows) opening past (Clean end.events) }
-    ensures up_to_fault { (max_records : ℕ) (rows : List Row) (opening : Opening) (past : List Event) (begun : Preamble) → max_records ≤ 2 ^ 32
-        → Resumes rows opening past → All (λ event. CommandFits event.command) past → resumed_within max_records rows ≡ Ok begun
-        → IsFound (resumed_text max_records past rows) opening past (Clean (length (progress_resumed max_records past begun).history)) }
+pub fn continued_runs_are_clean()
+    ensures whole { (max_records : ℕ) (rows : List Row) (opening : Opening) (past : List Event) (end : RunEnd) → max_records ≤ 2 ^ 32 → Continues rows opening past
+        → All (λ event. CommandFits event.command) past → fault_of_run max_records rows ≡ None → end_of_run max_records past rows ≡ Some end
+        → IsFound (text_of_run max_records past rows) opening past (Clean end.events) }
+    ensures up_to_fault { (max_records : ℕ) (rows : List Row) (opening : Opening) (past : List Event) (begun : Beginning) → max_records ≤ 2 ^ 32
+        → Continues rows opening past → All (λ event. CommandFits event.command) past → beginning_within max_records rows ≡ Ok begun
+        → IsFound (text_of_run max_records past rows) opening past (Clean (length (progress_resumed max_records past begun).history)) }
 {
     promises_hold();
-    preambles_are_written_again();
-    clean_excerpts_are_legal();
+    beginnings_are_written_again();
+    clean_texts_are_legal();
     events_are_lines();
     written_excerpts_are_read();
 }
 
-/// The law of lost events in excerpts. If a text has a record of lost events, every reader of the text as an
-/// excerpt finds a fault. So no audit finds it clean.
+/// The law of lost events in texts. If a text has a record of lost events, every reader of the text finds a fault. So no
+/// audit finds it clean.
 ///
 /// The function does nothing: its contract is the law (this project's own).
-pub fn lost_records_are_faults_of_excerpts()
-    ensures { (count : ℕ) (before after : List Row) → excerpt_fault (before ++ lost_row count ∷ after) ≢ None }
+pub fn lost_records_are_faults_of_texts()
+    ensures { (count : ℕ) (before after : List Row) → text_fault (before ++ lost_row count ∷ after) ≢ None }
 {
-    preambles_are_written_again();
+    beginnings_are_written_again();
 }
 
 /// The law of migrated histories. `HistoryLines` reads the output of `migrate`. The migrated text of every history

@@ -18,7 +18,7 @@
 //!
 //! Laws about audits: the history text of every trace is clean, with the number of events that the run recorded
 //! (`runs_are_clean`). A history in version two has the finding that it had before (`migration_keeps_the_finding`).
-//! The output of a run of an excerpt is clean, with the events before it (`resumed_runs_are_clean`).
+//! The output of a run of an excerpt is clean, with the events before it (`continued_runs_are_clean`).
 #![tactic(auto)]
 
 pub mod law;
@@ -28,10 +28,10 @@ mod run_start;
 mod session;
 
 pub use law::{
-    history_texts_are_read_back, lost_records_are_faults_of_excerpts,
+    continued_runs_are_clean, history_texts_are_read_back, lost_records_are_faults_of_texts,
     migrated_histories_are_read_back, migrated_runs_are_runs_of_version_two,
-    migrating_again_changes_nothing, migration_keeps_the_finding, resumed_runs_are_clean,
-    resumed_runs_continue_the_whole, runs_are_clean,
+    migrating_again_changes_nothing, migration_keeps_the_finding, resumed_runs_continue_the_whole,
+    runs_are_clean,
 };
 pub use migration::migrate;
 pub use pie_book::Opening;

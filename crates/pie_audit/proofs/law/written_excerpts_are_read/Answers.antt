@@ -6,7 +6,7 @@ use Rattle.pie_queue.specs.Queue.{bytes_of}
 
 pub returns : goal.returns
 returns c =
-    let beginnings = c.preambles_are_written_again.ensures in
+    let beginnings = c.beginnings_are_written_again.ensures in
     let law : Alone = record { again = beginnings.again; alone = beginnings.alone; text = beginnings.text; opens = beginnings.opens } in
     let texts = c.texts_are_read_back.ensures in
     let goes = c.preambles_are_resumed.ensures in

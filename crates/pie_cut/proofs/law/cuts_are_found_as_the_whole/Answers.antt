@@ -1,19 +1,14 @@
-use Rattle.pie_cut.specs.{MayBegin, at_core, at_opening, events_of, excerpt_lines, from_opening, history_lines, start_after, start_at, whole_lines}
-use Rattle.pie_cut.proofs.TextFacts.{core-found, cuts-found, excerpt-fits, part-fits, whole-fits}
+use Rattle.pie_cut.specs.{MayBegin, at_core, at_opening, events_of, text_lines, start_after, start_at, whole_lines}
+use Rattle.pie_cut.proofs.TextFacts.{core-found, cuts-found, text-fits, part-fits}
 use Rattle.pie_cut.proofs.law.cuts_are_found_as_the_whole.Goals as goal
-
-pub returns-clause-whole : goal.returns-clause-whole
-returns-clause-whole c = λ span rows opening place text cut is few.
-    (cuts-found from_opening span (at_opening opening) (history_lines 4294967296 rows) place text c.written_excerpts_are_read.ensures.lines tt
-    (whole-fits rows) cut is few).2
 
 pub returns-clause-state : goal.returns-clause-state
 returns-clause-state c = λ span rows opening core set_by place text begins cut is few.
-    let has = c.preambles_are_written_again.ensures.opens rows _ begins.2 in
+    let has = c.beginnings_are_written_again.ensures.opens rows _ begins.3 in
     let valid : MayBegin opening core set_by =
     record { accepted = has.accepted; opened = has.opened; counted = has.counted; names = has.set_by } in
-    let found = cuts-found (start_at core set_by) span (at_core opening core set_by) (excerpt_lines rows) place text
-    c.written_excerpts_are_read.ensures.lines valid (excerpt-fits rows) cut is few in
+    let found = cuts-found (start_at core set_by) span (at_core opening core set_by) (text_lines rows) place text
+    c.written_excerpts_are_read.ensures.lines valid (text-fits rows) cut is few in
     core-found opening core found.0 set_by _ text (events_of place.before) _ found.1 found.2
 
 pub returns-clause-part : goal.returns-clause-part

@@ -1,35 +1,23 @@
-use Rattle.pie_cut.proofs.Names.{[], at_core, at_opening, excerpt_lines, from_opening, history_lines, made-count, map, refl, start_after, start_at, Valid}
+use Rattle.pie_cut.proofs.Names.{[], at_core, at_opening, text_lines, made-count, map, refl, start_after, start_at, Valid}
 use Rattle.pie_cut.proofs.Names.{arith, ◌≤◌, event_count}
-use Rattle.pie_cut.proofs.{JoinedFacts.agree-none, JoinedFacts.agree-past, JoinedFacts.is-chain, TextFacts.excerpt-fits, TextFacts.part-fits}
-use Rattle.pie_cut.proofs.{TextFacts.valid-accepted, TextFacts.whole-fits}
+use Rattle.pie_cut.proofs.{JoinedFacts.agree-none, JoinedFacts.agree-past, JoinedFacts.is-chain, TextFacts.text-fits, TextFacts.part-fits}
+use Rattle.pie_cut.proofs.TextFacts.{valid-accepted}
 use Rattle.pie_cut.specs.{MayBegin}
 use Rattle.pie_cut.proofs.law.segments_combine_to_the_whole.Goals as goal
 
-pub returns-clause-whole : goal.returns-clause-whole
-returns-clause-whole c = λ every rows opening text some accepted.
-    let none = made-count [] in
-    is-chain from_opening every (at_opening opening) [] (agree-none (at_opening opening)) none (history_lines 4294967296 rows) text (record {
-      some = some;
-      accepted = accepted;
-      valid = tt;
-      begins = omega (arith, none);
-      fit = whole-fits rows;
-      law = c.written_excerpts_are_read.ensures.lines;
-    })
-
 pub returns-clause-state : goal.returns-clause-state
 returns-clause-state c = λ every rows opening core set_by text some begins.
-    let has = c.preambles_are_written_again.ensures.opens rows _ begins.2 in
+    let has = c.beginnings_are_written_again.ensures.opens rows _ begins.3 in
     let valid : MayBegin opening core set_by =
     record { accepted = has.accepted; opened = has.opened; counted = has.counted; names = has.set_by } in
     let none = made-count [] in
     is-chain (start_at core set_by) every (at_core opening core set_by) [] (agree-none (at_core opening core set_by)) (omega (arith, none))
-    (excerpt_lines rows) text (record {
+    (text_lines rows) text (record {
       some = some;
       accepted = valid-accepted opening core set_by valid;
       valid = valid;
       begins = omega (arith, none);
-      fit = excerpt-fits rows;
+      fit = text-fits rows;
       law = c.written_excerpts_are_read.ensures.lines;
     })
 
@@ -37,7 +25,7 @@ pub returns-clause-part : goal.returns-clause-part
 returns-clause-part c = λ every rows opening past set_by text some accepted fit legal.
     let none = made-count [] in
     is-chain (start_after set_by past) every (at_opening opening) (map Valid past) (agree-past opening past legal) (made-count past)
-    (excerpt_lines rows) text (record {
+    (text_lines rows) text (record {
       some = some;
       accepted = accepted;
       valid = tt;

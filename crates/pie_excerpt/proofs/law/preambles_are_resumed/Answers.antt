@@ -11,9 +11,9 @@ returns c =
           (λ before next after is. law.taken opening.limits core before next after written.queued is) (law.ended opening.limits core);
       continues = λ opening core past set_by more written shows. record {
         beginning = begun_at opening core set_by more;
-        resumed = goes-on opening core set_by more written
+        begun = goes-on opening core set_by more written
             (λ before next after is. law.taken opening.limits core before next after written.queued is) (law.ended opening.limits core);
         opened = refl;
-        shown = shows;
+        represents = shows;
       };
     }

@@ -6,7 +6,7 @@ use Rattle.pie_storm.proofs.planned_storm.write_storm.Goals as goal
 
 pub unreachable-requires : goal.unreachable-requires
 unreachable-requires g c =
-    differs-never c.events_are_lines.ensures c.clean_excerpts_are_legal.ensures.legal_is_clean c.opening-opening.result (opening_of c.args.plan.now)
+    differs-never c.events_are_lines.ensures c.clean_texts_are_legal.ensures.legal_is_clean c.opening-opening.result (opening_of c.args.plan.now)
     c.args.events.now c.in-Differs.event c.opening-opening.ensures c.requires.legal
     (c.in-Differs.ensures.finding (at_opening c.opening-opening.result) (map Valid c.args.events.now) c.in-Ok.ensures)
 
@@ -16,7 +16,7 @@ write_history-requires g c = record {
 }
 
 pub returns-clause-written : goal.returns-clause-written
-returns-clause-written g c = writes-answered c.events_are_lines.ensures c.clean_is_legal.ensures.legal_is_clean c.clean_excerpts_are_legal.ensures.legal_is_clean
+returns-clause-written g c = writes-answered c.events_are_lines.ensures c.clean_is_legal.ensures.legal_is_clean c.clean_texts_are_legal.ensures.legal_is_clean
     c.write_history.result c.args.plan.now c.args.events.now c.in-Ok.auditor c.opening-opening.result (g.W.Write.contents c.args.output.now)
     (g.W.Write.contents c.write_history.new.writer) c.opening-opening.ensures c.requires.legal c.requires.limits c.in-Ok.ensures
     c.write_history.ensures.written c.write_history.ensures.read_back

@@ -1,5 +1,5 @@
 use Rattle.pie_excerpt.proofs.BackFacts.{begun-alone, begun-opens, begun-text, begun_again}
-use Rattle.pie_excerpt.proofs.law.preambles_are_written_again.Goals as goal
+use Rattle.pie_excerpt.proofs.law.beginnings_are_written_again.Goals as goal
 
 pub returns : goal.returns
 returns c = record {

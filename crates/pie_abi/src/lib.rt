@@ -8,10 +8,8 @@ pub mod event;
 pub mod opening;
 pub mod packet;
 pub mod params;
-pub mod stats;
-pub mod writing;
+mod stats;
+mod writing;
 
-pub use event::PieEvent;
-pub use opening::PieOpening;
 pub use stats::PieStats;
 pub use writing::write_text;

@@ -12,13 +12,13 @@
 //! pie_trace states that the output of a run is clean.
 #![tactic(auto)]
 
-pub mod auditor;
-pub mod law;
-pub mod opened_text;
-pub mod processor;
-pub mod replay;
-pub mod text_audit;
-pub mod visitor;
+mod auditor;
+mod law;
+mod opened_text;
+mod processor;
+mod replay;
+mod text_audit;
+mod visitor;
 
 pub use auditor::{Auditor, Finding};
 pub use law::{

@@ -22,15 +22,15 @@
 //!   excerpts.
 #![tactic(auto)]
 
-pub mod book;
+mod book;
 mod book_events;
 mod book_folds;
 mod core_state;
 mod core_steps;
-pub mod excerpt;
-pub mod law;
+mod excerpt;
+mod law;
 mod recorded;
-pub mod snapshot;
+mod snapshot;
 mod tally;
 
 pub use book::{Book, ContinueRefusal};

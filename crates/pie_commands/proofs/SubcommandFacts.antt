@@ -4,7 +4,7 @@ use Rattle.std.proofs.lemmas.Bool.Decides.{nat_tests}
 use Rattle.pie_commands.proofs.Names.{◌≡◌, ◌∙◌, ℕ, List, [], ◌∷◌, Option, Some, Bool, true, subst, sym, IfErr, IfOk, Result, Ok, Err, option_map, App}
 use Rattle.pie_commands.proofs.Names.{HasMatchesOf, Text, kind_of, subcommand_name_of, subcommand_rows_of, takes, End, CannotStart, Failed, Audit, file_in, get_or, inl, inr, None, take}
 use Rattle.pie_commands.proofs.Names.{files_in, is_forced, is_joined, options_in, pie_app, subcommand_in, Joined, EndView, text_given, Held, Keeps}
-use Rattle.pie_commands.proofs.Names.{AuditsFiles, HaveOutcomes, FileOutcome, HasFileOutcome, EndsBy, EndsRead, EndsAuditing, EndsFiles, LacksFinding, Answers, EndsAs, EndsTo, Finds}
+use Rattle.pie_commands.proofs.Names.{AuditsFiles, HaveOutcomes, FileOutcome, HasFileOutcome, EndsBy, EndsRead, EndsAuditing, EndsFiles, LacksFinding, Answers, EndsAs, EndsTo, FindsMatches}
 use Rattle.pie_commands.proofs.Names.{may_differ, output_for, Finds, JoinsText, records_of, ◌++◌, false}
 use Rattle.pie_commands.proofs.Names.{IfSome}
 use Rattle.pie_commands.specs.Files.{CanRead, Opens, opens_after}
@@ -129,7 +129,7 @@ differs-to subcommand options works input fresh old new before now promise = gri
 
 -- the result of `clap` is the parse of the words
 pub finds-so : (app : App) (words : List Text) (result : Result ArgMatches Error) → app ≡ pie_app → IfOk result (HasMatchesOf app words)
-    → IfErr result (λ why. takes app words ≡ true → kind_of why ≡ OutOfMemory) → Finds words result
+    → IfErr result (λ why. takes app words ≡ true → kind_of why ≡ OutOfMemory) → FindsMatches words result
 finds-so app words (Ok matches) is matched passes = subst (λ (a : App). HasMatchesOf a words matches) is matched
 finds-so app words (Err why) is matched passes = subst (λ (a : App). takes a words ≡ true → kind_of why ≡ OutOfMemory) is passes
 

@@ -73,9 +73,9 @@ may_differ _ = false
 -- ---- the words
 
 -- the result of `clap` is the parse of the words; `clap` refuses words that it takes only if memory is short
-abbrev pub Finds : List Text → Result ArgMatches Error → Type 0
-Finds words (Ok matches) = HasMatchesOf pie_app words matches
-Finds words (Err why) = takes pie_app words ≡ true → kind_of why ≡ OutOfMemory
+abbrev pub FindsMatches : List Text → Result ArgMatches Error → Type 0
+FindsMatches words (Ok matches) = HasMatchesOf pie_app words matches
+FindsMatches words (Err why) = takes pie_app words ≡ true → kind_of why ≡ OutOfMemory
 
 -- no subcommand began, since memory was short, and nothing was written
 pub record BeginsNothing (old new : Held) (end : End) (before now : Option (List ℕ)) : Type 0 where

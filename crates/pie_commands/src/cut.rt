@@ -9,7 +9,7 @@ ghost use Rattle.pie_commands.specs.Words.{file_in};
 ghost use Rattle.pie_commands.specs.CutEnds.{CutsInto, CutsLast, EndsCut, HasSome, WantsSome, chosen, end_of_cut, cut_request_of, within};
 ghost use Rattle.pie_commands.specs.Ends.{EndsBy, EndsRead};
 
-use crate::end::{End, end_failed, end_with_fault, fault, named_fault};
+use crate::end::{End, end_failed, end_with_fault, end_with_fault_in, fault, named_fault};
 use crate::files::NamedFiles;
 use crate::options::{NO_ORDER, bound, file, in_order, number, parsed};
 use crate::perform::{Task, perform_task};
@@ -180,7 +180,7 @@ fn cut_last<H: NamedFiles + Screen, R: Read + Drop, W: Write, E: Write>(
     let is_shown = shows_progress(rt, options, true);
     match last_named::<H, R, E>(rt, alloc, is_shown, name, errors) {
         None => End::Unopened,
-        Some(Err(why)) => end_with_fault(errors, why),
+        Some(Err(why)) => end_with_fault_in(errors, name, why),
         Some(Ok(number)) => {
             let pieces = Pieces::Part(Span::last(number, many));
             perform_task(rt, alloc, Task::Cut(pieces), options, input, output, errors)

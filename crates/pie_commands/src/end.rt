@@ -122,6 +122,24 @@ pub(crate) fn end_failed<E: Write, D: Display + Drop>(errors: &mut E, text: D) -
     End::Failed
 }
 
+/// Returns the end for a fault of the text in the file `name`, and writes its lines to `errors`.
+pub(crate) fn end_with_fault_in<E: Write>(errors: &mut E, name: &str, why: TraceFault) -> End
+    ensures { result ≡ End.Fault why }
+{
+    let end = end_with_fault(errors, why);
+    name_text(errors, end, Some(name));
+    end
+}
+
+/// After a fault of the text or of its reader, writes the name of the file that has the text, if there is one.
+pub(crate) fn name_text<E: Write>(errors: &mut E, end: End, name: Option<&str>) {
+    if let (End::Fault(why), Some(name)) = (end, name) {
+        if !matches!(why, TraceFault::Write | TraceFault::Memory) {
+            let _ = writeln!(errors, "pie: the text is in {name}");
+        }
+    }
+}
+
 /// Writes the line of a fault. A line that can't be written is passed over.
 pub(crate) fn fault<E: Write, D: Display + Drop>(errors: &mut E, text: D) {
     let _ = writeln!(errors, "pie: {text}");

@@ -66,6 +66,9 @@ pub trait NamedFiles {
         ensures fails { IfErr result (λ _. Keeps (holds self.old) (holds self.new)) }
         ensures works { works ≡ true → MayHave is_forced (holds self.old name.now) → IsOk result };
 
+    /// Returns why the last failed write to the new file failed, if the system gave a reason and the reader is not gone.
+    fn reason(&self, made: &Self::Made) -> Option<io::Error>;
+
     /// Leaves the new file under its other name, and returns that name. Removes the file if it is empty.
     fn leave(&mut self, made: Self::Made) -> Option<String>
         ensures { Keeps (holds self.old) (holds self.new) };
@@ -176,11 +179,20 @@ fn put<H: NamedFiles, E: Write>(
     }
 }
 
-/// Leaves the output file under its other name. If it isn't empty, writes that name to `errors`, and that the output
-/// is incomplete unless it `is_whole`.
-fn abandon<H: NamedFiles, E: Write>(rt: &mut H, made: H::Made, is_whole: bool, errors: &mut E)
+/// Leaves the output file under its other name. Writes to `errors` why a write to the file `name` failed. If the file
+/// isn't empty, writes its other name, and that the output is incomplete unless it `is_whole`.
+fn abandon<H: NamedFiles, E: Write>(
+    rt: &mut H,
+    made: H::Made,
+    name: &str,
+    is_whole: bool,
+    errors: &mut E,
+)
     ensures { Keeps (H.holds rt.old) (H.holds rt.new) }
 {
+    if let Some(why) = rt.reason(&made) {
+        named_fault(errors, name, why);
+    }
     let text = if is_whole {
         "this file has the output"
     } else {
@@ -209,6 +221,6 @@ pub(crate) fn finish_output<H: NamedFiles, E: Write>(
     if is_whole && put(rt, &mut made, name, is_forced, errors) {
         return true;
     }
-    abandon(rt, made, is_whole, errors);
+    abandon(rt, made, name, is_whole, errors);
     false
 }

@@ -9,7 +9,7 @@ ghost use Rattle.pie_commands.specs.Ends.{EndsRead, counts_line};
 ghost use Rattle.pie_commands.specs.Subcommands.{CanDo, EndsAs, EndsTask, EndsTo, output_for};
 
 use crate::cut::{Pieces, cut_out};
-use crate::end::{End, report_end};
+use crate::end::{End, name_text, report_end};
 use crate::explain::explain;
 use crate::files::{NamedFiles, create_output, finish_output, reader_of};
 use crate::options::{Subcommand, file, flag, output};
@@ -116,7 +116,11 @@ pub(crate) fn perform_task<H: NamedFiles + Screen, R: Read + Drop, W: Write, E: 
 {
     let is_shown = shows_progress(rt, options, true);
     match reader_of(rt, file(options), input, errors) {
-        Some(reader) => run_task(rt, alloc, task, options, is_shown, reader, output, errors),
+        Some(reader) => {
+            let end = run_task(rt, alloc, task, options, is_shown, reader, output, errors);
+            name_text(errors, end, file(options));
+            end
+        }
         None => End::Unopened,
     }
 }

@@ -8,7 +8,7 @@ ghost use Rattle.pie_commands.specs.declared.options.subcommand.Subcommand.{Subc
 ghost use Rattle.pie_commands.specs.Files.{Keeps};
 ghost use Rattle.pie_commands.specs.declared.end.End.{End};
 ghost use Rattle.pie_commands.specs.Ends.{status_of};
-ghost use Rattle.pie_commands.specs.Subcommands.{Answers, BeginsNothing, EndsTo, Finds, may_differ};
+ghost use Rattle.pie_commands.specs.Subcommands.{Answers, BeginsNothing, EndsTo, FindsMatches, may_differ};
 
 use crate::end::{End, end_failed, end_unable, end_with_fault};
 use crate::files::NamedFiles;
@@ -73,7 +73,7 @@ pub fn command<H: Threads + Wait + Sync + NamedFiles + Screen, R: Read + Drop, W
 
 /// Parses the command line with `clap`. An error is a request for help, a mistake, or a lack of memory.
 fn matches_of<'a>(alloc: Global, words: &'a [String]) -> Result<ArgMatches<'a>, Error>
-    ensures { Finds (map string_bytes words.now) result }
+    ensures { FindsMatches (map string_bytes words.now) result }
 {
     options(alloc)?.try_get_matches_from(words)
 }
@@ -92,7 +92,7 @@ fn perform_matches<
     output: &mut W,
     errors: &mut E,
 ) -> End
-    ensures { (words : List Text) → Finds words found.now
+    ensures { (words : List Text) → FindsMatches words found.now
         → Answers words H.works (R.remaining input) H.fresh (H.holds rt.old) (H.holds rt.new) result (W.contents output.old) (W.contents output.new) }
 {
     match found {

@@ -1,11 +1,12 @@
-//! A reader that reports its progress, and the choice to report it.
+//! A reader that reports its progress and why a read failed, and the choice to report progress.
 ghost use Rattle.std.specs.Prelude.{◌≡◌};
 ghost use Rattle.pie_commands.specs.Parts.{inner_of, remaining_of};
 
+use crate::end::fault;
 use crate::options::{flag, output};
 use clap::ArgMatches;
 use std::io;
-use std::io::{IsTerminal, Read, Write};
+use std::io::{Error, ErrorKind, IsTerminal, Read, Write};
 use std::time::{Clock, Instant};
 
 /// The number of bytes between two reports.
@@ -14,8 +15,8 @@ const STEP: u64 = 8_000_000;
 /// The terminal sequence that clears a line: return to its beginning and erase from there.
 const WIPE: &[u8] = b"\r\x1b[K";
 
-/// A wrapper of a reader. It returns the bytes of the inner reader and, if requested, reports the progress on
-/// `errors`.
+/// A wrapper of a reader. It returns the bytes of the inner reader. On `errors` it reports the system's reason for a
+/// failed read and, if requested, the progress.
 pub(crate) struct ProgressReader<R: Drop, W: Write + Drop, C: Clock + Drop> {
     inner: R,
     errors: W,
@@ -97,6 +98,18 @@ impl<R: Drop, W: Write + Drop, C: Clock + Drop> ProgressReader<R, W, C> {
             wipe(&mut self.errors);
         }
     }
+
+    /// Writes the reason of a failed read, unless the read was only interrupted, and returns it.
+    fn report(&mut self, why: Error) -> Error
+        ensures same { result ≡ why }
+        ensures inner { inner_of self.new ≡ inner_of self.old }
+    {
+        if !matches!(why.kind(), ErrorKind::Interrupted) {
+            self.wipe();
+            fault(&mut self.errors, &why);
+        }
+        why
+    }
 }
 
 impl<R: Read + Drop, W: Write + Drop, C: Clock + Drop> ProgressReader<R, W, C> {
@@ -126,7 +139,10 @@ impl<R: Read + Drop, W: Write + Drop, C: Clock + Drop> Read for ProgressReader<R
     ghost remaining = { remaining_of R.remaining };
 
     fn read(&mut self, buf: &mut [u8]) -> io::Result<usize> {
-        let count = self.inner.read(buf)?;
+        let count = match self.inner.read(buf) {
+            Ok(count) => count,
+            Err(why) => return Err(self.report(why)),
+        };
         if self.is_shown {
             self.count(&buf[..count]);
         }

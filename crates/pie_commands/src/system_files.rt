@@ -12,6 +12,9 @@ use std::io::{Error, ErrorKind, Read, Stdout, Write};
 use std::os::unix::fs::{MetadataExt, OpenOptionsExt, PermissionsExt};
 use std::{fs, io};
 
+/// The system's number of the error that a file is a folder.
+const IS_A_FOLDER: i32 = 21;
+
 /// The number of names that are tried for a file created beside another.
 const MAX_NAMES: u32 = 100;
 
@@ -24,6 +27,8 @@ pub struct Output {
     made: Option<String>,
     /// True if its reader is gone.
     is_closed: bool,
+    /// The system's number for the reason of the last failed write.
+    failed: Option<i32>,
 }
 
 impl Output {
@@ -35,6 +40,7 @@ impl Output {
             to,
             made,
             is_closed: false,
+            failed: None,
         }
     }
 
@@ -52,11 +58,20 @@ impl Output {
         self.is_closed
     }
 
-    /// Stores that the reader is gone if a write with this result failed for that reason.
+    /// Returns the reason of the last failed write, if the system gave one and the reader is not gone.
+    pub fn reason(&self) -> Option<Error> {
+        if self.is_closed {
+            return None;
+        }
+        Some(Error::from_raw_os_error(self.failed?))
+    }
+
+    /// Stores why a write with this result failed, and that the reader is gone if that is the reason.
     fn note(&mut self, written: &io::Result<usize>)
         ensures { is_closed self.new ≡ has_closed (is_closed self.old) written.now }
     {
         if let Err(why) = written {
+            self.failed = why.raw_os_error();
             if matches!(why.kind(), ErrorKind::BrokenPipe) {
                 self.is_closed = true;
             }
@@ -208,7 +223,11 @@ impl NamedFiles for HostRuntime {
 
     fn open_named(&self, name: &str) -> io::Result<File> {
         check_name(name)?;
-        File::open(self, name)
+        let file = File::open(self, name)?;
+        if matches!(file.metadata(), Ok(there) if there.is_dir()) {
+            return Err(Error::from_raw_os_error(IS_A_FOLDER));
+        }
+        Ok(file)
     }
 
     fn is_same_file(&self, name: &str, other: Option<&str>) -> bool {
@@ -264,6 +283,10 @@ impl NamedFiles for HostRuntime {
         }
         made.made = None;
         Ok(())
+    }
+
+    fn reason(&self, made: &Output) -> Option<Error> {
+        made.reason()
     }
 
     fn leave(&mut self, made: Output) -> Option<String> {

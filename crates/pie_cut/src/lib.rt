@@ -11,12 +11,12 @@
 mod counting;
 mod cutter;
 mod excerpt_writer;
-pub mod fault;
-pub mod joint_audit;
+mod fault;
+mod joint_audit;
 mod law;
 mod segments;
 mod snapshot_equality;
-pub mod span;
+mod span;
 
 pub use counting::last_number;
 pub use cutter::cut;

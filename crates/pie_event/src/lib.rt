@@ -5,18 +5,18 @@
 //! (`Verdict`); the permitted openings of a book (`Opening`); the ranges of the types' numbers (`Ranges`).
 #![tactic(auto)]
 
-pub mod cause;
-pub mod cause_name;
-pub mod command;
-pub mod opening;
-pub mod profile;
-pub mod refusal;
-pub mod register;
-pub mod registers;
-pub mod resume_refusal;
-pub mod setter;
-pub mod stats;
-pub mod verdict;
+mod cause;
+mod cause_name;
+mod command;
+mod opening;
+mod profile;
+mod refusal;
+mod register;
+mod registers;
+mod resume_refusal;
+mod setter;
+mod stats;
+mod verdict;
 
 pub use cause::{Cause, Fate};
 pub use cause_name::CauseName;

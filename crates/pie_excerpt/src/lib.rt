@@ -5,12 +5,12 @@
 //! history or an excerpt, by `begin`; `beginning_of` defines it.
 #![tactic(auto)]
 
-pub mod beginning;
-pub mod law;
-pub mod number_ranges;
-pub mod preamble;
-pub mod reading;
-pub mod resume;
+mod beginning;
+mod law;
+mod number_ranges;
+mod preamble;
+mod reading;
+mod resume;
 mod round_trip;
 mod writing;
 

@@ -12,18 +12,18 @@
 //! chosen event, in order. For an excerpt both are those of the whole history from there on (`ExplainsText`).
 #![tactic(auto)]
 
-pub mod choice;
-pub mod explainer;
-pub mod explanation;
-pub mod fault;
-pub mod form;
-pub mod law;
+mod choice;
+mod explainer;
+mod explanation;
+mod fault;
+mod form;
+mod law;
 mod record;
-pub mod report;
-pub mod selection;
+mod report;
+mod selection;
 mod text;
 mod text_cache;
-pub mod units;
+mod units;
 
 pub use choice::EventChoice;
 pub use explainer::{explain, increase};

@@ -4,17 +4,17 @@
 //! which computes. `specs/` has the definitions that the contracts cite.
 #![tactic(auto)]
 
-pub mod bursts;
-pub mod clean_histories;
-pub mod clock;
-pub mod counts;
-pub mod early_drop;
-pub mod links;
-pub mod probability;
-pub mod rates;
-pub mod response;
-pub mod spacing;
-pub mod worked;
+mod bursts;
+mod clean_histories;
+mod clock;
+mod counts;
+mod early_drop;
+mod links;
+mod probability;
+mod rates;
+mod response;
+mod spacing;
+mod worked;
 
 pub use bursts::{allowances_begin_whole, burst_allowance_lasts};
 pub use clean_histories::clean_histories_are_lawful;

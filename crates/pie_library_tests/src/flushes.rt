@@ -3,11 +3,12 @@
 
 use pie_audit::{Finding, write_finding};
 use pie_book::{Answer, Command, Event, Opening};
-use pie_explain::{EventChoice, ExplainFault, Records, Selection, explain};
+use pie_explain::{EventChoice, ExplainFault, Explained, Records, Report, Selection, explain};
 use pie_params::{Elements, Params};
+use pie_text::Page;
 use pie_trace::{TraceFault, migrate, run_trace, run_trace_within, write_history};
 use pie_units::{opening_for, write_opening};
-use std::alloc::Global;
+use std::alloc::{AllocError, Global};
 use std::io;
 use std::io::{ErrorKind, Write};
 
@@ -152,4 +153,59 @@ pub(crate) fn failed_writes_are_flushed(alloc: Global) -> bool {
     let mut writer = Refusing { flushes: 0 };
     let fault = run_trace(alloc, TRACE, &mut writer).err();
     is_write(fault) && writer.flushes == 1
+}
+
+/// A report that runs out of memory, at an event and at its end.
+#[derive(Drop)]
+struct NoMemory;
+
+impl Report for NoMemory {
+    type State = ();
+
+    ghost use Rattle.std.specs.Prelude.{⊤, []};
+
+    ghost shows = { λ it state all. ⊤ };
+
+    ghost so_far = { λ it all. [] };
+
+    ghost whole = { λ it all. [] };
+
+    fn is_by_kind(&self) -> bool {
+        false
+    }
+
+    fn begin(&self, _page: &mut Page) -> Result<(), AllocError> {
+        Ok(())
+    }
+
+    fn report_event(
+        &self,
+        _state: &mut (),
+        _explained: &Explained,
+        _page: &mut Page,
+    ) -> Result<(), AllocError> {
+        Err(AllocError)
+    }
+
+    fn end(&self, _state: &(), _page: &mut Page) -> Result<(), AllocError> {
+        Err(AllocError)
+    }
+}
+
+/// Returns true if the explanation of a text by this report is out of memory, and flushes its writer once.
+fn is_flushed(alloc: Global, text: &[u8]) -> bool {
+    let mut writer = Refusing { flushes: 0 };
+    let answer = explain(
+        alloc,
+        text,
+        &mut writer,
+        Selection::of(EventChoice::All),
+        NoMemory,
+    );
+    matches!(answer, Err(ExplainFault::Trace(TraceFault::Memory))) && writer.flushes == 1
+}
+
+/// Tests that an explanation without memory at an event, or at its end, flushes its writer once.
+pub(crate) fn explanations_are_flushed(alloc: Global) -> bool {
+    is_flushed(alloc, HISTORY) && is_flushed(alloc, b"open,0,4,16,100\n")
 }

@@ -107,6 +107,7 @@ fn tests<R: Threads + Wait + Clock + Print + Sync>(to: &mut Report<R>, alloc: Gl
         "a_fault_of_a_history_is_repeated" rows::faults_are_repeated(alloc);
         "quoted_records_are_copied" rows::quoted_records_are_copied(alloc);
         "a_failed_write_is_followed_by_a_flush" flushes::failed_writes_are_flushed(alloc);
+        "an_explanation_without_memory_is_flushed" flushes::explanations_are_flushed(alloc);
         "runs_end_with_registers_and_statistics" rows::runs_end(alloc);
         "runs_are_bounded_by_records" rows::runs_are_bounded(alloc);
         "a_history_without_an_end_is_read" endless::lines_come(alloc);

@@ -40,18 +40,18 @@
 //! numbers, and the front of a dropped caller.
 #![tactic(auto)]
 
-pub mod arrival;
-pub mod burst;
+mod arrival;
+mod burst;
 mod burst_calls;
-pub mod call_result;
-pub mod caller;
+mod call_result;
+mod caller;
 mod calls;
-pub mod entry;
+mod entry;
 mod kept_book;
 mod kept_bursts;
 mod law;
-pub mod link;
-pub mod refusal;
+mod link;
+mod refusal;
 mod turn;
 mod vectors;
 

@@ -4,7 +4,7 @@ ghost use Rattle.pie_abi.specs.Opening.{opening_in};
 ghost use Rattle.pie_port.specs.Calls.{close_code};
 ghost use Rattle.pie_port.specs.Excerpts.{IsEmpty, IsOpenWith, TriesToFill, WritesNext, room_refusal};
 
-use pie_abi::PieOpening;
+use pie_abi::opening::PieOpening;
 use pie_port::{PieExcerpt, PiePort};
 use std::alloc::Global;
 

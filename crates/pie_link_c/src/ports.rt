@@ -4,7 +4,7 @@ ghost use Rattle.pie_link.specs.Headline.{KeepsOneHistory};
 ghost use Rattle.pie_port.specs.Calls.{AreOfOneLink, Gathers, IsOpened, Shares, close_code, open_refusal};
 
 use atomic_table::TableRule;
-use pie_abi::PieOpening;
+use pie_abi::opening::PieOpening;
 use pie_event::Opening;
 use pie_link::{Entry, KeptBook};
 use pie_lock::{LockOpening, LockRule, SeatKnowledge};

@@ -4,7 +4,7 @@ ghost use Rattle.pie_port.specs.{Tries, TriesToSet};
 use crate::code::CLOSED;
 use crate::event_results::EventCall;
 use crate::handle::PiePort;
-use pie_abi::PieEvent;
+use pie_abi::event::PieEvent;
 use pie_params::RawParams;
 use std::alloc::Global;
 

@@ -4,8 +4,7 @@ ghost use Rattle.pie_port.specs.{set_event, code_of, answered_event, event_with_
 ghost use Rattle.pie_port.specs.Events.{filled};
 
 use crate::code::{BUSY, code_of_answer, code_of_refusal, code_of_reply};
-use pie_abi::PieEvent;
-use pie_abi::event::{DEPART, PARAMS, RESET, UPDATE};
+use pie_abi::event::{DEPART, PARAMS, PieEvent, RESET, UPDATE};
 use pie_event::{Answer, Refusal};
 use pie_link::{Told, Tried};
 

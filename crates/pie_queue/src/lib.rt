@@ -7,9 +7,9 @@
 //! that the ring is `circular_buffer`'s.
 #![tactic(auto)]
 
-pub mod ecn;
-pub mod packet;
-pub mod queue;
+mod ecn;
+mod packet;
+mod queue;
 
 pub use ecn::Ecn;
 pub use packet::{MAX_SIZE, Packet, Waiting};

@@ -1,5 +1,5 @@
 //! The bytes of a reader, read many at a time.
-ghost use Rattle.std.specs.Prelude.{◌≡◌, ◌+◌, ◌∷◌, ◌≤◌, ◌<◌, slice_range, take};
+ghost use Rattle.std.specs.Prelude.{◌≡◌, ◌+◌, ◌-◌, ◌∷◌, ◌≤◌, ◌<◌, slice_range, take};
 ghost use Rattle.pie_record.specs.{[], IfOk, OnOk, length, Keeps, IsAtEnd, Consumes, prepend_known, TakesLine};
 
 use crate::fault::ReadFailure;
@@ -64,6 +64,46 @@ fn allocate_if_empty(bytes: &mut Vec<u8>) -> Result<(), ReadFailure>
     }
 }
 
+// Moves the bytes from `at` to `end` to the front, and reads more behind them, as `Input::fill` does.
+fn read_more<R: Read>(
+    reader: &mut R,
+    bytes: &mut Vec<u8>,
+    at: &mut usize,
+    end: &mut usize,
+) -> Result<Found, ReadFailure>
+    requires order { at.old ≤ end.old }
+    requires inside { end.old ≤ length bytes.old.items }
+    ensures order { at.new ≤ end.new }
+    ensures inside { end.new ≤ length bytes.new.items }
+    ensures keeps { OnOk result (Keeps (prepend_known (slice_range bytes.old.items at.old end.old) (R.remaining reader.old))
+        (prepend_known (slice_range bytes.new.items at.new end.new) (R.remaining reader.new))) }
+    ensures more { IfOk result (λ found. found ≡ Found.More → end.old - at.old < end.new - at.new) }
+    ensures end { IfOk result (λ found. found ≡ Found.Nothing
+        → IsAtEnd (prepend_known (slice_range bytes.new.items at.new end.new) (R.remaining reader.new))) }
+{
+    match allocate_if_empty(bytes) {
+        Ok(()) => {}
+        Err(why) => return Err(why),
+    }
+    let kept = *end - *at;
+    bytes.copy_within(*at..*end, 0);
+    *at = 0;
+    *end = kept;
+    match read_behind(reader, bytes, kept) {
+        Ok(count) => {
+            *end = kept + count;
+            if count > 0 {
+                return Ok(Found::More);
+            }
+            if kept > 0 || bytes.len() <= BLOCK {
+                return Ok(Found::Odd);
+            }
+            Ok(Found::Nothing)
+        }
+        Err(_) => Err(ReadFailure::Device),
+    }
+}
+
 impl<R: Read> Input<R> {
     /// Begins with all bytes of the reader. Takes no memory.
     pub(crate) fn new(alloc: Global, reader: R) -> Input<R>
@@ -84,27 +124,12 @@ impl<R: Read> Input<R> {
         ensures keeps { OnOk result (Keeps self.old self.new) }
         ensures end { IfOk result (λ found. found ≡ Found.Nothing → IsAtEnd self.new) }
     {
-        match allocate_if_empty(&mut self.bytes) {
-            Ok(()) => {}
-            Err(why) => return Err(why),
-        }
-        let kept = self.end - self.at;
-        self.bytes.copy_within(self.at..self.end, 0);
-        self.at = 0;
-        self.end = kept;
-        match read_behind(&mut self.reader, &mut self.bytes, kept) {
-            Ok(count) => {
-                self.end = kept + count;
-                if count > 0 {
-                    return Ok(Found::More);
-                }
-                if kept > 0 || self.bytes.len() <= BLOCK {
-                    return Ok(Found::Odd);
-                }
-                Ok(Found::Nothing)
-            }
-            Err(_) => Err(ReadFailure::Device),
-        }
+        read_more(
+            &mut self.reader,
+            &mut self.bytes,
+            &mut self.at,
+            &mut self.end,
+        )
     }
 
     /// Reads a line up to its line feed from the bytes that are ahead: its bytes, and the places of its commas. Returns the number of both, and `Feed`.

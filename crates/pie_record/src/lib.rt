@@ -14,31 +14,31 @@
 #![tactic(auto)]
 
 mod block;
-pub mod clock;
+mod clock;
 pub mod code;
-pub mod command;
-pub mod fault;
+mod command;
+mod fault;
 pub mod field;
 pub mod first_record;
-pub mod history_reader;
-pub mod history_record;
+mod history_reader;
+mod history_record;
 mod input;
-pub mod law;
-pub mod long;
+mod law;
+mod long;
 pub mod number;
 pub mod record;
 pub mod records;
 pub mod rows;
 mod scan;
 pub mod trace_record;
-pub mod version;
+mod version;
 pub mod words;
 
 pub use clock::Clock;
 pub use command::BadChange;
-pub use fault::{ExcerptFault, OpenFault, RecordFault, TraceFault};
+pub use fault::{ExcerptFault, OpenFault, RecordFault, TraceFault, after_flush};
 pub use history_reader::HistoryLines;
-pub use history_record::Line;
+pub use history_record::{Line, line_of};
 pub use law::{
     answers_are_read_back, lines_are_written_again, openings_are_checked,
     requests_are_written_again, texts_are_read_back,

@@ -9,14 +9,14 @@
 //! Not promised: that a thread runs, that a storm ends, or the order of the calls of two callers.
 #![tactic(auto)]
 
-pub mod gate;
+mod gate;
 mod pace;
-pub mod plan;
-pub mod plan_numbers;
+mod plan;
+mod plan_numbers;
 mod planned_storm;
 mod planning;
 mod run;
-pub mod storm_end;
+mod storm_end;
 mod worker;
 
 pub use gate::{Gate, NoGate};

@@ -7,19 +7,19 @@
 //! summaries without packets, in less time for each event.
 #![tactic(auto)]
 
-pub mod aggregates;
-pub mod by_flow;
-pub mod flow;
-pub mod flow_sums;
-pub mod flow_words;
-pub mod interval;
-pub mod live_interval;
-pub mod meter;
-pub mod meter_input;
-pub mod ranges;
+mod aggregates;
+mod by_flow;
+mod flow;
+mod flow_sums;
+mod flow_words;
+mod interval;
+mod live_interval;
+mod meter;
+mod meter_input;
+mod ranges;
 mod record;
-pub mod summaries_only;
-pub mod summary;
+mod summaries_only;
+mod summary;
 mod words;
 
 pub use by_flow::ByFlow;

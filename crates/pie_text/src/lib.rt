@@ -11,7 +11,7 @@
 
 mod event;
 mod event_end;
-pub mod law;
+mod law;
 mod long_row;
 mod note;
 mod number_ranges;
@@ -20,7 +20,7 @@ mod page;
 mod params;
 mod row;
 mod words;
-pub mod write;
+mod write;
 
 pub use event::{put_arrival, put_empty, put_event, put_left, put_reset, put_update};
 pub use event_end::put_event_end;

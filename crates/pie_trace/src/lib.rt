@@ -6,9 +6,8 @@
 //! `run_trace_within` and `run_trace` run a trace with any reader and writer whose bytes are known. Unless the
 //! result is `Read`, `Write` or `Memory`, it is `Ok` exactly if the text has no fault (clause `ends`), otherwise the
 //! first fault (`faults`). An `Ok` has the numbers, registers and statistics of the run. The output is the history
-//! text (`writes`). The calls end even if the reader never ends. For an excerpt (`either`, with `run_by`), take any
-//! history that leads to the numbers and packets of its preamble: result and output are those of the whole from
-//! there on, with an empty tail.
+//! text (`writes`). The calls end even if the reader never ends. Take any history that leads to the state at the text's
+//! beginning: result and output are those of the whole from there on, with an empty tail.
 //!
 //! `history_texts_are_read_back`: the output of a run is read back as the same opening and events.
 //!
@@ -21,9 +20,9 @@
 //! The output of a run of an excerpt is clean, with the events before it (`continued_runs_are_clean`).
 #![tactic(auto)]
 
-pub mod law;
-pub mod migration;
-pub mod run;
+mod law;
+mod migration;
+mod run;
 mod run_start;
 mod session;
 

@@ -1,7 +1,8 @@
 #!/usr/bin/env bash
 # Counts the instructions of the library's calls by valgrind, independent of the load, and compares them with the
 # stored ones (bench/pie_c_count.txt): a mean over 1000 calls of a kind (bench/pie_c_count.c), inside the library
-# only; at a link for one event, and for a burst of 32. The exit status is 1 if a kind of call grew.
+# only; at a link for one event, and for a burst of 32. The last is the mean of an event that the
+# flight recorder keeps (bench/pie_flight.c). The exit status is 1 if a kind of call grew.
 # usage: bench/pie_c_count.sh [--store | --within PERCENT]    after bindings/c/library.py
 #        --store: stores the counts; --within: the exit status is 1 only if a kind grew by more than PERCENT
 set -eu
@@ -30,6 +31,12 @@ for kind in arrive_considered arrive_passed arrive_dropped depart_measured depar
     valgrind --tool=callgrind --callgrind-out-file=/dev/null --toggle-collect="$call" "$work/count" "$kind" 1000 2> "$work/said"
     echo "$kind $(($(awk '/Collected/ {print $NF}' "$work/said") / 1000))"
 done > "$work/counted"
+# an event that the flight recorder keeps, half of them arrivals: what it takes beside the event alone
+"${CC:-cc}" -O2 -std=gnu11 -Iinclude -o "$work/flight" bench/pie_flight.c crates/pie_c/out/libpie_c.a -pthread
+for kind in alone kept; do
+    events=$(valgrind --tool=callgrind --callgrind-out-file=/dev/null --toggle-collect=$kind "$work/flight" 100000 16 count $kind 2> "$work/said")
+    echo "$(awk '/Collected/ {print $NF}' "$work/said") ${events%% *}"
+done | awk '{taken[NR] = $1} END {printf "flight_keep %d\n", (taken[2] - taken[1]) / $2}' >> "$work/counted"
 if [ "${1-}" = --store ]; then
     cp "$work/counted" "$stored"
 fi

@@ -2,10 +2,10 @@
 # Counts by valgrind the instructions that the built program takes for a record, independent of the
 # load, and compares them with the stored counts (bench/counts.txt). It runs `pie run` on a
 # generated trace of RECORDS records; `audit`, `explain --all --csv`, `explain --summary`, `explain
-# --flows 8` and `cut --every 1000` on its history, which has one flow; and bench/peer/run.c, a
-# program in C over the library that writes the same bytes as `pie run`. All instructions of a
-# process count, including its start. The exit status is 1 if a count grew, or if the peer writes
-# other bytes.
+# --flows 8` and `cut --every 1000` on its history, which has one flow; `audit` on its excerpt from
+# the second event on, whose first record has 60 fields; and bench/peer/run.c, a program in C over
+# the library that writes the same bytes as `pie run`. All instructions of a process count, including
+# its start. The exit status is 1 if a count grew, or if the peer writes other bytes.
 #
 # usage: bench/pie_text_count.sh PROGRAM [--store | --within PERCENT]    after bindings/c/library.py; PROGRAM: crates/pie/out/pie
 #        bench/pie_text_count.sh --table
@@ -64,9 +64,11 @@ count explain_csv "$work/history" "$program" explain --all --csv &
 count explain_summary "$work/history" "$program" explain --summary &
 count explain_flows "$work/history" "$program" explain --flows 8 &
 count cut_every "$work/history" "$program" cut --every 1000 &
+"$program" cut --event $records --around $((records - 2)) < "$work/history" > "$work/excerpt"
+count audit_excerpt "$work/excerpt" "$program" audit &
 count peer "$work/trace" "$work/peer" &
 wait
-cat "$work"/{run,audit,explain_csv,explain_summary,explain_flows,cut_every,peer}.count > "$work/counted"
+cat "$work"/{run,audit,explain_csv,explain_summary,explain_flows,cut_every,audit_excerpt,peer}.count > "$work/counted"
 if [ "${2-}" = --store ]; then
     cp "$work/counted" "$stored"
 fi

@@ -23,9 +23,11 @@
  * - `queued` and `left` are the bytes that are in the queue.
  * - Each queued packet leaves by one call of pie_depart or pie_depart_waited.
  *
- * Cost: about 30 to 80 instructions for a packet, 230 for an update. A call uses at most 512 bytes of stack, pie_write_*
- * at most 2560, pie_link_* at most 4096, pie_link_open_port at most 12288. This includes all functions that it calls except
- * those of the C library (memcpy, memmove, memset; calls that open or close a link also call malloc and free).
+ * Cost: about 30 to 80 instructions for a packet, 230 for an update. A call uses at most 512 bytes of stack, pie_*_summed
+ * at most 1024, pie_write_* at most 2560, pie_link_* at most 4096, pie_link_open_port at most 12288. On mipsel,
+ * pie_write_period and pie_write_resume use at most 9216 bytes. This includes all functions that a call calls except those of
+ * the C library and of the compiler (memcpy, memmove, memset, division; calls that open or close a link also call malloc and
+ * free).
  *
  * docs/LIBRARY.md (installed as share/doc/pie/LIBRARY.md) explains the choice of the clock, the timer, the random
  * word and the limits, segmentation offload, and how to handle errors. Read it before the first use.
@@ -35,6 +37,10 @@
 
 #include <stddef.h>
 #include <stdint.h>
+
+#if defined(__BYTE_ORDER__) && __BYTE_ORDER__ != __ORDER_LITTLE_ENDIAN__
+#error "the library is for little-endian processors"
+#endif
 
 #ifdef __cplusplus
 extern "C" {
@@ -287,8 +293,9 @@ void pie_default_params(struct pie_params *params);
  * max_burst, 4 alpha, 5 beta, 6 mean_pkt, 7 limit_bytes, 8 mark_ecnth, 9 dq_threshold. */
 uint32_t pie_check_params(const struct pie_params *params);
 
-/* Fills `params` with the defaults for a link of `rate` bits per second. limit_bytes is 200 ms at that rate, but at least its
- * default and at most 2^30: so it is less than 200 ms above 42.9 Gbit/s, and 86 ms at 100 Gbit/s.
+/* Fills `params` with the defaults for a link of `rate` bits per second. limit_bytes is 200 ms at that rate, at least 48448 (32
+ * packets of 1514 bytes) and at most 2^30: so it is 775 ms at 500 kbit/s, and 86 ms at 100 Gbit/s. If `rate` is 0, it is unknown,
+ * and limit_bytes has its default.
  * Notes: for links below 17.5 Mbit/s without PIE_DELAY_STAMP see dq_threshold in docs/LIBRARY.md. */
 void pie_params_for(uint64_t rate, struct pie_params *params);
 
@@ -470,7 +477,11 @@ size_t pie_write_lost(uint64_t count, unsigned char *out, size_t room);
  *   bytes    their bytes
  * PIE_RESUME_ROOM bytes are enough. Returns 0 also if pie_open rejects the opening, if the state is not valid or differs from the
  * opening in profile or choices, or if there are more events, packets or bytes than the opening and a queue allow. The
- * statistics are not checked. */
+ * numbers are not compared otherwise, and every reader refuses the record in these cases:
+ *   - `set_by` is above `count` and is not PIE_UNKNOWN.
+ *   - The moment of the state is before the moment of the opening.
+ *   - A statistic is above what `count` events permit, or contradicts another number. docs/FORMATS.md lists the relations
+ *     (Checks of a preamble). The statistics of pie_count_event, one call for each of the `count` events, contradict none. */
 size_t pie_write_resume(const struct pie_opening *opening, const struct pie_state *state, const struct pie_stats *stats, uint64_t count,
                         uint64_t set_by, uint64_t packets, uint64_t bytes, unsigned char *out, size_t room);
 
@@ -507,57 +518,58 @@ uint32_t pie_read_packets(const char *text, size_t length, uint64_t *packets);
 /* Returns a description of a code, for a log. */
 static inline const char *pie_text(uint64_t code) {
     switch (code) {
-    case PIE_DONE:
-        return "done (arrival: queue the packet)";
-    case PIE_MARK:
-        return "queue the packet and mark it";
-    case PIE_EARLY:
-        return "drop the packet: early drop";
-    case PIE_BYTES:
-        return "drop the packet: the queue would exceed limit_bytes";
-    case PIE_PACKETS:
-        return "drop the packet: the ring is full";
-    case PIE_NONE:
-        return "the queue was empty";
-    case PIE_BAD_MOMENT:
-        return "refused: a moment above 2^60 - 1 ns";
-    case PIE_BAD_SIZE:
-        return "refused: a size outside 1 to 65535 bytes";
-    case PIE_TOO_SOON:
-        return "refused: an update before it is due";
-    case PIE_BAD_PARAMS:
-        return "refused: a parameter out of its range";
-    case PIE_BAD_STATE:
-        return "refused: a state that is not valid";
-    case PIE_BAD_ECN:
-        return "refused: an ECN field above 3";
-    case PIE_BAD_QUEUE:
-        return "refused: more than 2^30 bytes in the queue";
-    case PIE_BAD_PROFILE:
-        return "refused: a profile that is neither 1 nor 2";
-    case PIE_NOT_A_NUMBER:
-        return "refused: not a number with a unit of the expected kind";
-    case PIE_TOO_PRECISE:
-        return "refused: not a whole number, or more than 18 decimals";
-    case PIE_TOO_GREAT:
-        return "refused: a number above 2^60 - 1";
-    case PIE_BAD_CHOICES:
-        return "refused: an unknown flag in choices";
-    case PIE_BAD_ARRIVED:
-        return "refused: an arrival moment later than the state's moment";
-    case PIE_NOT_WAITED:
-        return "refused: pie_depart, but delays are measured by time stamps";
-    case PIE_BAD_LIMITS:
-        return "refused: the mode or a limit of an opening out of its range";
-    case PIE_BAD_EVERY:
-        return "refused: an interval length outside 1 to 2^60 - 1 ns";
-    default:
-        return "unknown code";
+    case PIE_DONE: return "done (arrival: queue the packet)";
+    case PIE_MARK: return "queue the packet and mark it";
+    case PIE_EARLY: return "drop the packet: early drop";
+    case PIE_BYTES: return "drop the packet: the queue would exceed limit_bytes";
+    case PIE_PACKETS: return "drop the packet: the ring is full";
+    case PIE_NONE: return "the queue was empty";
+    case PIE_BAD_MOMENT: return "refused: a moment above 2^60 - 1 ns";
+    case PIE_BAD_SIZE: return "refused: a size outside 1 to 65535 bytes";
+    case PIE_TOO_SOON: return "refused: an update before it is due";
+    case PIE_BAD_PARAMS: return "refused: a parameter out of its range";
+    case PIE_BAD_STATE: return "refused: a state that is not valid";
+    case PIE_BAD_ECN: return "refused: an ECN field above 3";
+    case PIE_BAD_QUEUE: return "refused: more than 2^30 bytes in the queue";
+    case PIE_BAD_PROFILE: return "refused: a profile that is neither 1 nor 2";
+    case PIE_NOT_A_NUMBER: return "refused: not a number with a unit of the expected kind";
+    case PIE_TOO_PRECISE: return "refused: not a whole number, or more than 18 decimals";
+    case PIE_TOO_GREAT: return "refused: a number above 2^60 - 1";
+    case PIE_BAD_CHOICES: return "refused: an unknown flag in choices";
+    case PIE_BAD_ARRIVED: return "refused: an arrival moment later than the state's moment";
+    case PIE_NOT_WAITED: return "refused: pie_depart, but delays are measured by time stamps";
+    case PIE_BAD_LIMITS: return "refused: the mode or a limit of an opening out of its range";
+    case PIE_BAD_EVERY: return "refused: an interval length outside 1 to 2^60 - 1 ns";
+    default: return "unknown code";
     }
 }
 
 #ifdef __cplusplus
 }
+#endif
+
+/* The library has these sizes and offsets on every processor. */
+#if defined(__cplusplus) && __cplusplus >= 201103L
+#define PIE_ASSERT(holds) static_assert(holds, #holds)
+#define PIE_ALIGNMENT(type) alignof(type)
+#elif defined(__STDC_VERSION__) && __STDC_VERSION__ >= 201112L
+#define PIE_ASSERT(holds) _Static_assert(holds, #holds)
+#define PIE_ALIGNMENT(type) _Alignof(type)
+#elif defined(__GNUC__) && !defined(__cplusplus)
+#define PIE_ASSERT(holds) __extension__ _Static_assert(holds, #holds)
+#define PIE_ALIGNMENT(type) __extension__ _Alignof(type)
+#endif
+#ifdef PIE_ASSERT
+PIE_ASSERT(PIE_ALIGNMENT(uint64_t) == 8);
+PIE_ASSERT(sizeof(struct pie_params) == 72 && offsetof(struct pie_params, dq_threshold) == 64);
+PIE_ASSERT(sizeof(struct pie_opening) == 128 && offsetof(struct pie_opening, events) == 120);
+PIE_ASSERT(sizeof(struct pie_state) == 184 && offsetof(struct pie_state, waited) == 176);
+PIE_ASSERT(sizeof(struct pie_updated) == 40 && offsetof(struct pie_updated, burst) == 32);
+PIE_ASSERT(sizeof(struct pie_event) == 64 && offsetof(struct pie_event, size) == 48 && offsetof(struct pie_event, kind) == 58);
+PIE_ASSERT(sizeof(struct pie_period) == 14240 && offsetof(struct pie_period, waits) == 480);
+PIE_ASSERT(sizeof(struct pie_stats) == 128 && offsetof(struct pie_stats, waited_high) == 120);
+#undef PIE_ASSERT
+#undef PIE_ALIGNMENT
 #endif
 
 #endif

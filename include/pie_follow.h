@@ -44,11 +44,12 @@ static inline uint64_t pie_flight_copy_next(struct pie_flight_follower *follower
     const struct pie_flight_layout *layout = &follower->layout;
     uint64_t number = follower->next, kept = PIE_LOAD(follower->words[PIE_FLIGHT_KEPT]), missed;
     follower->at = follower->count = 0;
+    if (kept > PIE_FLIGHT_MOST_KEPT) /* (the word is damaged) */
+        return 0;
     for (; number < kept && follower->count < PIE_FOLLOWED; number++)
-        pie_flight_load(follower->copied[follower->count++], follower->words + layout->events_at + number % layout->events * PIE_FLIGHT_EVENT,
-                        PIE_FLIGHT_EVENT);
+        pie_flight_load_event(follower->copied[follower->count++], follower->words, layout, number);
     kept = PIE_LOAD(follower->words[PIE_FLIGHT_KEPT]);
-    if (kept <= follower->next || kept - follower->next + layout->burst <= layout->events)
+    if (kept <= follower->next || kept > PIE_FLIGHT_MOST_KEPT || kept - follower->next + layout->burst <= layout->events)
         return 0;
     missed = kept - layout->events / 2 - follower->next;
     follower->count = 0;

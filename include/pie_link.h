@@ -1,5 +1,5 @@
 /* A link: one PIE controller (RFC 8033) with its queue and its event log, shared by several threads. Link with libpie_link.a and
- * libpie_c.a (`pkg-config pie_link`). Requires C11, or C++11 and later.
+ * libpie_c.a (`pkg-config pie_link`). Requires C11, or C++11 and later, and 64-bit words.
  *
  *     struct pie_port port = PIE_PORT_CLOSED, other = PIE_PORT_CLOSED;
  *     struct pie_opening opening;
@@ -56,6 +56,10 @@
 #include <stdint.h>
 #include <stdlib.h>
 
+#if UINTPTR_MAX != UINT64_MAX
+#error "links are for processors with 64-bit words; pie.h is for others too"
+#endif
+
 #include <errno.h>
 #include <sched.h>
 #include <time.h>
@@ -86,14 +90,22 @@ extern "C" {
 #define PIE_LINK_SWAP(word, seen, next) atomic_compare_exchange_weak(&(word), &(seen), next)
 #endif
 
+/* The greatest cache line of the processor family, in bytes. */
+#ifdef __aarch64__
+#define PIE_LINK_LINE (128)
+#else
+#define PIE_LINK_LINE (64)
+#endif
+#define PIE_LINK_REST (PIE_LINK_LINE - 12)
+
 /* Memory shared by the ports of one link, so that a waiting call wakes only threads at its own link. pie_link_open allocates it,
  * pie_link_close of the last port frees it. The padding keeps other data out of the cache line of these words. */
 struct pie_link_shared {
-    unsigned char before[64];
+    unsigned char before[PIE_LINK_LINE];
     PIE_LINK_WORD(32) ports;    /* open ports */
     PIE_LINK_WORD(32) sleepers; /* threads that sleep in a waiting call */
     PIE_LINK_WORD(32) turns;    /* incremented to wake a thread */
-    unsigned char after[52];
+    unsigned char after[PIE_LINK_REST];
 };
 
 /* A handle of a link for one thread at a time. All zeros is a closed port. The fields are private. */
@@ -152,7 +164,7 @@ static inline void pie_link_leave(struct pie_port *port) {
 }
 
 /* Fills `opening` for a link of `rate` bits per second as pie_default_opening does, except `packets`. It determines the memory and the
- * longest turn, and is four times limit_bytes / mean_pkt, at least 1024 and at most 2^20. At 100 Mbit/s that is 9765 packets: 2.0 MB
+ * longest turn, and is four times limit_bytes / mean_pkt, at least 189 and at most 2^20. At 100 Mbit/s that is 9765 packets: 2.0 MB
  * for a link and 1.5 MB for an excerpt. */
 static inline void pie_link_default_opening(struct pie_opening *opening, uint64_t rate) {
     uint64_t packets;
@@ -376,7 +388,9 @@ static inline void pie_link_pause(uint32_t round) {
 #if defined(__x86_64__) || defined(__i386__)
         __asm__ __volatile__("pause");
 #elif defined(__aarch64__)
-        __asm__ __volatile__("yield");
+        __asm__ __volatile__("isb"); /* (yield ends at once on most processors) */
+#elif defined(__riscv)
+        __asm__ __volatile__(".4byte 0x0100000f"); /* pause, which older assemblers do not know */
 #else
         __asm__ __volatile__("");
 #endif

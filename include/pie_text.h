@@ -73,34 +73,29 @@ static inline size_t pie_text_event(struct pie_history *text, const struct pie_e
 /* Adds an event without error to the statistics. Initialize `stats` with {0}. `bytes` are the bytes in the queue after the event, `waited` is
  * the waiting time of a departing packet, in ns. */
 static inline void pie_count_event(struct pie_stats *stats, const struct pie_event *event, uint64_t bytes, uint64_t waited) {
-    uint64_t is_empty = event->answer == PIE_NONE;
-    switch (event->kind) {
-    case PIE_EVENT_ARRIVE:
+    if (event->kind == PIE_EVENT_ARRIVE) {
         stats->arrivals++;
         stats->enqueued += event->answer == PIE_ENQUEUE;
         stats->marked += event->answer == PIE_MARK;
         stats->early += event->answer == PIE_EARLY;
         stats->over_bytes += event->answer == PIE_BYTES;
         stats->over_packets += event->answer == PIE_PACKETS;
-        break;
-    case PIE_EVENT_DEPART:
-        stats->empty += is_empty;
-        stats->left += 1 - is_empty;
-        stats->left_bytes += event->size * (1 - is_empty);
+        if (bytes > stats->largest_queue)
+            stats->largest_queue = bytes;
+    } else if (event->kind == PIE_EVENT_DEPART && event->answer != PIE_NONE) {
+        stats->left++;
+        stats->left_bytes += event->size;
         stats->waited += waited;
         stats->waited_high += stats->waited < waited;
-        break;
-    case PIE_EVENT_UPDATE:
+    } else if (event->kind == PIE_EVENT_UPDATE) {
         stats->updates++;
         if (event->delay > stats->largest_delay)
             stats->largest_delay = event->delay;
-        break;
-    default:
+    } else {
+        stats->empty += event->kind == PIE_EVENT_DEPART;
         stats->resets += event->kind == PIE_EVENT_RESET;
         stats->changes += event->kind == PIE_EVENT_PARAMS;
     }
-    if (bytes > stats->largest_queue)
-        stats->largest_queue = bytes;
 }
 
 #ifdef __cplusplus

@@ -7,8 +7,9 @@ usage: bench/uml/beside.py PIE FOLDER [--blocks FIRST-LAST] [--kept COUNT] [NAME
        bench/uml/beside.py PIE FOLDER --queues stamp,pie [--blocks 1-2] OPTIONS         one scenario by options, as scenarios.py has them
   PIE        the built program; build/pie is what make builds
   --queues   of the link: tail, stamp, rate (the delay by the departure rate), half (the other decay), wide (a target of 20 ms), marks (ECN up to any
-             probability), slowwide (a target of 30 ms), mtu (a mean_pkt of 1514 bytes); of the kernel: pfifo, pie, pie-rate (dq_rate_estimator),
-             pie-low and pie-high (targets of 12.5 and 17.5 ms), fq_codel, cake. NAME-again runs the queue once more, with other random words
+             probability), slowwide (a target of 30 ms), mtu (a mean_pkt of 1514 bytes), limit20 (a limit of 20 ms at the first rate, in bytes; any
+             number of ms); of the kernel: pfifo, pie, pie-rate (dq_rate_estimator), pie-low and pie-high (targets of 12.5 and 17.5 ms), fq_codel,
+             cake. NAME-again runs the queue once more, with other random words
   --blocks   the blocks of the scenario, as 1-2; all by default
   --kept     the number of blocks of each scenario whose files stay in the folder; 1 by default
   --late     also runs whose traffic began late: for a test in real time on a busy machine
@@ -162,6 +163,9 @@ class Plan:
 
 def queue_of(name, words):
     name = name.removesuffix("-again")
+    if limit := re.fullmatch(r"limit(\d+)", name):
+        bytes_of_limit = rates_of(words.rate)[0][1] * int(limit[1]) // 8000
+        return {"kind": "ours", "words": ["--limit", f"{bytes_of_limit}b", "--tupdate", "15ms"]}
     if name in OURS:
         more = ["--tupdate", "15ms"] + ["--ecn"] * words.ecn + (["--grant", words.grant] if words.grant else [])
         return {"kind": "ours", "words": OURS[name] + more}

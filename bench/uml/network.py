@@ -128,7 +128,7 @@ class Run:
         """The link and its two devices. Its rate changes by its own clock, which starts now."""
         rates = ",".join(f"{LEAD + moment:.6f}s:{rate}bit" if moment else f"{rate}bit" for moment, rate in self.rates)
         lasts = LEAD + self.scenario["seconds"] + 20
-        words = [str(LINK), "--from", "senders", "--to", "receivers", "--rtt", "0s", "--history", str(self.folder / "history"), "--delivery", "start",
+        words = [str(LINK), "--from", "senders", "--to", "receivers", "--rtt", "0s", "--history", str(self.folder / "history"), "--force", "--delivery", "start",
                  "--for", f"{lasts:.0f}s", "--rate", rates, "--limit", f"{self.scenario['packets']}p", "--limit", "1gb", *self.queue["words"]]
         self.begun = time.time()
         self.link = self.start(words, "link", "bottleneck")

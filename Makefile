@@ -1,7 +1,10 @@
 # Builds the libraries and the program from dist/, which contains the assembly of the proved code
-# (dist/README.md). A C compiler, and xz or python3 are needed.
+# (dist/README.md). A C compiler, and xz or python3 are needed. The machine that $(CC) -dumpmachine prints selects
+# the folder of dist/. On processors with 32-bit words there are libpie_c.a and libpie.so, without links and without the program.
 #
 #   make                 the libraries and the program, in build/
+#   make CC=aarch64-linux-gnu-gcc               the same for another processor
+#   make check CC=aarch64-linux-gnu-gcc RUN=qemu-aarch64     checks what was built for it, by an emulator
 #   make check           runs the worked rows and the examples with them; reports what cannot run here
 #   make install         installs everything below PREFIX (/usr/local); install-library and install-program install a part
 #   make uninstall       removes the files that `make install` installs
@@ -11,17 +14,30 @@
 #   make shared, make program, make libraries     build a part
 #
 # Variables: CC, CPPFLAGS, CFLAGS, LDFLAGS, AR; DESTDIR, PREFIX, BINDIR, LIBDIR, INCLUDEDIR,
-# DATADIR, MANDIR, DOCDIR; BUILD, the folder of all built files; PIE_C_S, PIE_LINK_C_S and PIE_S,
-# other assembly, for example crates/pie_c/out/pie_c.S, which bindings/c/library.py writes.
+# DATADIR, MANDIR, DOCDIR; BUILD, the folder of all built files; PROCESSOR, a folder of dist/; PIE_C_S,
+# PIE_LINK_C_S and PIE_S, other assembly, for example crates/pie_c/out/pie_c.S, which bindings/c/library.py writes.
 
 VERSION := $(shell sed -n 's/^.define PIE_VERSION "\(.*\)"$$/\1/p' include/pie.h)
 MAJOR := $(firstword $(subst ., ,$(VERSION)))
 SONAME := libpie.so.$(MAJOR)
 BUILD ?= build
-PIE_C_S ?= dist/x86_64/pie_c.S
-PIE_LINK_C_S ?= dist/x86_64/pie_link_c.S
-PIE_S ?= dist/x86_64/pie.S.xz
 
+# The folder of dist/ for the compiler's machine. The code is for Linux and little-endian processors.
+MACHINE := $(filter-out %gnux32 %ilp32,$(foreach it,$(shell $(CC) -dumpmachine),$(if $(findstring linux,$(it)),$(it))))
+PROCESSOR ?= $(strip $(foreach it,x86_64 aarch64 riscv64 mipsel,$(if $(filter $(it)-%,$(MACHINE)),$(it))) \
+	$(if $(filter arm-% armv7-% armv7l-% armv7a-%,$(MACHINE)),armv7))
+ifeq ($(PROCESSOR)$(filter clean,$(MAKECMDGOALS)),)
+$(error no assembly in dist/ for the machine of $(CC), $(or $(shell $(CC) -dumpmachine),which prints none): dist/ has $(notdir $(patsubst %/,%,$(wildcard dist/*/))), \
+for Linux; big-endian processors are not supported)
+endif
+PIE_C_S ?= dist/$(PROCESSOR)/pie_c.S
+PIE_LINK_C_S ?= $(wildcard dist/$(PROCESSOR)/pie_link_c.S)
+PIE_S ?= $(wildcard dist/$(PROCESSOR)/pie.S.xz)
+
+# (the archiver that belongs to a cross compiler; musl-gcc has none)
+ifeq ($(origin AR),default)
+AR := $(or $(if $(filter %-gcc,$(CC)),$(shell command -v $(patsubst %-gcc,%-ar,$(firstword $(filter %-gcc,$(CC)))))),ar)
+endif
 CFLAGS ?= -O2
 OPTIONS := -std=gnu11 -Wall -Wextra -fPIC -Iinclude
 HARDENING := -Wl,-z,relro -Wl,-z,now -Wl,-z,noexecstack
@@ -35,12 +51,22 @@ MANDIR ?= $(DATADIR)/man
 DOCDIR ?= $(DATADIR)/doc/pie
 
 SHARED := libpie.so.$(VERSION)
-LIBRARIES := $(addprefix $(BUILD)/,libpie_c.a libpie_link.a $(SHARED) $(SONAME) libpie.so)
+LIBRARIES := $(addprefix $(BUILD)/,libpie_c.a $(if $(PIE_LINK_C_S),libpie_link.a) $(SHARED) $(SONAME) libpie.so)
 
-all: libraries program
+all: libraries $(if $(PIE_S),program)
 libraries: $(LIBRARIES)
 shared: $(BUILD)/libpie.so $(BUILD)/$(SONAME)
 program: $(BUILD)/pie
+ifeq ($(PIE_S),)
+$(BUILD)/pie.S: no-program
+no-program:
+	@echo "make: there is no program for $(PROCESSOR) in dist/; make libraries builds its libraries" >&2; exit 2
+endif
+ifeq ($(PIE_LINK_C_S),)
+$(BUILD)/pie_link_c.o: no-links
+no-links:
+	@echo "make: there are no links for $(PROCESSOR) in dist/: links need 64-bit words; make libraries builds its libraries" >&2; exit 2
+endif
 
 $(BUILD):
 	mkdir -p $@
@@ -72,29 +98,32 @@ $(BUILD)/%.a:
 	$(AR) rcD $@ $^
 
 # The functions of the headers are exported, as dist/abi.txt lists them, and nothing else; each of them has to be there.
+functions = sed -n 's/^function \(.*\): .*/\1/p' $< $(if $(PIE_LINK_C_S),,| grep -v '^pie_link_')
 $(BUILD)/libpie.map: dist/abi.txt | $(BUILD)
-	sed -n 's/^function \(.*\): .*/-Wl,--require-defined=\1/p' $< > $(BUILD)/libpie.wanted
-	(echo 'PIE_$(MAJOR) { global:' && sed -n 's/^function \(.*\): .*/    \1;/p' $< && echo '    local: *;' && echo '};') > $@
-$(BUILD)/$(SHARED): $(addprefix $(BUILD)/,pie_c.o pie_link_c.o heap.o pie_arrays.o libpie.map)
+	$(functions) | sed 's/^/-Wl,--require-defined=/' > $(BUILD)/libpie.wanted
+	(echo 'PIE_$(MAJOR) { global:' && $(functions) | sed 's/.*/    &;/' && echo '    local: *;' && echo '};') > $@
+$(BUILD)/$(SHARED): $(addprefix $(BUILD)/,pie_c.o $(if $(PIE_LINK_C_S),pie_link_c.o heap.o) pie_arrays.o libpie.map)
 	$(CC) $(CFLAGS) $(HARDENING) $(LDFLAGS) -shared -o $@ $(filter %.o,$^) -pthread @$(BUILD)/libpie.wanted -Wl,-soname,$(SONAME) \
 		-Wl,--version-script=$(BUILD)/libpie.map -Wl,-Bsymbolic -Wl,--gc-sections -Wl,--as-needed -Wl,-z,defs
 $(BUILD)/$(SONAME) $(BUILD)/libpie.so: $(BUILD)/$(SHARED)
 	ln -sf $(SHARED) $@
 
 $(BUILD)/pie: $(addprefix $(BUILD)/,pie.o heap.o process.o)
-	$(CC) $(CFLAGS) $(HARDENING) $(LDFLAGS) -pie -o $@ $^ -pthread -lm
+	$(CC) $(CFLAGS) $(HARDENING) $(LDFLAGS) -pie -Wl,--wrap=main -Wl,--wrap=open -o $@ $^ -pthread -lm
 
 check: all
-	CC='$(CC)' dist/check.sh $(BUILD)
+	CC='$(CC)' RUN='$(RUN)' dist/check.sh $(BUILD)
 
 # What is installed where: MODE FILE PLACE
 define PROGRAM
 755 $(BUILD)/pie $(BINDIR)/pie
 755 report/pie-report $(BINDIR)/pie-report
 755 report/pie-metrics $(BINDIR)/pie-metrics
+644 report/outputs.py $(DATADIR)/pie/outputs.py
 644 report/page.html $(DATADIR)/pie/page.html
 644 report/page.css $(DATADIR)/pie/page.css
 644 report/page.js $(DATADIR)/pie/page.js
+644 report/alerts.yml $(DATADIR)/pie/alerts.yml
 644 report/grafana.json $(DATADIR)/pie/grafana.json
 644 man/pie.1 $(MANDIR)/man1/pie.1
 644 man/pie-report.1 $(MANDIR)/man1/pie-report.1
@@ -105,7 +134,6 @@ define PROGRAM
 endef
 define LIBRARY
 644 $(BUILD)/libpie_c.a $(LIBDIR)/libpie_c.a
-644 $(BUILD)/libpie_link.a $(LIBDIR)/libpie_link.a
 644 $(BUILD)/$(SHARED) $(LIBDIR)/$(SHARED)
 link $(SHARED) $(LIBDIR)/$(SONAME)
 link $(SHARED) $(LIBDIR)/libpie.so
@@ -113,19 +141,28 @@ link $(SHARED) $(LIBDIR)/libpie.so
 644 include/pie_text.h $(INCLUDEDIR)/pie_text.h
 644 include/pie_flight.h $(INCLUDEDIR)/pie_flight.h
 644 include/pie_follow.h $(INCLUDEDIR)/pie_follow.h
-644 include/pie_link.h $(INCLUDEDIR)/pie_link.h
 644 bindings/c/thread_sanitizer.txt $(DATADIR)/pie/thread_sanitizer.txt
 644 docs/LIBRARY.md $(DOCDIR)/LIBRARY.md
 644 $(BUILD)/pie_c.pc $(LIBDIR)/pkgconfig/pie_c.pc
-644 $(BUILD)/pie_link.pc $(LIBDIR)/pkgconfig/pie_link.pc
 644 $(BUILD)/pie.pc $(LIBDIR)/pkgconfig/pie.pc
 644 dist/juniperbowls-config.cmake $(LIBDIR)/cmake/juniperbowls/juniperbowls-config.cmake
 644 $(BUILD)/juniperbowls-config-version.cmake $(LIBDIR)/cmake/juniperbowls/juniperbowls-config-version.cmake
+endef
+define LINKS
+644 $(BUILD)/libpie_link.a $(LIBDIR)/libpie_link.a
+644 include/pie_link.h $(INCLUDEDIR)/pie_link.h
+644 $(BUILD)/pie_link.pc $(LIBDIR)/pkgconfig/pie_link.pc
 endef
 define LICENCES
 644 LICENSE-MIT $(DOCDIR)/LICENSE-MIT
 644 LICENSE-APACHE $(DOCDIR)/LICENSE-APACHE
 endef
+ifneq ($(PIE_LINK_C_S),)
+define LIBRARY +=
+
+$(LINKS)
+endef
+endif
 export PROGRAM LIBRARY LICENCES
 put = while read -r mode file place; do \
 	case $$mode in \
@@ -135,7 +172,7 @@ put = while read -r mode file place; do \
 	echo "$(DESTDIR)$$place"; \
 	done
 
-install: install-program install-library
+install: $(if $(PIE_S),install-program) install-library
 install-program: program
 	@printf '%s\n' "$$PROGRAM" "$$LICENCES" | $(put)
 install-library: libraries described
@@ -164,13 +201,13 @@ archive: all
 		--numeric-owner -C $(BUILD)/archive juniperbowls-$(VERSION)
 	@echo $(BUILD)/juniperbowls-$(VERSION).tar.gz
 
-# The crate for Rust as a package contains it: with the assembly, for builds outside this repository.
+# The crate for Rust as a package contains it: with the assembly for each processor, for builds outside this repository.
 crate: | $(BUILD)
 	rm -rf $(BUILD)/crate
 	mkdir -p $(BUILD)/crate/assembly
 	cp -r $(filter-out bindings/rust/target,$(wildcard bindings/rust/*)) $(BUILD)/crate
-	cp $(PIE_C_S) $(BUILD)/crate/assembly/pie_c.S
-	cp $(PIE_LINK_C_S) $(BUILD)/crate/assembly/pie_link_c.S
+	for it in dist/*/; do mkdir "$(BUILD)/crate/assembly/$$(basename "$$it")" && cp "$$it"*.S "$(BUILD)/crate/assembly/$$(basename "$$it")" || exit 1; done
+	cp $(PIE_C_S) $(PIE_LINK_C_S) $(BUILD)/crate/assembly/$(PROCESSOR)
 	cp dist/heap.c dist/runtime.h $(BUILD)/crate/assembly
 
 clean:

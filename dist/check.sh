@@ -2,7 +2,9 @@
 # Checks what make built: the six functions of runtime.h; the worked rows and examples by the program; worked rows and examples in C, C++, Rust and
 # Python over the libraries. The parts run at the same time, each in a folder of its own. A line that begins with NOT RUN names what this machine lacks.
 #
-# usage: dist/check.sh [BUILD]      BUILD: the folder that make built in (build)
+# usage: [CC=COMPILER] [RUN=EMULATOR] dist/check.sh [BUILD]
+#        BUILD: the folder that make built in (build); COMPILER: the one that built it (cc)
+#        EMULATOR: a command that runs a program for the processor of BUILD, such as qemu-aarch64; C, the program and the links are then checked
 set -eu
 cd "$(dirname "$0")/.."
 build=$(cd "${1:-build}" && pwd)
@@ -11,16 +13,28 @@ work=$(mktemp -d)
 trap 'rm -rf "$work"' EXIT
 warnings="-Wall -Wextra -Werror"
 export LD_LIBRARY_PATH=$build${LD_LIBRARY_PATH:+:$LD_LIBRARY_PATH}
+run=${RUN-}
+pie=$build/pie
+if [ -n "$run" ]; then
+    # (the C library of Debian's cross compilers)
+    export QEMU_LD_PREFIX=${QEMU_LD_PREFIX:-/usr/$($cc -dumpmachine)}
+    pie=$work/pie
+    printf '#!/bin/sh\nexec %s "%s/pie" "$@"\n' "$run" "$build" > "$pie"
+    chmod +x "$pie"
+fi
+[ -e "$build/pie" ] || pie=''
 
 has() {
     command -v "${1%% *}" > /dev/null
 }
 
-# is_clean HISTORY: the audit finds it clean, with all of its events
+# is_clean HISTORY: the audit finds it clean, with all of its events. On a processor without the program, its C library's sums are compared by the tests of
+# processors
 is_clean() {
     local events found
     events=$(grep -c -E '^(arrive|depart|update|reset|params),' "$1")
-    found=$("$build/pie" audit < "$1") && [ "$found" = "clean,$events" ] || { echo "dist/check.sh: ${1##*/}: $found of $events events" >&2; return 1; }
+    [ -n "$pie" ] || return 0
+    found=$("$pie" audit < "$1") && [ "$found" = "clean,$events" ] || { echo "dist/check.sh: ${1##*/}: $found of $events events" >&2; return 1; }
 }
 
 # compiled FOLDER PROGRAM..: compiles programs of bindings/c to object files
@@ -34,31 +48,34 @@ compiled() {
 }
 
 check_program() {
-    [ "$("$build/pie" --version)" = "pie $(sed -n 's/^#define PIE_VERSION "\(.*\)"$/\1/p' include/pie.h)" ]
-    tests/program/rows.sh "$build/pie"
+    [ "$("$pie" --version)" = "pie $(sed -n 's/^#define PIE_VERSION "\(.*\)"$/\1/p' include/pie.h)" ]
+    tests/program/rows.sh "$pie"
     is_clean bindings/c/example.history
 }
 
 check_examples() {
-    tests/program/examples.sh "$build/pie"
+    tests/program/examples.sh "$pie"
     echo "pie: $(ls examples/*.trace | wc -l) examples"
 }
 
 check_c() {
     local library program
     # shellcheck disable=SC2086
-    $cc -std=c11 -D_GNU_SOURCE $warnings -Idist -o "$1/runtime_test" dist/runtime_test.c "$build/heap.o" "$build/process.o"
-    "$1/runtime_test"
+    if [ -n "$pie" ]; then
+        $cc -std=c11 -D_GNU_SOURCE $warnings -Idist -o "$1/runtime_test" dist/runtime_test.c "$build/heap.o" "$build/process.o" -Wl,--wrap=main,--wrap=open
+        # (an emulator cannot start the program a second time, as it does without arguments)
+        if [ -n "$run" ]; then $run "$1/runtime_test" four '' last; else "$1/runtime_test"; fi
+    fi
     compiled "$1" rows traps events example
     for library in libpie_c.a libpie.so; do
         for program in rows traps events example; do
             $cc -o "$1/$program" "$1/$program.o" "$build/$library"
         done
-        "$1/rows"
-        "$1/traps"
-        "$1/events" 1 500 > "$1/history"
+        $run "$1/rows"
+        $run "$1/traps"
+        $run "$1/events" 1 500 > "$1/history"
         is_clean "$1/history"
-        "$1/example" > "$1/history"
+        $run "$1/example" > "$1/history"
         cmp "$1/history" bindings/c/example.history
         echo "C: rows, traps, events and example ($library)"
     done
@@ -70,12 +87,12 @@ check_threads() {
     compiled "$1" ports threads
     # shellcheck disable=SC2086
     $cc -o "$1/ports" "$1/ports.o" $threads -Wl,--wrap=malloc,--wrap=realloc
-    "$1/ports"
+    $run "$1/ports"
     # shellcheck disable=SC2086
     $cc -o "$1/threads" "$1/threads.o" $threads
-    (cd "$1" && ./threads)
+    (cd "$1" && $run ./threads)
     for excerpt in 1 2 3; do
-        "$build/pie" audit < "$1/excerpt.$excerpt" > "$1/finding"
+        "$pie" audit < "$1/excerpt.$excerpt" > "$1/finding"
     done
     echo "C: threads at a link"
 }
@@ -127,7 +144,7 @@ check_python() {
         echo "NOT RUN: dist/check.sh: no python3 with numpy here, so the module was not tried"
         return
     fi
-    PYTHONPATH=bindings/python/src PYTHONDONTWRITEBYTECODE=1 PIE=$build/pie "$python" - "$1/history" << 'END'
+    PYTHONPATH=bindings/python/src PYTHONDONTWRITEBYTECODE=1 PIE=$pie "$python" - "$1/history" << 'END'
 import sys
 import juniperbowls as jb
 import numpy as np
@@ -140,6 +157,12 @@ END
 }
 
 parts="program examples c threads cxx rust python"
+if [ -z "$pie" ]; then
+    echo "NOT RUN: dist/check.sh: dist/ has no program and no links for this processor, so C alone is checked"
+    parts=c
+elif [ -n "$run" ]; then
+    parts="program examples c threads"
+fi
 for part in $parts; do
     mkdir "$work/$part"
     # (in a shell of its own, so that a command that fails ends the part)

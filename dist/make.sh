@@ -1,8 +1,9 @@
 #!/usr/bin/env bash
-# Makes dist/ anew from the committed crates: the assembly of pie_c, pie_link_c and pie, MANIFEST,
-# and new lines of abi.txt. It needs the toolchain (rt). Proofs that `rt ci`, `rt lib` or `rt check`
-# left are used. The three crates themselves are proved again, unless bindings/c/library.py has just
-# proved them.
+# Makes dist/ anew from the committed crates: the assembly of pie_c, pie_link_c and pie for each
+# processor, MANIFEST, and new lines of abi.txt. It needs the toolchain (rt), and Debian's clang-19 for
+# mipsel. Proofs that `rt ci`, `rt lib` or `rt check` left are used. The three crates themselves are
+# proved again, unless bindings/c/library.py has just proved them. lower.py lowers the module of each
+# crate for the other processors. Links and the program need 64-bit words (docs/DECISIONS.md).
 #
 # usage: dist/make.sh
 set -euo pipefail
@@ -31,18 +32,38 @@ libraries=$!
 assembly pie
 wait "$libraries"
 
-mkdir -p dist/x86_64
-for crate in pie_c pie_link_c; do
-    tests/libraries/dist.py --read "crates/$crate/out/$crate.S"
-    cp "crates/$crate/out/$crate.S" dist/x86_64/
+# lowered TARGET CRATE..: lowers the crates for that processor
+lowered() {
+    local target=$1 crate
+    shift
+    mkdir -p "$work/$target"
+    for crate in "$@"; do
+        dist/lower.py "$target" "crates/$crate/out/$crate.bc" "$work/$target/$crate.S"
+    done
+}
+lowered aarch64 pie_c pie_link_c pie &
+first=$!
+lowered riscv64 pie_c pie_link_c pie
+lowered armv7 pie_c
+lowered mipsel pie_c
+wait "$first"
+mkdir -p "$work/x86_64"
+cp crates/pie_c/out/pie_c.S crates/pie_link_c/out/pie_link_c.S crates/pie/out/pie.S "$work/x86_64/"
+
+for target in x86_64 aarch64 riscv64 armv7 mipsel; do
+    echo "dist/make.sh: $target"
+    tests/libraries/dist.py --read "$target" "$work/$target"/*.S
+    mkdir -p "dist/$target"
+    [ ! -e "$work/$target/pie.S" ] || xz --stdout -9 --extreme "$work/$target/pie.S" > "dist/$target/pie.S.xz"
+    rm -f "$work/$target/pie.S"
+    cp "$work/$target"/*.S "dist/$target/"
 done
-tests/libraries/dist.py --read crates/pie/out/pie.S
-xz --keep --stdout -9 --extreme crates/pie/out/pie.S > dist/x86_64/pie.S.xz
 {
     echo "version $(sed -n 's/^#define PIE_VERSION "\(.*\)"$/\1/p' include/pie.h)"
     echo "commit $(git rev-list -1 HEAD -- crates crates.txt)"
     echo "crates $(git rev-parse HEAD:crates)"
     echo "rt $(rt version)"
-    (cd dist && sha256sum x86_64/*)
+    echo "mipsel $(clang-19 --version | head -n 1)"
+    (cd dist && sha256sum -- */*.S */*.xz | sort -k 2)
 } > dist/MANIFEST
 cat dist/MANIFEST

@@ -7,9 +7,8 @@ each library in out/rlib, without a stamp) or otherwise. If the crate's assembly
 these, nothing is built.
 
 The assembly of a library is crates/CRATE/out/CRATE.S, from the same module and with the same options;
-dist/ has a copy. If CRATE is the program, pie, only its assembly is written.
-If PIE_MODULE is set, the crate is always compiled, and its LLVM module is copied to that file
-(bindings/kernel/make.sh).
+dist/ has a copy. The module is crates/CRATE/out/CRATE.bc, which dist/lower.py lowers for other processors.
+If CRATE is the program, pie, only its assembly and its module are written.
 
 usage: bindings/c/library.py [CRATE]"""
 import importlib.machinery
@@ -23,7 +22,6 @@ import tempfile
 sys.dont_write_bytecode = True
 ROOT = os.path.dirname(os.path.dirname(os.path.dirname(os.path.abspath(__file__))))
 CRATE = (sys.argv[1:] or ["pie_c"])[0]
-MODULE = os.path.abspath(os.environ["PIE_MODULE"]) if "PIE_MODULE" in os.environ else None
 
 
 def toolchain():
@@ -39,7 +37,7 @@ def toolchain():
 # The toolchain's clang behind the wrapper: the call unchanged, then the same module as assembly. GNU's assembler
 # has no .addrsig.
 CLANG = """#!/bin/sh
-{keep}
+cp module.bc "{module}" || exit
 "{clang}" "$@" || exit
 for word do
     shift
@@ -63,7 +61,7 @@ def compile_with_assembly(rtlib, crate):
             os.symlink(f"{real}/bin/{name}", f"{work}/bin/{name}")
         os.remove(f"{work}/bin/clang")
         with open(f"{work}/bin/clang", "w", encoding="utf-8") as it:
-            it.write(CLANG.format(clang=f"{real}/bin/clang", assembly=f"{work}/module.S", keep=f'cp module.bc "{MODULE}" || exit' if MODULE else ""))
+            it.write(CLANG.format(clang=f"{real}/bin/clang", assembly=f"{work}/module.S", module=f"{work}/kept.bc"))
         os.chmod(f"{work}/bin/clang", 0o755)
         call = crate.call
         crate.call = lambda *words: call(*[work if it == real else it for it in words])
@@ -71,6 +69,7 @@ def compile_with_assembly(rtlib, crate):
         status = crate.compile(["--jobs", "1"], f"{work}/module.o" if crate.is_program else f"out/lib{crate.name}.a")
         if status == 0:
             # (the assembly last: if it exists, the library is complete)
+            shutil.move(f"{work}/kept.bc", f"{assembly.removesuffix('.S')}.bc")
             shutil.move(f"{work}/module.S", assembly)
         return status
 
@@ -115,7 +114,9 @@ def build(held):
         rtlib = toolchain()
         crate = next(it for it in rtlib.crates_below(ROOT) if it.name == CRATE)
         proved, assembly = proved_at(crate.below()), f"{crate.folder}/out/{CRATE}.S"
-        is_new = lambda: not MODULE and proved and os.path.isfile(assembly) and max(proved, newest(crate.folder)) < os.path.getmtime(assembly)
+        module = f"{crate.folder}/out/{CRATE}.bc"
+        is_kept = lambda: os.path.isfile(assembly) and os.path.isfile(module)
+        is_new = lambda: proved and is_kept() and max(proved, newest(crate.folder)) < os.path.getmtime(assembly)
         if is_new():
             with_memory()
             return

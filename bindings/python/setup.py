@@ -1,7 +1,10 @@
 """Builds libpie.so for the wheel from the assembly of the proved code, with the Makefile at the top of the
-repository, make and a C compiler. An sdist contains the needed files in library/. The wheel is for this processor
-and this system's C library, and for any Python 3, because the module calls the library through ctypes.
+repository, make and a C compiler. An sdist contains the needed files in library/. The wheel is for the processor and
+the C library of the compiler, which CC names, and for any Python 3, because the module calls the library through ctypes.
 pyproject.toml has the other settings."""
+import os
+import platform
+import shlex
 import shutil
 import subprocess
 import tempfile
@@ -17,7 +20,8 @@ MADE = HERE / "out"
 TOP = HERE / "library" if (HERE / "library").is_dir() else HERE.parent.parent
 # the files from which the Makefile builds the library
 SOURCES = ["Makefile", "LICENSE-MIT", "LICENSE-APACHE", "include/pie.h", "include/pie_link.h", "bindings/python/native/pie_arrays.c",
-           "bindings/python/native/pie_arrays.h", "dist/abi.txt", "dist/heap.c", "dist/runtime.h", "dist/x86_64/pie_c.S", "dist/x86_64/pie_link_c.S"]
+           "bindings/python/native/pie_arrays.h", "dist/abi.txt", "dist/heap.c", "dist/runtime.h"]
+SOURCES += sorted(str(it.relative_to(TOP)) for it in TOP.glob("dist/*/*.S"))
 
 
 class WithLibrary(build_py):
@@ -48,7 +52,10 @@ class OfThisProcessor(Distribution):
 
 class ForAnyPython(bdist_wheel):
     def get_tag(self):
-        return "py3", "none", super().get_tag()[2]
+        words = [*shlex.split(os.environ.get("CC", "cc")), "-dumpmachine"]
+        machine = subprocess.run(words, stdout=subprocess.PIPE, text=True, check=True).stdout.split("-")[0]
+        here = super().get_tag()[2]
+        return "py3", "none", here if machine == platform.machine() else f"linux_{'armv7l' if machine == 'arm' else machine}"
 
 
 # (files of an earlier wheel may have been removed since)

@@ -8,8 +8,9 @@
 # needs: library, program
 set -eu
 cd "$(dirname "$0")/../.."
-if ! command -v cargo > /dev/null || ! command -v cc > /dev/null || [ "$(rustc --version | cut -d. -f2)" -lt 82 ]; then
-    echo "NOT RUN: bindings/rust: no cargo (1.82 or later) and C compiler here, so the rows and the examples in Rust were not built"
+least=$(sed -n 's/^rust-version = "\(.*\)"$/\1/p' bindings/rust/Cargo.toml)
+if ! command -v cargo > /dev/null || ! command -v cc > /dev/null || [ "$(rustc --version | cut -d. -f2)" -lt "${least#1.}" ]; then
+    echo "NOT RUN: bindings/rust: no cargo ($least or later; Debian 12 has 1.63) and C compiler here, so the rows and the examples in Rust were not built"
     exit 0
 fi
 bindings/c/library.py > /dev/null
@@ -24,6 +25,22 @@ work=$(mktemp -d)
 working=
 trap '[ -z "$working" ] || kill -KILL "$working" 2> /dev/null || true; rm -rf "$work"' EXIT
 history=$work/history
+# the compiler of the target comes before CC, and a library may be in any folder of a prefix
+target=$(rustc -vV | sed -n 's/^host: //p')
+mkdir -p "$work/prefix/lib/x86_64-linux-gnu"
+cp ../../crates/pie_c/out/libpie_c.a "$work/prefix/lib/x86_64-linux-gnu"
+ln -s "$(command -v cc)" "$work/target_cc"
+for choice in "CC_$target" "CC_${target//-/_}" HOST_CC; do
+    rm -rf "$work/built"
+    env PIE_C_PREFIX= CC=false "$choice=$work/target_cc" cargo build --offline --locked --quiet --target-dir "$work/built" ||
+        { echo "bindings/rust/check.sh: the build does not use $choice" && exit 1; }
+done
+rm -rf "$work/built"
+! env PIE_C_PREFIX= CC=false cargo build --offline --locked --quiet --target-dir "$work/built" 2> /dev/null ||
+    { echo "bindings/rust/check.sh: the build does not use CC" && exit 1; }
+PIE_C_PREFIX=$work/prefix cargo run --offline --locked --quiet --target-dir "$work/built" --example queue > /dev/null ||
+    { echo "bindings/rust/check.sh: the library below a prefix is not found" && exit 1; }
+rm -rf "$work/built"
 cargo run --offline --locked --quiet --features std --example recorded > "$history"
 events=$(grep -c -E '^(arrive|depart|update|reset|params),' "$history")
 found=$("$program" audit < "$history")
@@ -97,7 +114,7 @@ if [ "$found" -lt "$before" ]; then
 fi
 cd ../..
 shared=examples/shared
-"${CC:-cc}" -O1 -std=c11 -Iinclude -I$shared -o "$work/flight_text" $shared/flight_text.c $shared/flight_file.c $shared/control.c \
+"${CC:-cc}" -O1 -std=c11 -Iinclude -I$shared -o "$work/flight_text" $shared/flight_text.c $shared/flight_file.c $shared/output.c \
     crates/pie_c/out/libpie_c.a -pthread -lm
 "$work/flight_text" "$work/flight" | cmp - "$work/text"
 echo "bindings/rust: $texts texts of a working queue are clean, and what it left when it was killed is too ($found events), as C writes it as well"

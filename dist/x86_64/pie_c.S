@@ -4386,8 +4386,10 @@ pie_check_state:
 	.p2align	4
 	.type	pie_default_opening,@function
 pie_default_opening:
-	movq	%rsi, %rax
+	testq	%rsi, %rsi
+	je	.LBB32_1
 	movabsq	$-3689348814741910323, %rcx
+	movq	%rsi, %rax
 	mulq	%rcx
 	shrq	$5, %rdx
 	shrdq	$3, %rax, %rax
@@ -4396,19 +4398,23 @@ pie_default_opening:
 	cmpq	%rcx, %rax
 	seta	%sil
 	addq	%rdx, %rsi
-	cmpq	$262145, %rsi
+	cmpq	$48449, %rsi
+	movl	$48448, %ecx
+	cmovaeq	%rsi, %rcx
+	cmpq	$1073741824, %rcx
+	movl	$1073741824, %eax
+	cmovbq	%rcx, %rax
+	jmp	.LBB32_3
+.LBB32_1:
 	movl	$262144, %eax
-	cmovaeq	%rsi, %rax
-	cmpq	$1073741824, %rax
-	movl	$1073741824, %ecx
-	cmovbq	%rax, %rcx
+.LBB32_3:
 	movq	$15000000, (%rdi)
 	movq	$15000000, 8(%rdi)
 	movq	$150000000, 16(%rdi)
 	movq	$125, 24(%rdi)
 	movq	$1250, 32(%rdi)
 	movq	$1024, 40(%rdi)
-	movq	%rcx, 48(%rdi)
+	movq	%rax, 48(%rdi)
 	movabsq	$100000000000, %rax
 	movq	%rax, 56(%rdi)
 	movq	$16384, 64(%rdi)
@@ -4707,8 +4713,10 @@ pie_open_period:
 	.p2align	4
 	.type	pie_params_for,@function
 pie_params_for:
-	movq	%rdi, %rax
+	testq	%rdi, %rdi
+	je	.LBB40_1
 	movabsq	$-3689348814741910323, %rcx
+	movq	%rdi, %rax
 	mulq	%rcx
 	shrq	$5, %rdx
 	shrdq	$3, %rax, %rax
@@ -4717,19 +4725,23 @@ pie_params_for:
 	cmpq	%rcx, %rax
 	seta	%dil
 	addq	%rdx, %rdi
-	cmpq	$262145, %rdi
+	cmpq	$48449, %rdi
+	movl	$48448, %ecx
+	cmovaeq	%rdi, %rcx
+	cmpq	$1073741824, %rcx
+	movl	$1073741824, %eax
+	cmovbq	%rcx, %rax
+	jmp	.LBB40_3
+.LBB40_1:
 	movl	$262144, %eax
-	cmovaeq	%rdi, %rax
-	cmpq	$1073741824, %rax
-	movl	$1073741824, %ecx
-	cmovbq	%rax, %rcx
+.LBB40_3:
 	movq	$15000000, (%rsi)
 	movq	$15000000, 8(%rsi)
 	movq	$150000000, 16(%rsi)
 	movq	$125, 24(%rsi)
 	movq	$1250, 32(%rsi)
 	movq	$1024, 40(%rsi)
-	movq	%rcx, 48(%rsi)
+	movq	%rax, 48(%rsi)
 	movabsq	$100000000000, %rax
 	movq	%rax, 56(%rsi)
 	movq	$16384, 64(%rsi)

@@ -1,7 +1,9 @@
 """Histories and explanations as frames: each number is the one that `pie` printed."""
 import csv
 import io
+import os
 import subprocess
+from pathlib import Path
 
 import numpy as np
 import pandas as pd
@@ -168,3 +170,76 @@ def test_many_rows_stay_in_order(tmp_path):
     told = jb.explain(place, pie=PIE)
     assert np.array_equal(told.number, np.arange(1, len(events) + 1)) and np.array_equal(told.moment, events["moment"])
     assert np.array_equal(told.probability_after[events["kind"] == 3], events["prob"][events["kind"] == 3])
+
+
+OPENING = "open3,1,stamp,derandomized,capped,unscaled,rolling,0,1000,1024,140737488355328\n"
+
+
+@pytest.mark.parametrize("line", ["arrive,1,2,3,4294967297,not,5,enqueue", "arrive,1,2,3,-1500,not,5,enqueue", "arrive,65537,2,3,4,not,5,enqueue",
+                                  "arrive,1,2,18446744073709551616,4,not,5,enqueue", "arrive,1,2,3,1e3,not,5,enqueue", "arrive,1,2,3, 4,not,5,enqueue",
+                                  "arrive,1,2,3,+4,not,5,enqueue", "arrive,1,2,3,4.0,not,5,enqueue", 'arrive,1,2,3,"4",not,5,enqueue',
+                                  "arrive,1,2,3,,not,5,enqueue", "arrive,1,2,3,4\u0664,not,5,enqueue", "update,3,1,2,3,18446744073709551616",
+                                  "params,3,1,-5,1,1,1,1,1,1,1,1,done"])
+def test_numbers_out_of_range(line, tmp_path):
+    (tmp_path / "history").write_text(f"{OPENING}arrive,1,1,1,1,not,1,enqueue\n{line}\n", encoding="utf-8")
+    for call in (jb.read_events, jb.read_history):
+        with pytest.raises(ValueError):
+            call(tmp_path / "history")
+
+
+@pytest.mark.parametrize("line", ["open,0,-4,16,100", "open,0,4,+16,100", "open, 0,4,16,100", "open,0,4,1_6,100", "open,0,4,16,18446744073709551616",
+                                  "open,0,4,16,100,5", "open,0,4,16,\u0661", "open2,-1,bounded,0,4,16,100"])
+def test_openings_out_of_range(line, tmp_path):
+    (tmp_path / "history").write_text(line + "\n", encoding="utf-8")
+    for call in (jb.read_opening, jb.read_events, jb.read_history):
+        with pytest.raises(ValueError, match="no opening"):
+            call(tmp_path / "history")
+
+
+def test_an_excerpt_that_lacks_fields(tmp_path):
+    done = subprocess.run([PIE, "cut", "--last", "30", OVERLOAD], capture_output=True, check=True, text=True)
+    first, rest = done.stdout.split("\n", 1)
+    for count in (25, 29, 30):
+        (tmp_path / "cut").write_text(",".join(first.split(",")[:count]) + "\n" + rest)
+        with pytest.raises(ValueError):
+            jb.read_history(tmp_path / "cut")
+
+
+@pytest.mark.parametrize("name", [b"caf\xe9.history", b"\xff\xfe", "caf\u00e9".encode(), b"-x", b"a\nb"], ids=repr)
+def test_names_are_bytes(name, tmp_path):
+    place = bytes(tmp_path) + b"/" + name
+    with jb.Queue(jb.Opening.for_rate("10mbit"), place, seed=1) as queue:
+        queue.offer(np.arange(9) * 10**6, 1500, "10mbit")
+    for it in (place, os.fsdecode(place), Path(os.fsdecode(place))):
+        events = jb.audit(it, PIE).event
+        assert len(jb.explain(it, pie=PIE)) == len(jb.read_history(it)) == len(jb.read_events(it)) == events > 9
+        assert jb.read_opening(it) == jb.Opening.for_rate("10mbit")
+        assert sum(len(part) for part in jb.explain_parts(it, rows=2, pie=PIE)) == events
+    with pytest.raises(ValueError, match="no opening"):
+        Path(os.fsdecode(place)).write_text("nothing\n")
+        jb.read_events(place)
+
+
+def test_a_fault_with_bytes_that_are_no_text(tmp_path):
+    (tmp_path / "history").write_bytes(OPENING.encode() + b"arr\xe9,1\n")
+    for call in (jb.audit, jb.explain):
+        with pytest.raises(jb.Fault):
+            call(tmp_path / "history", pie=PIE)
+
+
+@pytest.mark.parametrize("options", [["--all", "-o", "x"], ["--all", "-ox"], ["--all", "--output", "x"], ["--all", "--output=x"], ["--help"], ["-h"]],
+                         ids=" ".join)
+def test_options_without_a_table(options, tmp_path, monkeypatch):
+    monkeypatch.chdir(tmp_path)
+    for call in (jb.explain, lambda *words, pie: list(jb.explain_parts(*words, pie=pie))):
+        with pytest.raises(ValueError, match="no table"):
+            call(OVERLOAD, *options, pie=PIE)
+    assert not list(tmp_path.iterdir())
+
+
+def test_a_frame_of_no_events():
+    events = jb.read_events(OVERLOAD)
+    for wrong, kind in ((events.reshape(1, -1), ValueError), (1, TypeError), (events["moment"], TypeError)):
+        with pytest.raises(kind, match="events"):
+            jb.frame(wrong)
+    assert len(jb.frame(events[3])) == 1

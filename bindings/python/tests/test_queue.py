@@ -3,6 +3,8 @@ import copy
 import io
 import multiprocessing
 import pickle
+import sys
+import threading
 import time
 from collections import deque
 
@@ -388,3 +390,106 @@ def test_a_million_arrivals():
     arrivals = events[events["kind"] == Kind.ARRIVE]
     assert np.array_equal(arrivals["tag"], np.arange(MILLION)) and len(events) > 1.8 * MILLION
     assert 0.05 < np.isin(arrivals["answer"], (2, 3, 4)).mean() < 0.3
+
+
+def six_events():
+    return jb.events([1, 1, 1, 3, 2, 4], [1, 2, 3, 15_000_000, 15_000_001, 15_000_002], size=[100, 200, 300, 0, 0, 0], tag=[7, 8, 9, 0, 0, 0],
+                     word=[11, 12, 13, 0, 0, 0], caller=1)
+
+
+def test_fields_in_another_order_go_by_name(tmp_path):
+    wanted, opening = Queue(Opening.for_rate("10mbit")).decide(six_events()), Opening.for_rate("10mbit")
+    for kinds in (dict.fromkeys(jb.EVENT.names, "<i8"), dict.fromkeys(jb.EVENT.names, ">u8"), {name: jb.EVENT[name] for name in jb.EVENT.names}):
+        other = np.zeros(6, [(name, kinds[name]) for name in reversed(jb.EVENT.names)])
+        for name in jb.EVENT.names:
+            other[name] = six_events()[name]
+        made = Queue(opening).decide(other)
+        assert np.array_equal(made, wanted) and made.dtype == jb.EVENT
+        decided = other.copy()
+        for name in jb.EVENT.names:
+            decided[name] = wanted[name]
+        assert jb.text_of(opening, decided) == jb.text_of(opening, wanted)
+    wide = np.zeros(1, [(name, "<i8") for name in jb.EVENT.names])
+    for name, value in (("size", 2**32 + 1), ("size", -1500), ("caller", 65_537), ("ecn", 256), ("kind", 257), ("moment", -1)):
+        wrong = wide.copy()
+        wrong["kind"], wrong[name] = 1, value
+        for call in (Queue(opening).decide, lambda it: jb.text_of(opening, it)):
+            with pytest.raises(ValueError, match=name):
+                call(wrong)
+
+
+def test_what_is_no_array_of_events():
+    opening, events = Opening.for_rate("10mbit"), six_events()
+    masked = np.ma.array(events, mask=[(False,) * len(jb.EVENT.names)] * 5 + [(True,) + (False,) * (len(jb.EVENT.names) - 1)])
+    lacks = events[["moment", "tag", "size", "kind", "caller", "ecn"]]
+    queue = Queue(opening)
+    for wrong, kind in ((1, TypeError), ([1], TypeError), (None, TypeError), ([(1,) * 11], TypeError), (np.zeros(3, "u8"), TypeError), (lacks, TypeError),
+                        (masked, TypeError), (masked[5], TypeError), (events.reshape(2, 3), ValueError), (events.reshape(6, 1), ValueError)):
+        for call in (queue.decide, lambda it: jb.text_of(opening, it)):
+            with pytest.raises(kind, match="events"):
+                call(wrong)
+    assert queue.packets == 0 and queue.state.moment == 0
+    assert len(queue.decide(np.ma.array(events[:1]))) == len(queue.decide(events[1])) == 1 and queue.packets == 2
+    assert list(queue.decide(events[::-1][3:], keeps_refused=2**40)["tag"]) == [9, 8, 7]
+
+
+def test_masked_numbers_are_refused():
+    queue, numbers = Queue(Opening.for_rate("10mbit")), np.ma.array([5, 6], mask=[False, True])
+    for call in (lambda: jb.events(1, numbers, size=9), lambda: jb.events(1, [5, 6], size=numbers), lambda: jb.events(1, [5], size=np.ma.masked),
+                 lambda: queue.offer(numbers, 9, "1mbit"), lambda: queue.offer([5, 6], 9, "1mbit", words=numbers)):
+        with pytest.raises(TypeError, match="masked"):
+            call()
+    assert queue.state.moment == 0
+    assert list(jb.events(1, np.ma.array([5, 6]), size=9)["moment"]) == [5, 6]
+
+
+class Interrupted(io.BytesIO):
+    """A file that lets another thread make its call while the record of `during` is written."""
+
+    during, call, other = b"", None, None
+
+    def write(self, text):
+        if self.other is None and self.during and bytes(text).startswith(self.during):
+            self.other = threading.Thread(target=self.call)
+            self.other.start()
+            self.other.join(2)  # (its call waits for the end of this one, so that it never ends in this time)
+        return super().write(text)
+
+
+@pytest.mark.parametrize("owner", [Queue, jb.Controller], ids=["queue", "controller"])
+def test_threads_take_turns(owner):
+    out, opening = Interrupted(), Opening.for_rate("10mbit")
+    made = owner(opening, jb.Recorder(out, opening))
+
+    def arrive(moment):
+        return made.arrive(moment, 100, word=1) if owner is Queue else made.arrive(0, 100, 9, 0, 1, moment)
+
+    out.during, out.call = b"arrive,1,1,", lambda: arrive(2)
+    arrive(1)
+    out.other.join()
+    made.reset(3)
+    moments = [line.split(",")[2] for line in out.getvalue().decode().splitlines()[1:]]
+    assert moments == ["1", "2", "3"]
+
+
+def test_many_threads_on_one_queue(tmp_path):
+    """Threads that switch often, while the ring of packets grows: no packet is lost, and the history is clean."""
+    place, before = tmp_path / "history", sys.getswitchinterval()
+    sys.setswitchinterval(1e-6)
+    try:
+        with Queue(Opening.for_rate("10mbit", packets=1 << 20, limit_bytes=1 << 30), place, seed=1) as queue:
+            def pass_packets(at):
+                for _ in range(5):
+                    queue.decide(jb.events(1, np.arange(400, dtype="u8"), size=100, tag=at, word=2**64 - 1))
+                    for _ in range(100):
+                        queue.arrive(0, 100, word=2**64 - 1)
+
+            threads = [threading.Thread(target=pass_packets, args=(at,)) for at in range(4)]
+            for it in threads:
+                it.start()
+            for it in threads:
+                it.join()
+            assert (queue.packets, queue.bytes, len(queue.waiting)) == (10_000, 1_000_000, 10_000)
+    finally:
+        sys.setswitchinterval(before)
+    assert jb.audit(place, PIE) == jb.Finding("clean", 10_000)

@@ -31,6 +31,8 @@
 //! writes a history for `pie audit` and `pie explain`. A program that runs for months keeps the last events only, in a
 //! [`Flight`] recorder.
 //!
+//! The crate needs Rust 1.82. Debian 13 has 1.85; Debian 12 has 1.63, so use rustup there.
+//!
 //! One thread at a time uses a [`State`]. With the feature `link`, which needs the library `libpie_link.a` too, several threads
 //! share one controller through a `Link`, each with a `Port` of its own.
 #![no_std]

@@ -106,8 +106,9 @@ impl Params {
         dq_threshold: 0,
     };
 
-    /// Returns the default parameters for a link of this rate, in bits per second. `limit_bytes` is 200 ms at that rate, but at least its default and
-    /// at most 2^30: 86 ms at 100 Gbit/s.
+    /// Returns the default parameters for a link of this rate, in bits per second. `limit_bytes` is 200 ms at that rate, at least
+    /// 48448 (32 packets of 1514 bytes) and at most 2^30: 775 ms at 500 kbit/s, 86 ms at 100 Gbit/s. If the rate is 0, it is unknown, and
+    /// `limit_bytes` has its default.
     #[must_use]
     pub fn for_rate(rate: u64) -> Params {
         let mut params = Params::UNSET;

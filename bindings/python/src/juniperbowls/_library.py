@@ -2,8 +2,10 @@
 from __future__ import annotations
 
 import ctypes
+import types
 from ctypes import POINTER, Structure, c_char_p, c_size_t, c_uint8, c_uint16, c_uint32, c_uint64, c_void_p
 from pathlib import Path
+from typing import Any
 
 NINE = ("target", "t_update", "max_burst", "alpha", "beta", "mean_pkt", "limit_bytes", "mark_ecnth", "dq_threshold")
 RECORD_ROOM = 256
@@ -80,14 +82,21 @@ CALLS: dict[str, tuple[object, tuple[object, ...]]] = {
 }
 
 
-def _load() -> ctypes.CDLL:
-    """Loads the library in the wheel, or the system's library if the wheel has none."""
+_LOOPS = ("pie_array_decide", "pie_array_offer", "pie_array_write")
+
+
+def _load() -> Any:
+    """Returns the calls of the library in the wheel, or of the system's library if the wheel has none. Loops over arrays
+    release Python's global lock; the other calls are shorter than its release."""
     beside = Path(__file__).with_name("libpie.so.0")
-    library = ctypes.CDLL(str(beside) if beside.exists() else "libpie.so.0")
+    place = str(beside) if beside.exists() else "libpie.so.0"
+    short, loops = ctypes.PyDLL(place), ctypes.CDLL(place)
+    calls = types.SimpleNamespace()
     for name, (result, takes) in CALLS.items():
-        call = getattr(library, name)
+        call = getattr(loops if name in _LOOPS else short, name)
         call.restype, call.argtypes = result, takes
-    return library
+        setattr(calls, name, call)
+    return calls
 
 
 LIBRARY = _load()

@@ -5,17 +5,17 @@ from __future__ import annotations
 import contextlib
 import io
 import os
+import re
 import subprocess
 import tempfile
 from collections.abc import Generator, Iterator
-from os import fspath
 from typing import IO, TYPE_CHECKING, Any, NamedTuple
 
 import numpy as np
 import numpy.typing as npt
 
 from .controller import Kind
-from .history import EVENT, Events, Place
+from .history import EVENT, Events, Place, as_events, column
 from .opening import Choices, Mode, Opening, Params, Profile
 
 if TYPE_CHECKING:
@@ -61,7 +61,7 @@ def audit(history: Place, pie: str | None = None) -> Finding:
     """Audits a history by `pie audit`. `pie` names the program; the default is $PIE, or else `pie`
     on the path."""
     with open(history, "rb") as text:
-        done = subprocess.run([_program(pie), "audit"], stdin=text, capture_output=True, text=True, check=False)
+        done = subprocess.run([_program(pie), "audit"], stdin=text, capture_output=True, text=True, errors="replace", check=False)
     if done.returncode not in (0, 2):
         raise Fault(done.stderr.strip(), done.returncode)
     word, _, event = done.stdout.strip().partition(",")
@@ -72,10 +72,13 @@ def explain(history: Place, *options: str, pie: str | None = None) -> pd.DataFra
     """Returns the output of `pie explain` for a history with these options (`--all` by default),
     for example `explain(place, "--every", "100ms")`. The columns are those of docs/FORMATS.md,
     "Explanations". With `--wall` the column `wall` has texts if a time is later than 2262-04-11,
-    the last day of pandas. Raises `Fault` if the history has a fault or an event that differs."""
+    the last day of pandas. Raises `Fault` if the history has a fault or an event that differs, and
+    `ValueError` for options that print no table (`-o`, `--help`)."""
     import pandas as pd
 
     parts = list(_explained(history, options, 500_000, pie))
+    if not parts:
+        raise ValueError(f"pie explain prints no table with the options {options}")
     if len(parts) == 1:
         return _timed(parts[0])
     every = {name: pd.api.types.union_categoricals([part[name] for part in parts]) for name in _WORDS if name in parts[0]}
@@ -103,9 +106,13 @@ def _timed(rows: pd.DataFrame) -> pd.DataFrame:
 
 
 def _explained(history: Place, options: tuple[str, ...], rows: int, pie: str | None) -> Generator[pd.DataFrame, None, None]:
-    words = [_program(pie), "explain", *(options or ("--all",)), "--csv", "--", fspath(history)]
-    with tempfile.TemporaryFile() as errors:
-        with subprocess.Popen(words, stdout=subprocess.PIPE, stderr=errors) as process:
+    elsewhere = [it for it in options if re.fullmatch(r"-[oh].*|--(output|help)(=.*)?", it, re.S)]
+    if elsewhere:
+        raise ValueError(f"pie explain prints no table with the option {elsewhere[0]}")
+    # (the history is the standard input: its name may be no text)
+    words = [_program(pie), "explain", *(options or ("--all",)), "--csv"]
+    with tempfile.TemporaryFile() as errors, open(history, "rb") as text:
+        with subprocess.Popen(words, stdin=text, stdout=subprocess.PIPE, stderr=errors) as process:
             assert process.stdout is not None
             try:
                 yield from _parts(process.stdout, rows)
@@ -170,6 +177,7 @@ def frame(events: Events, first: int = 1) -> pd.DataFrame:
     event; a refused event has no number."""
     import pandas as pd
 
+    events = as_events(events)
     kind, is_refused = events["kind"], events["answer"] > 100
     arrives, departs, updates = ((kind == it) & ~is_refused for it in (Kind.ARRIVE, Kind.DEPART, Kind.UPDATE))
     left = departs & (events["answer"] == 0)
@@ -196,13 +204,27 @@ def read_history(history: Place) -> pd.DataFrame:
     audited; use `audit`. Raises `ValueError` if the file is no history."""
     events = read_events(history)
     with open(history, "rb") as text:
-        beginning = text.readline().removeprefix(b"\xef\xbb\xbf").split(b",")
-    return frame(events, int(beginning[_count_at(beginning)]) + 1 if beginning[0] == b"resume" else 1)
+        beginning = text.readline().removeprefix(b"\xef\xbb\xbf").decode("latin-1").rstrip("\r\n").split(",")
+    try:
+        return frame(events, _number(beginning[_count_at(beginning)]) + 1 if beginning[0] == "resume" else 1)
+    except IndexError:
+        raise ValueError(f"{_shown(history)}: its first record lacks fields") from None
 
 
-def _count_at(fields: list[bytes]) -> int:
+def _count_at(fields: list[str]) -> int:
     """Returns the position of the number of events in a `resume` record: 29, or 30 if the record has the decay."""
-    return 29 + (fields[6] in (b"zero", b"half"))
+    return 29 + (fields[6] in ("zero", "half"))
+
+
+def _number(text: str) -> int:
+    """Returns the number of a field: decimal digits, below 2^64."""
+    if not re.fullmatch("[0-9]+", text) or len(text) > 20 or int(text) >= 1 << 64:
+        raise ValueError(f"{text[:30]!r} is no number of a history")
+    return int(text)
+
+
+def _shown(history: Place) -> str:
+    return os.fsdecode(history)
 
 
 def read_opening(history: Place) -> Opening:
@@ -212,16 +234,18 @@ def read_opening(history: Place) -> Opening:
     profile, choices = Profile.ALWAYS_ON, Choices.USUAL
     try:
         if kind in ("open2", "open3", "resume"):
-            profile = Profile(int(fields.pop(0)))
+            profile = Profile(_number(fields.pop(0)))
         if kind in ("open3", "resume"):
             words = [fields.pop(0) for _ in range(5 if fields[4] in ("zero", "half") else 4)]
             choices = Choices(sum(_CHOSEN[at].index(word) << at for at, word in enumerate(words)))
         mode = _MODES[kind if kind in ("open", "rolling") else fields.pop(0)]
-        numbers = [int(it) for it in fields[:13]]
+        if len(fields) not in ((53,) if kind == "resume" else (4, 13)):
+            raise ValueError(f"{len(fields)} fields")
+        numbers = [_number(it) for it in fields[:13]]
         params = Params(*numbers[4:]) if len(numbers) > 4 else Params.default()
         moment, packets, tail, events = numbers[:4]
     except (KeyError, IndexError, TypeError, ValueError):
-        raise ValueError(f"{fspath(history)}: its first record says no opening") from None
+        raise ValueError(f"{_shown(history)}: its first record says no opening") from None
     return Opening(params, moment, profile, choices, mode, packets, tail, events)
 
 
@@ -239,13 +263,16 @@ _FIELDS: dict[tuple[bytes, int], tuple[str, ...]] = {
     (b"params", 13): (*(f"parameter {it}" for it in range(9)), "answer"),
 }
 _CODES = {"enqueue": 0, "mark": 1, "early": 2, "bytes": 3, "packets": 4, "left": 0, "empty": 5, "done": 0}
+# digits become 0, letters a, commas and line feeds stay, and all other bytes become ?
+_SORTS = bytes(it if it in b",\n" else ord("0") if chr(it) in "0123456789" else ord("a") if 97 <= it <= 122 else ord("?") for it in range(256))
 _NOTES = frozenset((b"", b"refused", b"folded", b"shown", b"tallied", b"clock", b"queued"))
 
 
 def read_events(history: Place) -> Events:
     """Returns the events of a history as a numpy array, without notes. The file was written by
     `pie` or the library. A `Queue` with another opening can decide the events again. New parameters
-    are events of kind 5 without the parameters. Raises `ValueError` if the file is no history."""
+    are events of kind 5 without the parameters. Raises `ValueError` if the file is no history, or if
+    a number is out of its range."""
     read_opening(history)
     with open(history, "rb") as text:
         lines = text.read().replace(b"\r\n", b"\n").split(b"\n")
@@ -261,9 +288,9 @@ def read_events(history: Place) -> Events:
             else:
                 at.append(n)
         elif kind not in _NOTES:
-            raise ValueError(f"{fspath(history)}: line {n + 1} is no record of a history")
+            raise ValueError(f"{_shown(history)}: line {n + 1} is no record of a history")
     if wrong:
-        raise ValueError(f"{fspath(history)}: {wrong} records have a wrong number of fields")
+        raise ValueError(f"{_shown(history)}: {wrong} records have a wrong number of fields")
     found = [_events_of(kind, names, [lines[n] for n in places[kind, count]]) for (kind, count), names in _FIELDS.items()]
     return np.concatenate(found)[np.argsort(np.concatenate([np.array(at, np.int64) for at in places.values()]))]
 
@@ -276,8 +303,15 @@ def _events_of(kind: bytes, names: tuple[str, ...], lines: list[bytes]) -> Event
     made["kind"] = Kind[kind.decode().upper()]
     if not lines:
         return made
+    text = b"\n".join(lines)
+    kinds = text.translate(_SORTS)
+    if b"?" in kinds or b"0a" in kinds:  # (pandas would read signs, spaces, quotes, fractions and exponents)
+        raise ValueError("a field is neither a number nor a word of a history")
     types = {name: "category" if name in ("ecn", "answer", "kind") else "uint64" for name in ("kind", "caller", "moment", *names)}
-    table = pd.read_csv(io.BytesIO(b"\n".join(lines)), names=list(types), dtype=types, na_filter=False)
+    try:
+        table = pd.read_csv(io.BytesIO(text), names=list(types), dtype=types, na_filter=False)
+    except OverflowError:
+        raise ValueError("a number does not fit in 64 bits without a sign") from None
     for name in types:
         if name in ("ecn", "answer"):
             codes = {word: code for code, word in enumerate(ECN)} if name == "ecn" else _CODES
@@ -286,5 +320,5 @@ def _events_of(kind: bytes, names: tuple[str, ...], lines: list[bytes]) -> Event
                 raise ValueError(f"{strange[0]!r} is no word of a history")
             made[name] = np.array([codes[it] for it in table[name].cat.categories], np.uint32)[table[name].cat.codes]
         elif name in (EVENT.names or ()) and name != "kind":
-            made[name] = table[name]
+            made[name] = column(name, table[name].to_numpy(), EVENT[name].str)
     return made

@@ -3,6 +3,7 @@ from __future__ import annotations
 
 import ctypes
 import io
+import operator
 from collections.abc import Callable
 from ctypes import byref, c_size_t, c_uint64
 from os import PathLike, fspath
@@ -19,8 +20,66 @@ from .opening import Opening, Params, whole
 EVENT = np.dtype([*((name, "<u8") for name in ("moment", "tag", "word", "delay", "prob", "burst")), ("size", "<u4"), ("answer", "<u4"),
                   ("caller", "<u2"), ("kind", "u1"), ("ecn", "u1"), ("reserved", "<u4")])
 Events = npt.NDArray[np.void]
-Place = Union[str, "PathLike[str]"]
+Place = Union[str, bytes, "PathLike[str]", "PathLike[bytes]"]
 _AT_ONCE = 4096
+
+
+def _is_masked(values: object) -> bool:
+    """Returns true if a value of a masked array is masked."""
+    if not isinstance(values, np.ma.MaskedArray):
+        return False
+    return bool(np.ma.flatten_mask(np.ma.getmaskarray(values)).any())  # type: ignore[no-untyped-call]
+
+
+def _whole(name: str, values: npt.NDArray[Any]) -> npt.NDArray[Any]:
+    """Returns objects as an array of 64-bit numbers. The objects are Python integers, which numpy
+    would convert to floating point if some are above 2^63 - 1, or columns of pandas that may lack
+    numbers."""
+    try:
+        numbers = [operator.index(it) for it in values.flat]
+    except TypeError:
+        raise TypeError(f"{name}: these are not whole numbers, or one is missing") from None
+    if min(numbers) < 0 or max(numbers) >= 1 << 64:
+        raise ValueError(f"{name}: a number does not fit in 64 bits without a sign")
+    return np.array(numbers, np.uint64).reshape(values.shape)
+
+
+def column(name: str, values: npt.ArrayLike, kind: str, count: int | None = None) -> npt.NDArray[Any]:
+    """Returns whole numbers as an array of this type, without truncation by numpy; one number is repeated `count`
+    times."""
+    if _is_masked(values):
+        raise TypeError(f"{name}: a number is masked")
+    found = np.asarray(values)
+    if found.dtype.kind == "b":
+        raise TypeError(f"{name}: these are truth values, and no numbers")
+    if found.dtype.kind not in "iu" and found.size:
+        found = _whole(name, np.asarray(values, dtype=object))
+    is_within = not found.size or (found.dtype.kind == "u" or found.min() >= 0) and (found.dtype == kind or int(found.max()) <= np.iinfo(kind).max)
+    if not is_within:
+        raise ValueError(f"{name}: a number does not fit in {np.iinfo(kind).bits} bits without a sign")
+    if found.ndim > 1 or (count is not None and found.ndim == 1 and len(found) != count):
+        raise ValueError(f"{name}: there are {found.shape} numbers, and {count} are wanted")
+    numbers: npt.NDArray[Any] = np.atleast_1d(found.astype(kind, copy=False))
+    return np.broadcast_to(numbers, (count,)) if count is not None and found.ndim == 0 else numbers
+
+
+def as_events(values: object) -> Events:
+    """Returns events as an array of one dimension and of the type EVENT; one event becomes an array. Fields in another
+    order are matched by their names. Raises `TypeError` if `values` is not an array with the fields of EVENT or has a
+    masked value, and `ValueError` if it has several dimensions or a number out of its range."""
+    if _is_masked(values):
+        raise TypeError("events: a value is masked")
+    if not isinstance(values, (np.ndarray, np.void)) or set(values.dtype.names or ()) != set(EVENT.names or ()):
+        raise TypeError("events: these are not events of the type EVENT, which `events` makes")
+    found: Events = np.atleast_1d(np.asarray(values))
+    if found.ndim > 1:
+        raise ValueError(f"events: an array of one dimension is wanted, and not one of the shape {found.shape}")
+    if found.dtype == EVENT:
+        return found
+    made = np.zeros(len(found), EVENT)
+    for name in EVENT.names or ():
+        made[name] = column(name, found[name], EVENT[name].str)
+    return made
 
 
 class Recorder:
@@ -42,9 +101,9 @@ class Recorder:
         #: the number of omitted refused calls, for which histories have no code
         self.untold = 0
         self._has_clock = text.startswith(b"open3,")
-        self._is_own = isinstance(out, (str, PathLike))
-        self._out: Any = open(fspath(out), "wb" if force else "xb") if isinstance(out, (str, PathLike)) else out
-        self._name = repr(fspath(out)) if isinstance(out, (str, PathLike)) else "a file"
+        self._is_own = isinstance(out, (str, bytes, PathLike))
+        self._out: Any = open(fspath(out), "wb" if force else "xb") if isinstance(out, (str, bytes, PathLike)) else out
+        self._name = repr(fspath(out)) if isinstance(out, (str, bytes, PathLike)) else "a file"
         self._out.write(text)
 
     def __repr__(self) -> str:
@@ -53,11 +112,12 @@ class Recorder:
     def record(self, events: RawEvent | Events) -> None:
         """Writes the records of events. For a refused event it writes the record of the refusal.
         Raises `ValueError` at an event that no history can contain; the events before it have been
-        written."""
+        written. Raises `TypeError` if they are not events or a value is masked, and `ValueError` if the
+        array has several dimensions; then nothing is written."""
         if isinstance(events, RawEvent):
             self._record(ctypes.addressof(events), 1, 0)
             return
-        data = np.ascontiguousarray(np.atleast_1d(events), dtype=EVENT)
+        data = np.ascontiguousarray(as_events(events))
         for at in range(0, len(data), _AT_ONCE):
             part = data[at:at + _AT_ONCE]
             self._record(part.ctypes.data, len(part), at)

@@ -3,7 +3,7 @@ events at the speed of C."""
 from __future__ import annotations
 
 import copy
-import operator
+import threading
 from ctypes import byref
 from types import TracebackType
 from typing import Any, NamedTuple
@@ -13,7 +13,7 @@ import numpy.typing as npt
 
 from ._library import ALL, EVENTS, GROW, LIBRARY, MAX_MOMENT, OUT, REFUSED, RawEvent, RawQueue, RawState, number
 from .controller import Ecn, Kind, StateOwner, Updated, Verdict, event, opened, set_params
-from .history import EVENT, Events, Place, Recorder
+from .history import EVENT, Events, Place, Recorder, as_events, column
 from .opening import Opening, Params, whole
 from .refusal import Refused
 
@@ -36,36 +36,6 @@ class Exhausted(RuntimeError):
     events: Events | None = None
 
 
-def _whole(name: str, values: npt.NDArray[Any]) -> npt.NDArray[Any]:
-    """Returns objects as an array of 64-bit numbers. The objects are Python integers, which numpy
-    would convert to floating point if some are above 2^63 - 1, or columns of pandas that may lack
-    numbers."""
-    try:
-        numbers = [operator.index(it) for it in values.flat]
-    except TypeError:
-        raise TypeError(f"{name}: these are not whole numbers, or one is missing") from None
-    if min(numbers) < 0 or max(numbers) >= 1 << 64:
-        raise ValueError(f"{name}: a number does not fit in 64 bits without a sign")
-    return np.array(numbers, np.uint64).reshape(values.shape)
-
-
-def column(name: str, values: npt.ArrayLike, kind: str, count: int | None = None) -> npt.NDArray[Any]:
-    """Returns whole numbers as an array of this type, without truncation by numpy; one number is repeated `count`
-    times."""
-    found = np.asarray(values)
-    if found.dtype.kind == "b":
-        raise TypeError(f"{name}: these are truth values, and no numbers")
-    if found.dtype.kind not in "iu" and found.size:
-        found = _whole(name, np.asarray(values, dtype=object))
-    is_within = not found.size or (found.dtype.kind == "u" or found.min() >= 0) and (found.dtype == kind or int(found.max()) <= np.iinfo(kind).max)
-    if not is_within:
-        raise ValueError(f"{name}: a number does not fit in {np.iinfo(kind).bits} bits without a sign")
-    if found.ndim > 1 or (count is not None and found.ndim == 1 and len(found) != count):
-        raise ValueError(f"{name}: there are {found.shape} numbers, and {count} are wanted")
-    numbers: npt.NDArray[Any] = np.atleast_1d(found.astype(kind, copy=False))
-    return np.broadcast_to(numbers, (count,)) if count is not None and found.ndim == 0 else numbers
-
-
 def events(kinds: npt.ArrayLike, moments: npt.ArrayLike, **columns: npt.ArrayLike) -> Events:
     """Returns events that can be decided: each has a kind and a moment; arrivals also have `size`,
     `ecn`, `word` and `tag`; all have `caller`."""
@@ -82,7 +52,7 @@ class Queue(StateOwner):
     """A packet queue with PIE. An error raises `Refused` and changes nothing. `history` is a file name or a
     `Recorder`: every event is then recorded, by the library's writers, and `pie audit` finds the history clean. An
     existing file is left unchanged, unless `force` replaces it. Random words that are not passed come from a
-    generator with the seed `seed`. One thread at a time may use it. A copy (`copy.copy`) continues independently,
+    generator with the seed `seed`. Calls of several threads take turns. A copy (`copy.copy`) continues independently,
     with the same random words; a queue that records a history cannot be copied.
 
         >>> queue = Queue(Opening.for_rate("10mbit"), history="link.history", seed=1)
@@ -93,7 +63,7 @@ class Queue(StateOwner):
     """
 
     def __init__(self, opening: Opening, history: Place | Recorder | None = None, seed: int | None = None, force: bool = False):
-        self._state = opened(opening)
+        self._state, self._lock = opened(opening), threading.RLock()
         self._ring = np.zeros(min(1024, _power(opening.packets)), PACKET)
         self._queue = RawQueue(self._ring.ctypes.data, len(self._ring), 0, 0, opening.packets, 0, 0, opening.events)
         self._history = history if isinstance(history, Recorder) or history is None else Recorder(history, opening, force)
@@ -102,8 +72,9 @@ class Queue(StateOwner):
         self._arrivals = 0
 
     def __getstate__(self) -> dict[str, Any]:
-        own = {"_queue": bytes(self._queue), "_ring": self._ring.copy(), "_random": copy.deepcopy(self._random)}
-        return {**super().__getstate__(), **own}
+        with self._lock:
+            own = {"_queue": bytes(self._queue), "_ring": self._ring.copy(), "_random": copy.deepcopy(self._random)}
+            return {**super().__getstate__(), **own}
 
     def __setstate__(self, pickled: dict[str, Any]) -> None:
         super().__setstate__({**pickled, "_queue": RawQueue.from_buffer_copy(pickled["_queue"])})
@@ -126,22 +97,26 @@ class Queue(StateOwner):
     def waiting(self) -> npt.NDArray[np.void]:
         """The queued packets, oldest first: `tag`, `size`, `ecn` on departure, and `since`, the
         moment of arrival."""
-        return np.roll(self._ring, -self._queue.first)[:self.packets]
+        with self._lock:
+            return np.roll(self._ring, -self._queue.first)[:self.packets]
 
     def arrive(self, moment: int | str, size: int, ecn: int = Ecn.NOT, *, word: int | None = None, tag: int | None = None,
                caller: int = 1) -> Verdict:
         """Decides an arriving packet: it is queued, marked and queued, or dropped. Without `tag` packets are
         numbered from 0. A refused call uses no random word."""
-        asked = event(Kind.ARRIVE, moment, caller, size=size, ecn=ecn, word=0 if word is None else word, tag=self._arrivals if tag is None else tag)
-        drawn = self._draw(1 if word is None else 0)
-        if word is None:
-            asked.word = int(drawn[0])
-        try:
-            self._decide_one(asked)
-        except (Refused, Exhausted):
-            self._keep(drawn)
-            raise
-        self._arrivals += 1
+        asked = event(Kind.ARRIVE, moment, caller, size=size, ecn=ecn, word=0 if word is None else word, tag=0 if tag is None else tag)
+        with self._lock:
+            if tag is None:
+                asked.tag = self._arrivals
+            drawn = self._draw(1 if word is None else 0)
+            if word is None:
+                asked.word = int(drawn[0])
+            try:
+                self._decide_one(asked)
+            except (Refused, Exhausted):
+                self._keep(drawn)
+                raise
+            self._arrivals += 1
         return Verdict(asked.answer)
 
     def _draw(self, count: int) -> npt.NDArray[np.uint64]:
@@ -162,9 +137,10 @@ class Queue(StateOwner):
 
     def update(self, moment: int | str | None = None, *, caller: int = 3) -> Updated:
         """Makes an update, by default at `due`."""
-        asked = event(Kind.UPDATE, self.due if moment is None else moment, caller)
-        self._decide_one(asked)
-        return Updated(self.due, asked.delay, asked.prob, asked.burst)
+        with self._lock:
+            asked = event(Kind.UPDATE, self.due if moment is None else moment, caller)
+            self._decide_one(asked)
+            return Updated(self.due, asked.delay, asked.prob, asked.burst)
 
     def reset(self, moment: int | str, *, caller: int = 3) -> None:
         """Resets the controller. The packets stay in the queue."""
@@ -173,17 +149,18 @@ class Queue(StateOwner):
     def set_params(self, params: Params, moment: int | str, *, caller: int = 3) -> None:
         """Sets new parameters."""
         asked = event(Kind.PARAMS, moment, caller)
-        state = RawState.from_buffer_copy(self._state)
-        try:
-            set_params(state, params, asked)
-        except Refused:
+        with self._lock:
+            state = RawState.from_buffer_copy(self._state)
+            try:
+                set_params(state, params, asked)
+            except Refused:
+                self._record_params(asked, params)
+                raise
+            if self._queue.events >= self._queue.most_events:
+                raise self._exhausted()
+            self._state = state
+            self._queue.events += 1
             self._record_params(asked, params)
-            raise
-        if self._queue.events >= self._queue.most_events:
-            raise self._exhausted()
-        self._state = state
-        self._queue.events += 1
-        self._record_params(asked, params)
 
     def _record_params(self, asked: RawEvent, params: Params) -> None:
         if self._history:
@@ -195,22 +172,27 @@ class Queue(StateOwner):
         return why
 
     def _decide_one(self, asked: RawEvent) -> None:
-        while not LIBRARY.pie_array_decide(byref(self._state), byref(self._queue), byref(asked), 1, False):
-            if self._queue.why == REFUSED:
-                self._record(asked)
-                raise Refused(asked.answer)
-            self._go_on()
-        self._record(asked)
+        with self._lock:
+            while not LIBRARY.pie_array_decide(byref(self._state), byref(self._queue), byref(asked), 1, False):
+                if self._queue.why == REFUSED:
+                    self._record(asked)
+                    raise Refused(asked.answer)
+                self._go_on()
+            self._record(asked)
 
     def decide(self, asked: Events, keeps_refused: bool = False) -> Events:
         """Decides events (made by `events`) in order and returns them with their results: departures with the
         packet that left, or answer 5 if the queue was empty. At the first error `Refused` has its `index`, and
         `events` has the earlier events with their results. With `keeps_refused` a refused event has an `answer` above 100, and the next event is
-        decided."""
-        made = np.array(asked, dtype=EVENT, ndmin=1)
+        decided. Raises `TypeError` if `asked` is not an array of events or has masked values, and `ValueError` if it has several dimensions."""
+        made = np.array(as_events(asked), order="C")
         strange = np.flatnonzero((made["kind"] < Kind.ARRIVE) | (made["kind"] > Kind.RESET))
         if len(strange):
             raise ValueError(f"event {strange[0]} is no arrival, departure, update or reset")
+        with self._lock:
+            return self._decide(made, bool(keeps_refused))
+
+    def _decide(self, made: Events, keeps_refused: bool) -> Events:
         done = 0
         while done < len(made):
             passed = LIBRARY.pie_array_decide(byref(self._state), byref(self._queue), made[done:].ctypes.data, len(made) - done, keeps_refused)
@@ -233,17 +215,19 @@ class Queue(StateOwner):
         speed = whole("rate", rate)
         if not 1 <= speed < 1 << 60:
             raise ValueError("rate: a link has a rate of 1 bit a second to 2^60 - 1")
-        end, arrivals = whole("until", until), self._arriving(moments, sizes, ecn, words, tags, caller)
-        self._check_pauses(arrivals["moment"], end)
-        self._queue.rate = speed
-        drawn = self._draw(len(arrivals) if words is None else 0)
-        if words is None:
-            arrivals["word"] = drawn
-        taken = self._arrivals
-        try:
-            return self._offer(arrivals, end)
-        finally:
-            self._keep(drawn[self._arrivals - taken:])
+        end = whole("until", until)
+        with self._lock:
+            arrivals = self._arriving(moments, sizes, ecn, words, tags, caller)
+            self._check_pauses(arrivals["moment"], end)
+            self._queue.rate = speed
+            drawn = self._draw(len(arrivals) if words is None else 0)
+            if words is None:
+                arrivals["word"] = drawn
+            taken = self._arrivals
+            try:
+                return self._offer(arrivals, end)
+            finally:
+                self._keep(drawn[self._arrivals - taken:])
 
     def _offer(self, arrivals: Events, end: int) -> Events:
         taken, made = 0, 0
@@ -304,12 +288,14 @@ class Queue(StateOwner):
     def clock(self, moment: int | str, unix_time: int) -> None:
         """Records the wall-clock time at this moment: `unix_time`, in ns since 1970."""
         if self._history:
-            self._history.clock(moment, unix_time)
+            with self._lock:
+                self._history.clock(moment, unix_time)
 
     def close(self) -> None:
         """Ends the history."""
         if self._history:
-            self._history.close()
+            with self._lock:
+                self._history.close()
 
     def __enter__(self) -> Queue:
         return self

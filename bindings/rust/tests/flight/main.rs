@@ -71,7 +71,7 @@ fn check_numbers(text: &[u8], wanted: u64, count: u64) {
 
 #[test]
 fn sizes() {
-    assert_eq!(flight::words(100_000, 200), Some(626_178)); // as pie_flight_bytes says
+    assert_eq!(flight::words(100_000, 200), Some(626_386)); // as pie_flight_bytes says
     for (events, packets) in [(0, 1), (1, 0), ((1 << 32) + 1, 1), (1, (1 << 20) + 1)] {
         assert_eq!(flight::words(events, packets), None);
     }
@@ -274,6 +274,28 @@ fn damaged_memory() {
     assert!(counts[0] > 100 && counts[1] > 100 && counts[2] > 100, "{counts:?}");
 }
 
+/// A word of the head with another value: the memory is no recorder's, or the text has at most the kept events.
+#[test]
+fn damaged_heads() {
+    let (bytes, _) = small(3, 60, 5); // (the first snapshot is that of the opening)
+    let (_, whole) = left(&small(3, 60, 500).0);
+    for at in 0..40 {
+        let before = u64::from_ne_bytes(bytes[8 * at..8 * at + 8].try_into().unwrap());
+        for (number, word) in [u64::MAX, u64::MAX - 1, 1 << 63, 1 << 61, 1 << 32, 0, before.wrapping_add(1), before / 2].into_iter().enumerate() {
+            let mut changed = bytes.clone();
+            changed[8 * at..8 * at + 8].copy_from_slice(&word.to_ne_bytes());
+            let dumped = flight::dump_left(&changed, Takes(4 * whole.len()));
+            assert!(!matches!(dumped, Err(DumpFault::Write(_))), "a text without end, of word {at}");
+            // the magic number, the version and the sizes; packets of the opening; number of kept events
+            let is_size = at <= 6 || at == 8 + 13;
+            let is_far = number < 6 && word != before;
+            let is_refused = matches!(dumped, Err(DumpFault::NoRecorder));
+            assert!(!is_size || !is_far || is_refused, "a recorder with {word} as word {at}");
+            assert!(at != 32 || word <= 1 << 60 || is_refused, "{word} kept events");
+        }
+    }
+}
+
 #[test]
 #[ignore = "takes crates/pie/out/pie and a C compiler"]
 fn the_memory_and_the_text_are_those_of_c() {
@@ -299,6 +321,26 @@ fn the_memory_and_the_text_are_those_of_c() {
             assert_eq!(text_of_c(&memory), (code, text));
         }
     }
+}
+
+/// Memory of version 2 has the text that the recorder of that version wrote. The file has the number of its words, the words, and
+/// the text.
+#[test]
+#[ignore = "takes tests/rows and a C compiler"]
+fn memory_of_version_2() {
+    let file = fs::read_to_string(Path::new(env!("CARGO_MANIFEST_DIR")).join("../../tests/rows/flight_2.txt")).unwrap();
+    let (count, rest) = file.split_once('\n').unwrap();
+    let (words, text) = rest.split_at(rest.find("resume,").unwrap());
+    let words: Vec<u64> = words.split_whitespace().map(|it| u64::from_str_radix(it, 16).unwrap()).collect();
+    assert_eq!((words.len().to_string().as_str(), words[1]), (count, 2));
+    let memory: Arc<[AtomicU64]> = words.iter().copied().map(AtomicU64::new).collect();
+    let (dumped, found) = left(&bytes_of(&memory));
+    dumped.unwrap();
+    assert_eq!(String::from_utf8(found).unwrap(), text);
+    let mut copied = Vec::new();
+    flight::dump(&memory, &mut Vec::new(), &mut copied).unwrap();
+    assert_eq!(String::from_utf8(copied).unwrap(), text);
+    assert_eq!(text_of_c(&bytes_of(&memory)), (0, text.as_bytes().to_vec()));
 }
 
 /// A changed answer is found.

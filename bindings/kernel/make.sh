@@ -1,6 +1,7 @@
 #!/usr/bin/env bash
-# Makes bindings/kernel/pie_kernel.S and MANIFEST anew from the committed crates. It needs the toolchain (rt). The crate pie_c is proved and compiled over
-# the libraries below it, as for dist/ (bindings/c/library.py); lower.py lowers the same LLVM module for the kernel. Run it after dist/make.sh.
+# Makes bindings/kernel/pie_kernel_*.S and MANIFEST anew from the committed crates. It needs the toolchain (rt). The crate pie_c is proved and compiled
+# over the libraries below it, as for dist/ (bindings/c/library.py); lower.py lowers the same LLVM module for the kernels of each processor. Run it after
+# dist/make.sh.
 #
 # usage: bindings/kernel/make.sh
 set -euo pipefail
@@ -11,17 +12,20 @@ if [ -n "$(git status --porcelain crates crates.txt)" ]; then
 fi
 work=$(mktemp -d)
 trap 'rm -rf "$work"' EXIT
-if ! PIE_MODULE=$work/module.bc bindings/c/library.py pie_c > "$work/log" 2>&1 || ! [ -s "$work/module.bc" ]; then
+module=crates/pie_c/out/pie_c.bc
+if ! bindings/c/library.py pie_c > "$work/log" 2>&1 || ! [ -s $module ]; then
     cat "$work/log" >&2
     echo "bindings/kernel/make.sh: pie_c was not compiled" >&2
     exit 1
 fi
 clang=$(dirname "$(readlink -f "$(command -v rt)")")/../toolchain/bin/clang
-bindings/kernel/lower.py "$clang" "$work/module.bc" bindings/kernel/pie_kernel.S
+for name in x86 arm64 riscv; do
+    bindings/kernel/lower.py "$clang" $module "bindings/kernel/pie_kernel_$name.S" $name
+done
 {
     echo "commit $(git rev-list -1 HEAD -- crates crates.txt)"
     echo "crates $(git rev-parse HEAD:crates)"
     echo "rt $(rt version)"
-    (cd bindings/kernel && sha256sum pie_kernel.S)
+    (cd bindings/kernel && sha256sum pie_kernel_*.S)
 } > bindings/kernel/MANIFEST
 cat bindings/kernel/MANIFEST

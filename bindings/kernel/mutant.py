@@ -1,6 +1,7 @@
 #!/usr/bin/env python3
 """Prints the module's C with the faults of mutants.txt. The module has the one that its parameter `fault` names. The blocks of mutants.txt, separated by
-a blank line, are lines `name:`, `says:` (the fault), `old:` and `new:`. The text of `old:` occurs once in the C; \\n in it is a line feed and \\t a tab.
+a blank line, are lines `name:`, `says:` (the fault), `old:` and `new:`. A fault with `survives:` in place of `says:` is one that the module must
+survive, and one with `alone:` has a part of boot_init.sh of its own. The text of `old:` occurs once in the C; \\n in it is a line feed and \\t a tab.
 FAULT in the text of `new:` is the condition that the module has this fault.
 
 usage: bindings/kernel/mutant.py"""

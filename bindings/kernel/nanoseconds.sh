@@ -25,12 +25,12 @@ mkdir -p "$work/source" "$work/user/include"
     tar --extract --directory "$work/source" --strip-components=3 linux-source-6.1/net/sched/sch_pie.c linux-source-6.1/net/sched/sch_fifo.c
 cp "$work"/source/*.c bindings/kernel/measure/user/* bindings/kernel/*.[chS] "$work/user/"
 cp bindings/kernel/include/* include/pie*.h "$work/user/include/"
-make -s -C "$headers/linux-headers-$release" M="$work/user" queues.o sch_pie.o sch_fifo.o sch_pie_recorded_main.o pie_kernel.o > "$work/make.log" 2>&1 ||
+make -s -C "$headers/linux-headers-$release" M="$work/user" queues.o sch_pie.o sch_fifo.o sch_pie_recorded_main.o pie_kernel_x86.o > "$work/make.log" 2>&1 ||
     { cat "$work/make.log" >&2; exit 1; }
 objcopy --redefine-sym init_module=pie_init_module --redefine-sym cleanup_module=pie_cleanup_module "$work/user/sch_pie.o"
 objcopy --redefine-sym init_module=recorded_init_module --redefine-sym cleanup_module=recorded_cleanup_module "$work/user/sch_pie_recorded_main.o"
 "${CC:-cc}" -O2 -Wall -Wextra -fno-builtin -no-pie -o "$work/queues" "$work/user/main.c" \
-    "$work/user"/{queues,sch_pie,sch_fifo,sch_pie_recorded_main,pie_kernel}.o -Wl,--unresolved-symbols=ignore-all -Wl,--no-warnings 2> "$work/link.log" ||
+    "$work/user"/{queues,sch_pie,sch_fifo,sch_pie_recorded_main,pie_kernel_x86}.o -Wl,--unresolved-symbols=ignore-all -Wl,--no-warnings 2> "$work/link.log" ||
     { cat "$work/link.log" >&2; exit 1; }
 echo "bindings/kernel: nanoseconds on $(sed -n 's/^model name[^:]*: //p' /proc/cpuinfo | head -n 1), load $(cut -d' ' -f1 /proc/loadavg), code for Linux $release"
 "$work/queues" "${TURNS:-2000}"

@@ -17,7 +17,9 @@
 #include <time.h>
 #include <unistd.h>
 
+#ifndef FOLDER /* a test has one of its own */
 #define FOLDER "/proc/net/pie_recorded"
+#endif
 #define CLOCK_STEP UINT64_C(1000000) /* ns; a smaller change of the wall-clock time is not written */
 
 static const char usage[] =
@@ -112,16 +114,29 @@ static const char *find(const char *queue) {
     return found.path;
 }
 
-static void map(struct tap *tap, const char *path) {
+/* Maps a record. Returns 0 if its queue is gone: the file was removed, or a removed file is open. */
+static int map_if_there(struct tap *tap, const char *path) {
     struct stat about;
     tap->file = open(path, O_RDONLY | O_CLOEXEC);
+    if (tap->file < 0 && errno == ENOENT)
+        return 0;
     if (tap->file < 0 || fstat(tap->file, &about) != 0)
         fail(errno == EACCES ? "only root reads a record: " : "the record cannot be opened: ", path);
     tap->path = path;
     tap->bytes = (size_t)about.st_size;
     tap->memory = mmap(NULL, tap->bytes, PROT_READ, MAP_SHARED, tap->file, 0);
+    if (tap->memory == MAP_FAILED && lseek(tap->file, 0, SEEK_CUR) != 0) {
+        close(tap->file);
+        return 0;
+    }
     if (tap->memory == MAP_FAILED)
         fail("the record cannot be mapped: ", path);
+    return 1;
+}
+
+static void map(struct tap *tap, const char *path) {
+    if (!map_if_there(tap, path))
+        fail("the record cannot be opened: ", path);
     if ((tap->scratch = aligned_alloc(64, (tap->bytes + 63) / 64 * 64)) == NULL)
         fail("out of memory for a copy of ", path);
 }
@@ -134,9 +149,8 @@ static void list(void) {
     while (next_entry(folder, &entry)) {
         struct tap tap;
         char handle[16] = "-", parent[16] = "root";
-        if (access(entry.path, R_OK) != 0)
-            fail("only root reads a record: ", entry.path);
-        map(&tap, entry.path);
+        if (!map_if_there(&tap, entry.path))
+            continue; /* the queue was removed after its entry was read */
         if (entry.handle[0] != 0)
             snprintf(handle, sizeof handle, "%x:", entry.handle[0]);
         if (entry.parent[0] != 0xffff || entry.parent[1] != 0xffff)
@@ -145,7 +159,6 @@ static void list(void) {
                (unsigned long long)PIE_LOAD(((PIE_WORD *)tap.memory)[PIE_FLIGHT_KEPT]), entry.path);
         munmap(tap.memory, tap.bytes);
         close(tap.file);
-        free(tap.scratch);
     }
     closedir(folder);
 }
@@ -233,13 +246,22 @@ static void flush(void) {
         fail("the output cannot be written", "");
 }
 
+/* Returns true if a copy without a snapshot is tried again: events were kept during the copy. In a file that does not change, no snapshot is
+ * complete. */
+static int is_tried_again(const struct tap *tap, uint64_t *kept) {
+    uint64_t before = *kept;
+    *kept = PIE_LOAD(((PIE_WORD *)tap->memory)[PIE_FLIGHT_KEPT]);
+    return !is_ended && *kept != before;
+}
+
 static int dump(struct tap *tap, struct flows *flows) {
+    uint64_t kept = PIE_UNKNOWN;
     int answer;
     do
         answer = pie_flight_dump(tap->memory, tap->bytes, tap->scratch, write_out, NULL);
-    while (answer == PIE_FLIGHT_GONE && !is_ended);
+    while (answer == PIE_FLIGHT_GONE && is_tried_again(tap, &kept));
     if (answer == PIE_FLIGHT_GONE)
-        fail("no snapshot could be copied before a signal: ", tap->path);
+        fail("no snapshot could be copied: ", tap->path);
     if (answer == PIE_FLIGHT_NONE)
         fail("this is no record: ", tap->path);
     if (answer == PIE_FLIGHT_BROKEN)
@@ -260,13 +282,13 @@ static int pause_for(const struct tap *tap, unsigned *turns) {
 /* Copies the memory. Returns the latest snapshot in the copy. */
 static PIE_WORD *latest(struct tap *tap, const struct pie_flight_layout *layout) {
     PIE_WORD *snapshot, *later;
-    uint64_t begun;
+    uint64_t begun, kept = PIE_UNKNOWN;
     do {
         begun = pie_flight_copy((PIE_WORD *)tap->scratch, (PIE_WORD *)tap->memory, layout, NULL, NULL);
         snapshot = pie_flight_oldest((PIE_WORD *)tap->scratch, layout, begun, 0);
-    } while (snapshot == NULL && !is_ended);
+    } while (snapshot == NULL && is_tried_again(tap, &kept));
     if (snapshot == NULL)
-        fail("no snapshot could be copied before a signal: ", tap->path);
+        fail("no snapshot could be copied: ", tap->path);
     while ((later = pie_flight_oldest((PIE_WORD *)tap->scratch, layout, begun, PIE_LOAD(snapshot[PIE_FLIGHT_COUNT]) + 1)) != NULL)
         snapshot = later;
     return snapshot;
@@ -330,35 +352,25 @@ struct again {
     int differs;
 };
 
-static void push(struct again *it, uint64_t tag, uint64_t since, uint32_t size) {
+static int push(void *user, const struct pie_event *packet, uint64_t since) {
+    struct again *it = user;
     struct waiting *to = &it->queue[(it->head + it->packets++) % it->room];
-    to->tag = tag;
+    to->tag = packet->tag;
     to->since = since;
-    to->size = size;
+    to->size = packet->size;
+    return 0;
 }
 
 /* Begins at a snapshot of the copy, with its state and its queued packets. */
 static void again_begin(struct again *it, struct tap *tap, const struct pie_flight_layout *layout, PIE_WORD *snapshot, uint64_t every) {
     PIE_WORD *words = (PIE_WORD *)tap->scratch;
-    uint64_t came = PIE_LOAD(snapshot[PIE_FLIGHT_CAME]), left = PIE_LOAD(snapshot[PIE_FLIGHT_LEFT]);
-    uint64_t number = PIE_LOAD(snapshot[PIE_FLIGHT_COUNT]), kept = PIE_LOAD(words[PIE_FLIGHT_KEPT]);
     pie_flight_load(&it->state, snapshot + PIE_FLIGHT_STATE, sizeof it->state / 8);
-    it->room = layout->queued;
+    it->room = layout->packets;
     if (it->queue == NULL && (it->queue = malloc(it->room * sizeof *it->queue)) == NULL)
         fail("out of memory for the packets of ", tap->path);
     it->head = it->packets = 0;
     it->bytes = PIE_LOAD(snapshot[PIE_FLIGHT_BYTES]);
-    for (; number != kept && left != came; number++) {
-        PIE_WORD *from = words + layout->events_at + number % layout->events * PIE_FLIGHT_EVENT;
-        if (PIE_LOAD(from[0]) >> PIE_FLIGHT_KIND == PIE_EVENT_DEPART) {
-            push(it, PIE_LOAD(from[2]), PIE_LOAD(from[3]), (uint32_t)(PIE_LOAD(from[1]) >> 16 & 0xffff));
-            left++;
-        }
-    }
-    for (; left != came; left++) {
-        PIE_WORD *from = words + layout->queued_at + left % layout->queued * PIE_FLIGHT_PACKET;
-        push(it, PIE_LOAD(from[0]), PIE_LOAD(from[1]), (uint32_t)PIE_LOAD(from[2]));
-    }
+    pie_flight_visit_queue(words, layout, snapshot, push, it);
     pie_open_period(&it->period, every, 1);
     pie_period_clock(&it->period, 0, PIE_LOAD(words[PIE_FLIGHT_CLOCK]));
 }
@@ -369,7 +381,7 @@ static void again_step(struct again *it, struct pie_event *event, const struct p
     switch (event->kind) {
     case PIE_EVENT_ARRIVE:
         if (pie_arrive_summed(&it->state, it->bytes, (uint32_t)(it->room - it->packets), event, &it->period) <= PIE_MARK) {
-            push(it, event->tag, it->state.moment, event->size);
+            push(it, event, it->state.moment);
             it->bytes += event->size;
         }
         break;

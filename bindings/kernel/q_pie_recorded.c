@@ -34,6 +34,7 @@ enum color_attr { COLOR_NONE = 6 };
 
 int get_unsigned(unsigned int *value, const char *text, int base);
 int get_time(unsigned int *us, const char *text);
+int get_rate64(uint64_t *bytes_per_second, const char *text);
 int addattr_l(struct nlmsghdr *n, int maxlen, int type, const void *data, int alen);
 struct rtattr *addattr_nest(struct nlmsghdr *n, int maxlen, int type);
 int addattr_nest_end(struct nlmsghdr *n, struct rtattr *nest);
@@ -48,6 +49,8 @@ int print_color_string(enum output_type type, enum color_attr color, const char 
 		       const char *format, const char *value);
 int print_color_bool(enum output_type type, enum color_attr color, const char *key,
 		     const char *format, bool value);
+int print_color_rate(bool use_iec, enum output_type type, enum color_attr color, const char *key,
+		     const char *format, unsigned long long bytes_per_second);
 
 /* ---- the options */
 
@@ -84,13 +87,16 @@ static const struct flag {
 static void explain(void)
 {
 	fprintf(stderr,
-		"Usage: ... pie_recorded [ limit PACKETS ] [ target TIME ]\n"
+		"Usage: ... pie_recorded [ rate RATE ] [ limit PACKETS ] [ target TIME ]\n"
 		"                        [ tupdate TIME ] [ alpha ALPHA ] [ beta BETA ]\n"
 		"                        [ bytemode | nobytemode ] [ ecn | noecn ]\n"
 		"                        [ dq_rate_estimator | no_dq_rate_estimator ]\n"
 		"                        [ max_burst TIME ] [ mark_ecnth PERCENT ]\n"
 		"                        [ decay_half | decay_zero ]\n"
-		"                        [ events EVENTS ] [ flows | noflows ]\n");
+		"                        [ events EVENTS ] [ flows | noflows ]\n"
+		"The limits are 200 ms at RATE, in bytes and in packets of 64 bytes. Without rate,\n"
+		"limit PACKETS is the only limit. Without both, RATE is the speed of a network card\n"
+		"if no shaper is above the queue; otherwise limit is 1000.\n");
 }
 
 /* Reads a probability, as a number with `%`, in 10^-9. */
@@ -121,8 +127,17 @@ static int get_number(unsigned int *value, const char *text, enum unit unit)
 static int parse_option(int argc, char **argv, struct nlmsghdr *n)
 {
 	unsigned int value;
+	uint64_t rate;
 	size_t i;
 
+	if (strcmp(*argv, "rate") == 0) {
+		if (argc < 2 || get_rate64(&rate, argv[1])) {
+			fprintf(stderr, "Illegal \"rate\"\n");
+			return -1;
+		}
+		addattr_l(n, 1024, TCA_PIE_RECORDED_RATE, &rate, sizeof(rate));
+		return 2;
+	}
 	for (i = 0; i < COUNT(numbers); i++) {
 		if (strcmp(*argv, numbers[i].name) != 0)
 			continue;
@@ -191,6 +206,7 @@ static int print_options(struct qdisc_util *util, FILE *f, struct rtattr *opt)
 {
 	struct rtattr *tb[TCA_PIE_RECORDED_MAX + 1];
 	char format[64];
+	uint64_t rate;
 	size_t i;
 
 	(void)util;
@@ -198,6 +214,11 @@ static int print_options(struct qdisc_util *util, FILE *f, struct rtattr *opt)
 	if (!opt)
 		return 0;
 	parse_rtattr(tb, TCA_PIE_RECORDED_MAX, RTA_DATA(opt), RTA_PAYLOAD(opt));
+	if (tb[TCA_PIE_RECORDED_RATE] && RTA_PAYLOAD(tb[TCA_PIE_RECORDED_RATE]) >= sizeof(rate)) {
+		memcpy(&rate, RTA_DATA(tb[TCA_PIE_RECORDED_RATE]), sizeof(rate));
+		if (rate)
+			print_color_rate(false, PRINT_ANY, COLOR_NONE, "rate", "rate %s ", rate);
+	}
 	for (i = 0; i < COUNT(numbers); i++) {
 		const struct rtattr *attr = tb[numbers[i].type];
 

@@ -5,6 +5,9 @@
 - NAME.json: the output of `tc -s -j qdisc show` when the record ended
 - NAME.before, NAME.after: the receiver's /proc/net/netstat
 
+NAME.trace are the kernel's events of each packet that came to a device, and of each dropped one. Packets and segments are dropped with an event each, and
+those that the queue's parent 1: counts are the packets of which nothing is queued, super-packets among them.
+
 Each NAME.excerpt, a record without sums, must be clean. NAME.csv names the flows of NAME.history, except those whose place another flow has.
 
 Each history must be clean, and its sums must be equal. A purge drops packets that no counter of `tc` has: its departures have a caller of their own. The
@@ -75,19 +78,47 @@ def unnamed(folder, name):
     return wrong + [f"no flow {it}" for it in expected - ways]
 
 
+def dropped_whole(trace):
+    """Returns the numbers of packets, of super-packets and of packets and segments that the queue of rb dropped, by the kernel's events. A packet that is
+    dropped ends before the next one comes. It ends before its segments."""
+    current, packets, supers, ends = {}, 0, 0, 0
+    for line in trace.read_text().splitlines():
+        fields = dict(re.findall(r"(\w+)[=:] ?(\S+)", line))
+        if "len" in fields:
+            current = fields
+        elif fields.get("reason", "").startswith("QDISC") and current.get("dev") == "rb":
+            is_whole = fields["skbaddr"] == current["skbaddr"]
+            ends += 1
+            packets += is_whole
+            supers += is_whole and int(current["len"]) > 1514
+    return packets, supers, ends
+
+
+def trace_differences(trace, parent, told):
+    """Returns the drops by the kernel's events that differ from those of tc."""
+    packets, supers, ends = dropped_whole(trace)
+    print(f"  {trace.stem}: {packets} packets dropped whole, {supers} of them super-packets; {ends} events of drops")
+    wrong = [] if supers else ["no super-packet was dropped whole"]
+    pairs = [("drops of the parent", packets, parent["drops"]), ("events of drops", ends, told["drops"] + supers)]
+    return wrong + [f"{what}: {seen} by the kernel's events, {counted} counted" for what, seen, counted in pairs if seen != counted]
+
+
 def judged(pie, folder, name):
     """Prints the sums of a queue, and returns what is wrong."""
     history = folder / f"{name}.history"
     finding = said(pie, history, "audit").strip().removeprefix(f"{history}: ")
     # tc without a plugin for the kind prints text in its JSON
     told = re.sub(r"\[Unknown qdisc, optlen=\d+\] ", "", (folder / f"{name}.json").read_text())
-    told = next(it for it in json.loads(told) if it["handle"] == "2:")
+    queues = {it["handle"]: it for it in json.loads(told)}
+    told = queues["2:"]
     sums = summed(pie, history)
     arrived = congestion_marks(folder / f"{name}.after") - congestion_marks(folder / f"{name}.before")
     wrong = [] if re.fullmatch(r"clean,\d+", finding) else [f"audit: {finding}"]
     wrong += differences(sums, told, arrived)
     if (folder / f"{name}.csv").exists():
         wrong += unnamed(folder, name)
+    if (folder / f"{name}.trace").exists():
+        wrong += trace_differences(folder / f"{name}.trace", queues["1:"], told)
     print(f"  {name}: {finding}; {sums['sent']} sent, {sums['early']} early, {sums['bytes'] + sums['packets']} by limits, {sums['mark']} marked, "
           f"{sums['purged']} purged, {arrived} marks arrived")
     return wrong

@@ -1,6 +1,6 @@
 #!/usr/bin/env bash
 # Tries the packages as a new user does. It installs Debian 12 with a kernel, its headers and the packages juniperbowls
-# and juniperbowls-dkms in a folder by apt, which builds the module by DKMS. qemu boots that folder with a link of
+# and juniperbowls-dkms in a folder by apt, which builds the module by DKMS, and debian/tests/kernel runs there. qemu boots that folder with a link of
 # 0.5 Mbit/s as eth0, and the commands of README's "First use" run there: tc qdisc replace, pie-tap follow, pie explain.
 # Datagrams are sent faster than the link, and each drop that tc counts must be explained. It needs root, debootstrap,
 # dpkg-buildpackage with debhelper, qemu and Debian's mirror, and takes some minutes.
@@ -48,6 +48,9 @@ inside sh -c 'cd /root && apt-get install --reinstall --yes --no-install-recomme
     > "$work/install.log" 2>&1 ||
     { cat "$work/install.log" >&2; exit 1; }
 inside dkms status
+# the package's own test of the module, in the same Debian
+cp debian/tests/kernel "$debian/root/kernel.test"
+inside sh /root/kernel.test
 umount "$debian/proc"
 release=$(cd "$debian/lib/modules" && echo *)
 

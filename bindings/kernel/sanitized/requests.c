@@ -222,6 +222,8 @@ static PIE_WORD *map_only_record(size_t bytes) {
 static int resets_in_order(PIE_WORD *words, size_t bytes, unsigned long *updates) {
     static const uint64_t callers[] = {[PIE_EVENT_ARRIVE] = 1, [PIE_EVENT_DEPART] = 2, [PIE_EVENT_UPDATE] = 3, [PIE_EVENT_RESET] = 4};
     struct pie_flight_layout layout;
+    struct pie_event event;
+    struct pie_params params;
     uint64_t kept = PIE_LOAD(words[PIE_FLIGHT_KEPT]), number, latest = 0;
     int resets = 0;
     if (!pie_flight_layout_in(&layout, words, bytes))
@@ -229,11 +231,14 @@ static int resets_in_order(PIE_WORD *words, size_t bytes, unsigned long *updates
     if (kept > layout.events)
         return -1;
     for (number = 0; number < kept; number++) {
-        PIE_WORD *it = words + layout.events_at + number * PIE_FLIGHT_EVENT;
-        uint64_t kind = PIE_LOAD(it[0]) >> PIE_FLIGHT_KIND, moment = PIE_LOAD(it[0]) << 4 >> 4, caller = PIE_LOAD(it[1]) & 0xffff;
-        if (moment < latest || kind >= sizeof callers / sizeof *callers || (caller != callers[kind] && !(kind == PIE_EVENT_DEPART && caller == 4)))
+        uint64_t it[PIE_FLIGHT_EVENT], kind;
+        pie_flight_load_event(it, words, &layout, number);
+        pie_flight_read(&event, &params, it);
+        kind = event.kind;
+        if (event.moment < latest || kind >= sizeof callers / sizeof *callers ||
+            (event.caller != callers[kind] && !(kind == PIE_EVENT_DEPART && event.caller == 4)))
             return 0;
-        latest = moment;
+        latest = event.moment;
         resets += kind == PIE_EVENT_RESET;
         *updates += kind == PIE_EVENT_UPDATE;
     }

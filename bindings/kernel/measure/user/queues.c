@@ -4,6 +4,8 @@
  * main.c. The objects of the queue disciplines are those that kbuild makes for a module. This file
  * has the kernel's functions that they call, as far as main.c has none of the same name.
  */
+#include <linux/anon_inodes.h>
+#include <linux/capability.h>
 #include <linux/hrtimer.h>
 #include <linux/netdevice.h>
 #include <linux/proc_fs.h>
@@ -69,6 +71,17 @@ struct proc_dir_entry *proc_create_data(const char *name, umode_t mode,
 					void *data)
 {
 	return (struct proc_dir_entry *)name;
+}
+
+struct file *anon_inode_getfile(const char *name, const struct file_operations *ops, void *data,
+				int flags)
+{
+	return (struct file *)name;
+}
+
+bool ns_capable_noaudit(struct user_namespace *ns, int capability)
+{
+	return true;
 }
 
 ktime_t ktime_get(void)

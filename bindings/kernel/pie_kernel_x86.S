@@ -4,11 +4,12 @@
 #include <linux/linkage.h>
 #else
 #define RET ret
+#define SYM_FUNC_START_LOCAL(name) .p2align 4; .type name, @function; name:
+#define SYM_FUNC_START(name) .globl name; SYM_FUNC_START_LOCAL(name)
+#define SYM_FUNC_END(name) .size name, . - name
 #endif
 	.text
-	.p2align	4
-	.type	"pie_control::update::delay",@function
-"pie_control::update::delay":
+SYM_FUNC_START_LOCAL(pie_control__update__delay)
 	movq	%rdx, %r8
 	movq	%rsi, %rax
 	mulq	%rdi
@@ -167,12 +168,9 @@
 	cmovneq	%rax, %rcx
 	movq	%rcx, %rax
 	RET
-.Lfunc_end0:
-	.size	"pie_control::update::delay", .Lfunc_end0-"pie_control::update::delay"
+SYM_FUNC_END(pie_control__update__delay)
 
-	.p2align	4
-	.type	"pie_c::calls::depart_otherwise",@function
-"pie_c::calls::depart_otherwise":
+SYM_FUNC_START_LOCAL(pie_c__calls__depart_otherwise)
 	movq	%rsi, %rax
 	shrq	$60, %rsi
 	setne	%sil
@@ -185,7 +183,7 @@
 	movl	%edx, %esi
 	movq	%rcx, %rdx
 	movq	%rax, %rcx
-	jmp	"pie_c::calls::depart"
+	jmp	pie_c__calls__depart
 .LBB1_1:
 	movq	64(%rdi), %r8
 	cmpq	$65536, %r8
@@ -210,12 +208,9 @@
 	movq	%rcx, 72(%rdi)
 	xorl	%eax, %eax
 	RET
-.Lfunc_end1:
-	.size	"pie_c::calls::depart_otherwise", .Lfunc_end1-"pie_c::calls::depart_otherwise"
+SYM_FUNC_END(pie_c__calls__depart_otherwise)
 
-	.p2align	4
-	.type	"pie_c::calls::depart",@function
-"pie_c::calls::depart":
+SYM_FUNC_START_LOCAL(pie_c__calls__depart)
 	movq	%rcx, %rax
 	shrq	$60, %rax
 	movl	$101, %eax
@@ -315,12 +310,9 @@
 	popq	%rbx
 .LBB2_19:
 	RET
-.Lfunc_end2:
-	.size	"pie_c::calls::depart", .Lfunc_end2-"pie_c::calls::depart"
+SYM_FUNC_END(pie_c__calls__depart)
 
-	.p2align	4
-	.type	"pie_aqm::raw::wait",@function
-"pie_aqm::raw::wait":
+SYM_FUNC_START_LOCAL(pie_aqm__raw__wait)
 	testq	%rdi, %rdi
 	je	.LBB3_2
 	xorl	%eax, %eax
@@ -333,12 +325,9 @@
 .LBB3_2:
 	xorl	%eax, %eax
 	RET
-.Lfunc_end3:
-	.size	"pie_aqm::raw::wait", .Lfunc_end3-"pie_aqm::raw::wait"
+SYM_FUNC_END(pie_aqm__raw__wait)
 
-	.p2align	4
-	.type	"pie_early::decision::scaled",@function
-"pie_early::decision::scaled":
+SYM_FUNC_START_LOCAL(pie_early__decision__scaled)
 	movq	%rdx, %rcx
 	movl	%esi, %edx
 	cmpq	%rdx, %rdi
@@ -438,12 +427,9 @@
 .LBB4_7:
 	movq	%rcx, %rax
 	RET
-.Lfunc_end4:
-	.size	"pie_early::decision::scaled", .Lfunc_end4-"pie_early::decision::scaled"
+SYM_FUNC_END(pie_early__decision__scaled)
 
-	.p2align	4
-	.type	"pie_c::calls::arrive_out_of_line",@function
-"pie_c::calls::arrive_out_of_line":
+SYM_FUNC_START_LOCAL(pie_c__calls__arrive_out_of_line)
 	pushq	%rbp
 	pushq	%r15
 	pushq	%r14
@@ -561,7 +547,7 @@
 	movq	%rbx, %rdx
 	movl	%r8d, %ebp
 	movq	%r9, %r15
-	callq	"pie_early::decision::scaled"
+	callq	pie_early__decision__scaled
 	movq	%r15, %r9
 	movl	%ebp, %r8d
 	movq	(%rsp), %rdi
@@ -600,13 +586,9 @@
 	xorl	%r14d, %r14d
 	xorl	%eax, %eax
 	jmp	.LBB5_13
-.Lfunc_end5:
-	.size	"pie_c::calls::arrive_out_of_line", .Lfunc_end5-"pie_c::calls::arrive_out_of_line"
+SYM_FUNC_END(pie_c__calls__arrive_out_of_line)
 
-	.globl	pie_check_params
-	.p2align	4
-	.type	pie_check_params,@function
-pie_check_params:
+SYM_FUNC_START(pie_check_params)
 	pushq	%rbp
 	pushq	%r15
 	pushq	%r14
@@ -695,15 +677,13 @@ pie_check_params:
 	popq	%r15
 	popq	%rbp
 	RET
-.Lfunc_end6:
-	.size	pie_check_params, .Lfunc_end6-pie_check_params
+SYM_FUNC_END(pie_check_params)
 
-	.globl	pie_default_opening
-	.p2align	4
-	.type	pie_default_opening,@function
-pie_default_opening:
-	movq	%rsi, %rax
+SYM_FUNC_START(pie_default_opening)
+	testq	%rsi, %rsi
+	je	.LBB7_1
 	movabsq	$-3689348814741910323, %rcx
+	movq	%rsi, %rax
 	mulq	%rcx
 	shrq	$5, %rdx
 	rorq	$3, %rax
@@ -712,19 +692,23 @@ pie_default_opening:
 	cmpq	%rcx, %rax
 	seta	%sil
 	addq	%rdx, %rsi
-	cmpq	$262145, %rsi
+	cmpq	$48449, %rsi
+	movl	$48448, %ecx
+	cmovaeq	%rsi, %rcx
+	cmpq	$1073741824, %rcx
+	movl	$1073741824, %eax
+	cmovbq	%rcx, %rax
+	jmp	.LBB7_3
+.LBB7_1:
 	movl	$262144, %eax
-	cmovaeq	%rsi, %rax
-	cmpq	$1073741824, %rax
-	movl	$1073741824, %ecx
-	cmovbq	%rax, %rcx
+.LBB7_3:
 	movq	$15000000, (%rdi)
 	movq	$15000000, 8(%rdi)
 	movq	$150000000, 16(%rdi)
 	movq	$125, 24(%rdi)
 	movq	$1250, 32(%rdi)
 	movq	$1024, 40(%rdi)
-	movq	%rcx, 48(%rdi)
+	movq	%rax, 48(%rdi)
 	movabsq	$100000000000, %rax
 	movq	%rax, 56(%rdi)
 	movq	$16384, 64(%rdi)
@@ -737,25 +721,17 @@ pie_default_opening:
 	movabsq	$140737488355328, %rax
 	movq	%rax, 120(%rdi)
 	RET
-.Lfunc_end7:
-	.size	pie_default_opening, .Lfunc_end7-pie_default_opening
+SYM_FUNC_END(pie_default_opening)
 
-	.globl	pie_due
-	.p2align	4
-	.type	pie_due,@function
-pie_due:
+SYM_FUNC_START(pie_due)
 	movq	8(%rdi), %rcx
 	addq	104(%rdi), %rcx
 	movq	$-1, %rax
 	cmovaeq	%rcx, %rax
 	RET
-.Lfunc_end8:
-	.size	pie_due, .Lfunc_end8-pie_due
+SYM_FUNC_END(pie_due)
 
-	.globl	pie_open
-	.p2align	4
-	.type	pie_open,@function
-pie_open:
+SYM_FUNC_START(pie_open)
 	movq	(%rsi), %rdx
 	leaq	-2(%rdx), %r8
 	movabsq	$9999999999, %rcx
@@ -876,13 +852,9 @@ pie_open:
 	popq	%rbp
 .LBB9_21:
 	RET
-.Lfunc_end9:
-	.size	pie_open, .Lfunc_end9-pie_open
+SYM_FUNC_END(pie_open)
 
-	.globl	pie_reset_event
-	.p2align	4
-	.type	pie_reset_event,@function
-pie_reset_event:
+SYM_FUNC_START(pie_reset_event)
 	movl	$110, %eax
 	cmpq	$31, 168(%rdi)
 	ja	.LBB10_31
@@ -1008,13 +980,9 @@ pie_reset_event:
 	movq	$0, 8(%rsi)
 	movl	$0, 48(%rsi)
 	RET
-.Lfunc_end10:
-	.size	pie_reset_event, .Lfunc_end10-pie_reset_event
+SYM_FUNC_END(pie_reset_event)
 
-	.globl	pie_set_params_event
-	.p2align	4
-	.type	pie_set_params_event,@function
-pie_set_params_event:
+SYM_FUNC_START(pie_set_params_event)
 	movl	$110, %eax
 	cmpq	$31, 168(%rdi)
 	ja	.LBB11_52
@@ -1186,13 +1154,9 @@ pie_set_params_event:
 	movq	$0, 8(%rdx)
 	movl	$0, 48(%rdx)
 	RET
-.Lfunc_end11:
-	.size	pie_set_params_event, .Lfunc_end11-pie_set_params_event
+SYM_FUNC_END(pie_set_params_event)
 
-	.globl	pie_update_event
-	.p2align	4
-	.type	pie_update_event,@function
-pie_update_event:
+SYM_FUNC_START(pie_update_event)
 	pushq	%rbp
 	pushq	%r15
 	pushq	%r14
@@ -1378,7 +1342,7 @@ pie_update_event:
 	movq	%rsi, %rdi
 	movq	56(%rsp), %rsi
 	movq	%r8, %rdx
-	callq	"pie_control::update::delay"
+	callq	pie_control__update__delay
 	movq	%rax, %rcx
 .LBB12_43:
 	movq	%rcx, %rax
@@ -1529,13 +1493,9 @@ pie_update_event:
 	movq	(%rsp), %rdx
 	xorl	%eax, %eax
 	jmp	.LBB12_67
-.Lfunc_end12:
-	.size	pie_update_event, .Lfunc_end12-pie_update_event
+SYM_FUNC_END(pie_update_event)
 
-	.globl	pie_depart_event
-	.p2align	4
-	.type	pie_depart_event,@function
-pie_depart_event:
+SYM_FUNC_START(pie_depart_event)
 	pushq	%r15
 	pushq	%r14
 	pushq	%rbx
@@ -1597,11 +1557,11 @@ pie_depart_event:
 	movq	%rcx, %rdi
 	movq	%r8, %rsi
 	movq	%r14, %rdx
-	callq	"pie_aqm::raw::wait"
+	callq	pie_aqm__raw__wait
 	movq	%r15, %rdi
 	jmp	.LBB13_8
 .LBB13_16:
-	callq	"pie_c::calls::depart_otherwise"
+	callq	pie_c__calls__depart_otherwise
 .LBB13_17:
 	movl	%eax, 52(%rbx)
 	movl	$0, 60(%rbx)
@@ -1621,13 +1581,9 @@ pie_depart_event:
 	movq	%rax, 176(%rdi)
 	xorl	%eax, %eax
 	jmp	.LBB13_17
-.Lfunc_end13:
-	.size	pie_depart_event, .Lfunc_end13-pie_depart_event
+SYM_FUNC_END(pie_depart_event)
 
-	.globl	pie_arrive_event
-	.p2align	4
-	.type	pie_arrive_event,@function
-pie_arrive_event:
+SYM_FUNC_START(pie_arrive_event)
 	pushq	%rbx
 	subq	$16, %rsp
 	movq	%rcx, %rbx
@@ -1670,7 +1626,7 @@ pie_arrive_event:
 	jmp	.LBB14_25
 .LBB14_24:
 	movq	%r10, (%rsp)
-	callq	"pie_c::calls::arrive_out_of_line"
+	callq	pie_c__calls__arrive_out_of_line
 .LBB14_25:
 	movb	$1, 58(%rbx)
 	movl	%eax, 52(%rbx)
@@ -1742,8 +1698,7 @@ pie_arrive_event:
 .LBB14_23:
 	movq	%rcx, 112(%rdi)
 	jmp	.LBB14_25
-.Lfunc_end14:
-	.size	pie_arrive_event, .Lfunc_end14-pie_arrive_event
+SYM_FUNC_END(pie_arrive_event)
 
 	.ident	"rattle logic=dac8208d650f15bf3e2dc313a14fa4c783a3acf887bdfab66e1714b038d9e11b"
 	.section	".note.GNU-stack","",@progbits

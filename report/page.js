@@ -49,11 +49,25 @@ function duration(ns) {
     return `${+(ns / length).toPrecision(6)} ${name}`;
 }
 
-// Returns the wall-clock time at a moment, in ns since 1970, if the history has a `clock` record.
+// Returns a wall-clock time of `pie explain` in ns since 1970.
+function nanoseconds(text) {
+    const [, seconds, rest] = /^(.*?)(?:\.(\d+))?Z$/.exec(text);
+    return BigInt(Date.parse(`${seconds}Z`)) * 1000000n + BigInt((rest ?? "").padEnd(9, "0"));
+}
+
+// The wall-clock times of the history: from each moment on, the time at moment 0. A period has the time of its first event with a known time.
+const CLOCKS = [];
+DATA.walls.forEach((text, at) => {
+    const first = BigInt(DATA.periods[at][column.get("first_moment")]);
+    const from = first < BigInt(DATA.known) ? BigInt(DATA.known) : first;
+    if (text !== "" && nanoseconds(text) - from !== CLOCKS.at(-1)?.zero) CLOCKS.push({ from, zero: nanoseconds(text) - from });
+});
+
+// Returns the wall-clock time at a moment, in ns since 1970, by the last `clock` record before it, or null.
 function unix(exact) {
-    if (DATA.clock.length !== 2) return null;
-    const time = BigInt(DATA.clock[1]) + exact - BigInt(DATA.clock[0]);
-    return time < 0n ? 0n : time;
+    const clock = CLOCKS.findLast(({ from }) => from <= exact);
+    if (clock === undefined) return null;
+    return exact + clock.zero < 0n ? 0n : exact + clock.zero;
 }
 
 // Returns a wall-clock time as YYYY-MM-DDTHH:MM:SS.mmmZ.
@@ -70,6 +84,13 @@ function add(to, name, text, attributes = {}) {
     if (text !== undefined) made.textContent = text;
     for (const [key, value] of Object.entries(attributes)) made.setAttribute(key, value);
     to.append(made);
+    return made;
+}
+
+// Adds an element with a number, which may break after its commas only.
+function addNumber(to, name, text, attributes) {
+    const made = add(to, name, undefined, attributes);
+    for (const [at, part] of text.split(/(?<=,)/).entries()) made.append(...(at > 0 ? [document.createElement("wbr")] : []), part);
     return made;
 }
 
@@ -111,16 +132,18 @@ const FATES = [
     ["mark", "mark", "marked"],
 ];
 const words = (field) => field.replaceAll("_", " ");
+const counted = (count, name) => `${grouped(count)} ${name}${BigInt(count) === 1n ? "" : "s"}`;
 
 // ----- The numbers at the top
 function card(title, field, big, rows) {
     const made = add(element("headline"), "div", undefined, { class: "card" });
     add(made, "h2", title);
-    add(made, "div", big, { class: "big", "data-field": field });
+    addNumber(made, "div", big, { class: "big", "data-field": field });
     const list = add(made, "dl");
     for (const [name, text, of] of rows.filter((row) => row)) {
-        add(list, "dt", name);
-        add(list, "dd", text, { "data-field": of });
+        const row = add(list, "div");
+        add(row, "dt", name);
+        addNumber(row, "dd", text, { "data-field": of });
     }
 }
 
@@ -161,7 +184,7 @@ function headline() {
     ]);
     card("Greatest queueing delay", "greatest_delay", ms(total("greatest_delay")), [
         ["last", ms(total("last_delay")), "last_delay"],
-        ["target", ms(has("last_target") ? total("last_target") : DATA.target), "target"],
+        ["target", ms(has("last_target") && whole("events") > 0n ? total("last_target") : DATA.target), "target"],
         more("time_above_target", "time above it", shareOfTime),
         disagree() && ["differs from the waits", "", "disagree"],
     ]);
@@ -181,13 +204,13 @@ function headline() {
 function heading() {
     document.title = `PIE: ${DATA.history}`;
     element("name").textContent = DATA.history;
-    const events = grouped(whole("events"));
+    const events = counted(whole("events"), "event");
     const last = whole("last_moment");
     const span = `${momentMillis(FIRST)} ms${wall(FIRST)} to ${momentMillis(last)} ms${wall(last)}`;
-    say(element("span"), `${events} events in ${duration(LENGTH)}, from ${span}. `, asked && `Options: ${asked}`);
+    say(element("span"), `${events} in ${duration(LENGTH)}, from ${span}. `, asked && `Options: ${asked}`);
     if (DATA.status !== 0) {
         const what = DATA.status === 2 ? "An event of this history is not what the rules give: " : "This history has a fault: ";
-        say(element("fault"), [what], DATA.told, `. The page shows the ${events} events before it.`);
+        say(element("fault"), [what], DATA.told, `. The page shows the ${events} before it.`);
         element("fault").hidden = false;
     }
     const point = `A point of the charts covers ${duration(PERIOD)}. `;
@@ -370,7 +393,7 @@ function timeMark(svg, bottom, time, text) {
 // Draws the times at the bottom: wall-clock times if the history has them; otherwise moments, or if these are long, times since the first.
 function timeAxis(svg, bottom) {
     const least = (view[1] - view[0]) / Math.max(3, width / 130);
-    const unit = unix(FIRST) === null ? momentAxis(svg, bottom, least) : dayAxis(svg, bottom, least);
+    const unit = unix(moment(view[1])) === null ? momentAxis(svg, bottom, least) : dayAxis(svg, bottom, least);
     draw(svg, "text", { x: width - MARGIN.right, y: bottom + 14, "text-anchor": "end" }, unit);
 }
 
@@ -395,14 +418,23 @@ function between(least) {
     return 1e9 * (SECONDS.find((it) => it * 1e9 >= least) ?? day * Math.round(step(least / 1e9 / day)));
 }
 
+// Draws the wall-clock times of each clock in view; two texts are at least this many pixels apart.
+const APART = 60;
+
 function dayAxis(svg, bottom, least) {
     const each = between(least);
-    const first = unix(FIRST);
-    const begin = (BigInt(Math.floor(view[0])) + first) / BigInt(each);
-    for (let at = begin * BigInt(each); at <= first + BigInt(Math.ceil(view[1])); at += BigInt(each)) {
-        const time = Number(at - first);
-        if (time >= view[0]) timeMark(svg, bottom, time, dayText(at, each));
-    }
+    let free = 0;
+    CLOCKS.forEach(({ from, zero }, at) => {
+        const begin = Math.max(view[0], since(from));
+        const end = at + 1 < CLOCKS.length ? Math.min(view[1], since(CLOCKS[at + 1].from) - 1) : view[1];
+        const first = FIRST + zero; // the wall-clock time at the page's time 0
+        for (let mark = ((first + BigInt(Math.floor(begin))) / BigInt(each)) * BigInt(each); Number(mark - first) <= end; mark += BigInt(each)) {
+            const time = Number(mark - first);
+            if (time < begin || across(time) < free) continue;
+            timeMark(svg, bottom, time, dayText(mark, each));
+            free = across(time) + APART;
+        }
+    });
     return "UTC";
 }
 
@@ -477,10 +509,10 @@ function drawStacks(chart, held, shares) {
     shown.forEach((it, at) => paths[at] && draw(chart.inside, "path", { class: `area c-${it.color}`, d: paths[at] }));
 }
 
-// Draws a small line for each listed packet, above the columns of lost and marked packets.
+// Draws a small line for each listed packet, above the columns of lost and marked packets, in the colour of its outcome.
 function drawPackets(chart) {
-    for (const [is, color, y] of [[false, "early", 2], [true, "mark", 10]]) {
-        const at = PACKETS.filter((it) => it.marked === is && it.time >= view[0] && it.time <= view[1]).map((it) => round(across(it.time)));
+    for (const [color, y] of [["packets", 2], ["bytes", 2], ["early", 2], ["mark", 10]]) {
+        const at = PACKETS.filter((it) => it.color === color && it.time >= view[0] && it.time <= view[1]).map((it) => round(across(it.time)));
         const path = [...new Set(at)].map((x) => `M${x} ${y}v6`).join("");
         if (path) draw(chart.inside, "path", { class: `tick c-${color}`, d: path });
     }
@@ -545,7 +577,7 @@ function read(time) {
     if (one) {
         const arrivals = sum(one, "arrivals");
         const counts = FATES.map(([field, , name]) => [sum(one, field), name]).filter(([count]) => count > 0);
-        parts.push(`. In the ${duration(one.to - one.from)} around it: ${arrivals} arrivals (${rate(sum(one, "arrived_bytes"), one.to - one.from)})`);
+        parts.push(`. In the ${duration(one.to - one.from)} around it: ${counted(arrivals, "arrival")} (${rate(sum(one, "arrived_bytes"), one.to - one.from)})`);
         for (const [count, name] of counts) parts.push(", ", [`${count} ${name}`]);
         const decided = CAUSES.map(([field]) => [sum(one, field), field]).filter(([count]) => count > 0).sort((a, b) => b[0] - a[0]);
         const most = decided.slice(0, 3).map(([count, field]) => `${words(field)} ${percent(count, arrivals)}`);
@@ -572,8 +604,9 @@ const pan = (part) => show(view[0] + part * (view[1] - view[0]), view[1] + part 
 const all = () => show(...WHOLE);
 
 // ----- Lost and marked packets
+const colorOf = (fate) => (fate.startsWith("DROPPED") ? ["bytes", "packets"].find((it) => fate.endsWith(it)) ?? "early" : "mark");
 const PACKETS = DATA.packets.map(([number, at, tag, size, ecn, fate, said]) => ({
-    number, at: BigInt(at), time: since(at), tag: String(tag), size, ecn, fate, said, marked: !fate.startsWith("DROPPED"),
+    number, at: BigInt(at), time: since(at), tag: String(tag), size, ecn, fate, said, marked: !fate.startsWith("DROPPED"), color: colorOf(fate),
 }));
 const PAGE = 100;
 let matching = [];
@@ -583,7 +616,7 @@ function choose(packet) {
     chosen = packet;
     say(element("packet").querySelector("h2"), `${packet.marked ? "Why was it marked" : "Why was it lost"}? Packet ${packet.tag}`);
     element("words").textContent = packet.said;
-    say(element("explain"), "From ", { code: `pie explain --event ${packet.number} ${DATA.word}` });
+    say(element("explain"), "From ", { code: `pie explain ${CLOCKS.length > 0 ? "--wall " : ""}--event ${packet.number} ${DATA.word}` });
     for (const row of element("list").tBodies[0].rows) row.classList.toggle("chosen", row.dataset.number === String(packet.number));
     if (packet.time < view[0] || packet.time > view[1]) show(packet.time - (view[1] - view[0]) / 2, packet.time + (view[1] - view[0]) / 2);
     read(packet.time);

@@ -5,9 +5,9 @@
 #include <errno.h>
 #include <inttypes.h>
 
-bool fwd_flows_open(struct fwd_flows *flows, const char *path) {
+bool fwd_flows_open(struct fwd_flows *flows, const char *path, bool is_forced) {
     rte_spinlock_init(&flows->lock);
-    return open_flows(&flows->flows, path);
+    return open_output(&flows->output, path, OUTPUT_FOLLOWED, is_forced) && open_flows(&flows->flows, flows->output.file);
 }
 
 uint32_t fwd_flow_of(void *user, const struct rte_mbuf *mbuf) {
@@ -28,7 +28,8 @@ uint32_t fwd_flow_of(void *user, const struct rte_mbuf *mbuf) {
 bool fwd_flows_close(struct fwd_flows *flows) {
     if (flows->flows.missing != 0)
         fprintf(stderr, "pie-fwd: --flows: those of %" PRIu64 " packets are missing: there were too many\n", flows->flows.missing);
-    if (close_flows(&flows->flows))
+    close_flows(&flows->flows);
+    if (close_output(&flows->output))
         return true;
     fprintf(stderr, "pie-fwd: --flows: %s; it is not whole\n", strerror(errno));
     return false;

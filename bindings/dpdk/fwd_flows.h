@@ -3,6 +3,7 @@
 #define FWD_FLOWS_H
 
 #include "flow.h"
+#include "output.h"
 
 #include <rte_mbuf.h>
 #include <rte_spinlock.h>
@@ -10,10 +11,11 @@
 struct fwd_flows {
     rte_spinlock_t lock; /* serializes the receiving lcores */
     struct flows flows;
+    struct output output;
 };
 
 /* Opens the file; NULL: no file. Returns false with errno if that fails. */
-bool fwd_flows_open(struct fwd_flows *flows, const char *path);
+bool fwd_flows_open(struct fwd_flows *flows, const char *path, bool is_forced);
 
 /* Returns the number of a packet's flow, 0 without an IP header, and lists the flow in the file. `user` is the
  * struct fwd_flows. */

@@ -2,6 +2,7 @@
 
 #include "fwd_queues.h"
 
+#include <dirent.h>
 #include <errno.h>
 #include <inttypes.h>
 #include <stdlib.h>
@@ -19,20 +20,43 @@ static bool name_segment(const struct fwd_history *history, uint64_t segment, ch
 
 /* Opens the next file, and removes the oldest one if there are too many. */
 static bool open_next(struct fwd_history *history) {
-    char oldest[PATH_MAX];
+    char name[PATH_MAX], oldest[PATH_MAX];
+    enum output_kind kind = history->rotate != 0 ? OUTPUT_WHOLE : OUTPUT_FOLLOWED;
     history->segment++;
     history->bytes = 0;
-    history->file = name_segment(history, history->segment, history->name) ? fopen(history->name, "w") : NULL;
-    if (history->file == NULL)
+    if (!name_segment(history, history->segment, name) || !open_output(&history->output, name, kind, history->is_forced))
         return false;
-    setvbuf(history->file, NULL, _IONBF, 0); // unbuffered: the text is written in large pieces
+    setvbuf(history->output.file, NULL, _IONBF, 0); // unbuffered: the text is written in large pieces
     if (history->segments != 0 && history->segment > history->segments && name_segment(history, history->segment - history->segments, oldest))
         remove(oldest);
     return true;
 }
 
-bool fwd_history_open(struct fwd_history *history, const char *path, uint32_t queue, uint64_t rotate, uint64_t segments) {
-    *history = (struct fwd_history){.rotate = rotate, .segments = segments};
+bool fwd_history_segment_there(const char *path, uint32_t queue, char name[PATH_MAX]) {
+    char folder[PATH_MAX], start[PATH_MAX];
+    const struct dirent *entry;
+    if (!fwd_queue_name(start, path, queue))
+        return false;
+    char *slash = strrchr(start, '/');
+    const char *base = slash != NULL ? slash + 1 : start;
+    size_t length = strlen(base);
+    snprintf(folder, sizeof folder, "%.*s", slash != NULL ? (int)(slash - start) + 1 : 1, slash != NULL ? start : ".");
+    DIR *names = opendir(folder);
+    bool is_there = false;
+    while (names != NULL && !is_there && (entry = readdir(names)) != NULL) {
+        const char *digits = entry->d_name + length + 1;
+        is_there = strncmp(entry->d_name, base, length) == 0 && entry->d_name[length] == '.' && *digits != '\0' &&
+                   strspn(digits, "0123456789") == strlen(digits);
+        if (is_there && snprintf(name, PATH_MAX, "%s.%s", start, digits) >= PATH_MAX)
+            is_there = false;
+    }
+    if (names != NULL)
+        closedir(names);
+    return is_there;
+}
+
+bool fwd_history_open(struct fwd_history *history, const char *path, uint32_t queue, uint64_t rotate, uint64_t segments, bool is_forced) {
+    *history = (struct fwd_history){.rotate = rotate, .segments = segments, .is_forced = is_forced};
     if (path == NULL)
         return true;
     history->text = malloc(ROOM);
@@ -41,14 +65,14 @@ bool fwd_history_open(struct fwd_history *history, const char *path, uint32_t qu
 
 static void say_broken(struct fwd_history *history) {
     if (!history->is_broken)
-        fprintf(stderr, "pie-fwd: --history %s: %s; no more of it is written\n", history->name, strerror(errno));
+        fprintf(stderr, "pie-fwd: --history %s: %s; no more of it is written\n", history->output.name, strerror(errno));
     history->is_broken = true;
 }
 
 /* Writes up to ROOM bytes of the pending text. Returns true if there was any. */
 static bool write_some(struct fwd_history *history, struct pie_stage *stage) {
-    size_t size = history->file != NULL && !history->is_broken ? pie_stage_history(stage, history->text, ROOM) : 0;
-    if (size != 0 && fwrite(history->text, 1, size, history->file) != size)
+    size_t size = history->output.file != NULL && !history->is_broken ? pie_stage_history(stage, history->text, ROOM) : 0;
+    if (size != 0 && fwrite(history->text, 1, size, history->output.file) != size)
         say_broken(history);
     history->bytes += size;
     return size != 0;
@@ -63,10 +87,8 @@ static void rotate(struct fwd_history *history, struct pie_stage *stage, uint64_
     if (history->is_broken)
         return;
     history->lost = lost;
-    if (fclose(history->file) != 0 || !open_next(history)) {
-        history->file = NULL;
+    if (!close_output(&history->output) || !open_next(history))
         say_broken(history);
-    }
 }
 
 bool fwd_history_write(struct fwd_history *history, struct pie_stage *stage) {
@@ -84,10 +106,9 @@ bool fwd_history_close(struct fwd_history *history, struct pie_stage *stage) {
     if (stage != NULL)
         while (write_some(history, stage))
             continue;
-    if (history->file != NULL && fclose(history->file) != 0)
+    if (!close_output(&history->output))
         say_broken(history);
     free(history->text);
-    history->file = NULL;
     history->text = NULL;
     return !history->is_broken;
 }

@@ -2,15 +2,13 @@
 #ifndef FWD_HISTORY_H
 #define FWD_HISTORY_H
 
+#include "output.h"
 #include "pie_stage.h"
 
-#include <limits.h>
-#include <stdio.h>
-
 struct fwd_history {
-    FILE *file;            /* NULL if no history is written any more */
+    struct output output;  /* PATH, or PATH.<segment>; no file is open if no history is written any more */
     char path[PATH_MAX];
-    char name[PATH_MAX];   /* name of the file: PATH, or PATH.<segment> */
+    bool is_forced;        /* existing files are replaced */
     uint64_t rotate;       /* a segment ends after this number of bytes; 0: one text */
     uint64_t segments;     /* number of last segments to keep; 0: all */
     uint64_t segment;      /* number of the present segment, counted from 1 */
@@ -19,9 +17,13 @@ struct fwd_history {
     unsigned char *text;
 };
 
-/* Opens the file of a queue (fwd_queue_name); NULL: no file. Returns false with errno if that
- * fails. */
-bool fwd_history_open(struct fwd_history *history, const char *path, uint32_t queue, uint64_t rotate, uint64_t segments);
+/* Finds a segment that exists before the history of a queue is opened: PATH with a number. Returns true and its name, or false
+ * if there is none. */
+bool fwd_history_segment_there(const char *path, uint32_t queue, char name[PATH_MAX]);
+
+/* Opens the file of a queue (fwd_queue_name); NULL: no file. A segment has its name when it is complete; a history in one file
+ * can be followed. Returns false with errno if that fails. */
+bool fwd_history_open(struct fwd_history *history, const char *path, uint32_t queue, uint64_t rotate, uint64_t segments, bool is_forced);
 
 /* Writes a part of the pending text. Returns true if there was any. Ends the segment and its file if the segment is
  * long enough or reports a gap. If a write fails, prints an error once and writes nothing more: the stage then counts

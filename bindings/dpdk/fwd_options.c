@@ -36,9 +36,10 @@ static const char more_help[] =
     "                        all queues, to FILE\n"
     "  --records FILE        write the sums of each interval when it ends, as pie explain --every --csv --wall does\n"
     "  --every 1s            length of these intervals\n"
+    "  --force               replace existing files. No FILE is another FILE; a segment has its name when it is complete\n"
     "  --receive 120mbit     receive at most this rate from port 0; for a port that always has packets, such as a null port\n"
     "  --total-num-mbufs 8192\n"
-    "                        mbufs in the pool, 1024 to 2^24; at most half of them are queued\n"
+    "                        mbufs in the pool, 1024 to 2^24; at most half of them are queued, also with the default of --limit\n"
     "  --for 10s             end after this time\n"
     "\n"
     "Times, rates and sizes have the units of tc and are never rounded. The rate is that of port 1, of frames without their check\n"
@@ -83,6 +84,7 @@ int fwd_read_options(int count, char **words, struct fwd_options *options) {
         {"--json", option_text, &options->json},         {"--one-way", NULL, &options->is_one_way},
         {"--queues", option_number, &options->queues},   {"--flows", option_text, &options->flows},
         {"--records", option_text, &options->records},   {"--every", option_time, &every},
+        {"--force", NULL, &options->is_forced},
     };
     const struct command command = {"pie-fwd", {help, more_help}, own, sizeof own / sizeof own[0], MOST_QUEUED};
     struct control control;
@@ -94,7 +96,11 @@ int fwd_read_options(int count, char **words, struct fwd_options *options) {
         refuse_word(&command, words[place], "", "unknown");
         return FWD_WRONG;
     }
-    uint64_t wait = options->stage.flight_wait;
+    uint64_t wait = options->stage.flight_wait, most = options->queues != 0 ? options->mbufs / 2 / options->queues : 0;
+    if (control.has_default_packets && most != 0 && control.opening.packets > most) {
+        control.opening.packets = most;
+        warn_of_limits(&command, &control);
+    }
     options->rate = control.rate;
     options->stage = (struct pie_stage_params){
         .opening = control.opening,

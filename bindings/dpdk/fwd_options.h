@@ -13,6 +13,7 @@ struct fwd_options {
     uint64_t mbufs;        /* number of mbufs in the pool */
     uint64_t queues;       /* number of queues of the link, 1 to FWD_QUEUES */
     bool is_one_way;       /* true: packets from port 1 are not forwarded */
+    bool is_forced;        /* existing files are replaced */
     const char *metrics;   /* file of the metrics, or NULL */
     const char *json;      /* file of the statistics as JSON, or NULL */
     const char *history;   /* file of the history, or NULL */

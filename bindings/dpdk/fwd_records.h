@@ -2,20 +2,17 @@
 #ifndef FWD_RECORDS_H
 #define FWD_RECORDS_H
 
+#include "output.h"
 #include "pie_stage.h"
 
-#include <limits.h>
-#include <stdio.h>
-
 struct fwd_records {
-    FILE *file; /* NULL if no records are written any more */
-    char name[PATH_MAX];
+    struct output output; /* no file is open if no records are written any more */
     bool is_broken; /* a write failed */
 };
 
 /* Opens the file of a queue (fwd_queue_name); NULL: no file. Returns false with errno if that
  * fails. */
-bool fwd_records_open(struct fwd_records *records, const char *path, uint32_t queue);
+bool fwd_records_open(struct fwd_records *records, const char *path, uint32_t queue, bool is_forced);
 
 /* Writes the records of complete intervals (pie_stage_record). If the file cannot be written,
  * reports it once on stderr and writes no more. */

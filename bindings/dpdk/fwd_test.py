@@ -29,7 +29,7 @@ from concurrent.futures import ThreadPoolExecutor
 from datetime import datetime, timezone
 from pathlib import Path
 
-PIE_FWD, PIE = sys.argv[1:3]
+PIE_FWD, PIE = (str(Path(it).resolve()) for it in sys.argv[1:3])
 CPUS = f"(0-{os.cpu_count() - 1})"
 EAL = ["--no-huge", "-m", "256", "--no-pci", "--no-shconf", "--no-telemetry", "--log-level=lib.eal:error", "--lcores", f"(0-2)@{CPUS}"]
 RING = ["--vdev=net_null0", "--vdev=net_ring0"]
@@ -103,7 +103,34 @@ def refused():
         assert status == 1 and said in errors, (words, status, errors)
     status, printed, _ = run(RING, "--help")
     assert status == 0 and "--history FILE" in printed
+    outputs()
     return "refused"
+
+
+def outputs():
+    """Checks that no output is another output or replaces an existing file unasked: nothing is opened then."""
+    with tempfile.TemporaryDirectory() as work:
+        for name in ("there", "there-1", "pieces.07"):
+            Path(work, name).write_text("kept")
+        Path(work, "link").symlink_to("there")
+        before, exists, two = sorted(os.listdir(work)), "the file exists; --force replaces it", "two outputs have this name"
+        for words, said in (
+            (["--history", "there"], f"there: {exists}"),
+            (["--records", "link"], f"link: {exists}"),
+            (["--flows", "there"], f"there: {exists}"),
+            (["--metrics", "there"], f"there: {exists}"),
+            (["--json", "there"], f"there: {exists}"),
+            (["--history", "there", "--force", "--queues", "2", "--records", "link"], f"link: {two}"),
+            (["--history", "new", "--queues", "2", "--json", "new-1"], f"new-1: {two}"),
+            (["--history", "pieces", "--rotate", "64kb"], f"pieces.07: {exists}"),
+            (["--history", "pieces", "--rotate", "64kb", "--records", "./pieces.1", "--force"], f"./pieces.1: {two}"),
+            (["--flight", "new", "--history", "new.before"], f"new.before: {two}"),
+        ):
+            status, _, errors = run(RING, *words, cwd=work)
+            assert status == 1 and f"pie-fwd: {said}\n" in errors, (words, status, errors)
+            assert sorted(os.listdir(work)) == before and Path(work, "there").read_text() == "kept", words
+        status, _, errors = run(PACED, "--receive", "20mbit", "--for", "1s", "--history", "there", "--force", cwd=work)
+        assert status == 0 and Path(work, "there").read_text().startswith("open"), (status, errors)
 
 
 def interrupt():

@@ -9,6 +9,7 @@
 #include "fwd_records.h"
 #include "fwd_report.h"
 #include "metrics.h"
+#include "output.h"
 #include "pie_stage.h"
 
 #include <errno.h>
@@ -160,7 +161,47 @@ static bool open_port(uint16_t port, uint16_t queues) {
     return true;
 }
 
+#define QUEUE_FILES 4 /* the most files of a queue */
+
+/* Adds a file of a queue to the list, with a suffix. Returns false with errno if its name is too long. */
+static bool add_file(struct file_name *files, size_t *count, const char *path, uint32_t queue, const char *suffix, enum file_use use) {
+    static char names[FWD_QUEUES * QUEUE_FILES][PATH_MAX];
+    static size_t used;
+    char own[PATH_MAX];
+    if (path == NULL)
+        return true;
+    char *name = names[used++];
+    errno = ENAMETOOLONG;
+    if (!fwd_queue_name(own, path, queue) || snprintf(name, PATH_MAX, "%s%s", own, suffix) >= PATH_MAX)
+        return false;
+    files[(*count)++] = (struct file_name){name, use};
+    return true;
+}
+
+/* Checks the names of all files of all queues before any is opened. */
+static bool are_files_usable(const struct fwd_options *options) {
+    static char segment[FWD_QUEUES][PATH_MAX];
+    struct file_name files[3 + FWD_QUEUES * QUEUE_FILES] = {
+        {options->flows, FILE_WRITTEN}, {options->metrics, FILE_WRITTEN}, {options->json, FILE_WRITTEN}};
+    size_t count = 3;
+    for (uint32_t i = 0; i < options->queues; i++) {
+        bool is_rotated = options->history != NULL && options->rotate != 0;
+        if (!add_file(files, &count, options->history, i, is_rotated ? ".1" : "", FILE_WRITTEN) ||
+            !add_file(files, &count, options->records, i, "", FILE_WRITTEN) || !add_file(files, &count, options->flight, i, "", FILE_KEPT) ||
+            !add_file(files, &count, options->flight, i, ".before", FILE_KEPT))
+            return fail("the name of a file", errno);
+        if (is_rotated && !options->is_forced && fwd_history_segment_there(options->history, i, segment[i])) {
+            fprintf(stderr, "pie-fwd: %s: the file exists; --force replaces it\n", segment[i]);
+            return false;
+        }
+    }
+    return check_files("pie-fwd", files, count, options->is_forced);
+}
+
 static bool open_all(void) {
+    const bool is_forced = forward.options.is_forced;
+    if (!are_files_usable(&forward.options))
+        return false;
     if (rte_eth_dev_count_avail() != 2) {
         fprintf(stderr, "pie-fwd: there are %u ports, and it forwards between two; --vdev, or -a of the EAL names them\n", rte_eth_dev_count_avail());
         return false;
@@ -174,7 +215,7 @@ static bool open_all(void) {
     forward.pool = rte_pktmbuf_pool_create("pie-fwd", (unsigned int)forward.options.mbufs, 128, 0, RTE_MBUF_DEFAULT_BUF_SIZE, SOCKET_ID_ANY);
     if (forward.pool == NULL)
         return fail("the pool of mbufs", rte_errno);
-    if (!fwd_flows_open(&forward.flows, forward.options.flows))
+    if (!fwd_flows_open(&forward.flows, forward.options.flows, is_forced))
         return fail("the file of --flows", errno);
     if (forward.options.flows != NULL) {
         forward.options.stage.flow = fwd_flow_of;
@@ -183,9 +224,9 @@ static bool open_all(void) {
     if (!fwd_queues_create(&forward.queues, (uint32_t)forward.options.queues, "pie-fwd", &forward.options.stage))
         return fail("the stage", rte_errno);
     for (uint32_t i = 0; i < forward.queues.count; i++) {
-        if (!fwd_history_open(&forward.histories[i], forward.options.history, i, forward.options.rotate, forward.options.segments))
+        if (!fwd_history_open(&forward.histories[i], forward.options.history, i, forward.options.rotate, forward.options.segments, is_forced))
             return fail("the file of --history", errno);
-        if (!fwd_records_open(&forward.records[i], forward.options.records, i))
+        if (!fwd_records_open(&forward.records[i], forward.options.records, i, is_forced))
             return fail("the file of --records", errno);
     }
     return open_port(IN, forward.receivers) && open_port(OUT, 1);

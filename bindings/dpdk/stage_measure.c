@@ -13,7 +13,10 @@
  *   lcore writes the history, or the records, to /dev/null. If one other lcore is available, it receives,
  *   enqueues, dequeues and sends, and 512 packets are always queued. If there are several, the main lcore
  *   dequeues and sends, and the others receive and enqueue. Prints lines `name value unit` for
- *   bench/pie_dpdk.sh; `lost` is the share of the recorded stage's events that its history lacks. */
+ *   bench/pie_dpdk.sh; `lost` is the share of the recorded stage's events that its history lacks.
+ * usage: stage_measure [EAL options] -- count rte_pie|dropping|stage|flight|summed
+ *   Enqueues and dequeues 1000 bursts of 32 packets, in a function `counted`, for
+ *   bench/pie_dpdk_count.sh. Prints the number of packets. */
 #include "linked.h"
 #include "peer.h"
 #include "pie_stage.h"
@@ -307,9 +310,8 @@ static void write_flight(const char *path) {
         die("the text of the flight recorder");
 }
 
-static double run_rate(enum which which, double seconds, FILE *nowhere, const char *flight) {
+static void open_queue(enum which which) {
     struct pie_stage_params params;
-    uint64_t hz = rte_get_tsc_hz();
     pie_stage_default_params(&params, UINT64_C(10000000000));
     params.opening.choices = PIE_USUAL; /* by the departure rate, as rte_pie */
     params.opening.packets = ROOM;
@@ -317,13 +319,28 @@ static double run_rate(enum which which, double seconds, FILE *nowhere, const ch
     params.flight = which == LAST ? PIE_STAGE_FLIGHT : 0;
     params.events = which == RECORDED ? EVENTS : 0;
     params.every = which == SUMMED ? EVERY : 0;
-    measured = which;
     if (which == PEER && !peer_open(&peer, ROOM))
         die("rte_pie");
     if (which == LINK && !linked_open(&linked, &params.opening))
         die("the link");
     if (which > LINK && (stage = pie_stage_create("stage", &params, SOCKET_ID_ANY)) == NULL)
         die("stage");
+}
+
+static void close_queue(enum which which) {
+    if (which == PEER)
+        peer_close(&peer);
+    if (which == LINK)
+        linked_close(&linked);
+    if (which > LINK)
+        pie_stage_free(stage);
+    expect_all_back();
+}
+
+static double run_rate(enum which which, double seconds, FILE *nowhere, const char *flight) {
+    uint64_t hz = rte_get_tsc_hz();
+    open_queue(which);
+    measured = which;
     __atomic_store_n(&is_over, 0, __ATOMIC_SEQ_CST);
     rte_eal_mp_remote_launch(work, nowhere, SKIP_MAIN);
     uint64_t start = rte_rdtsc(), end = start + (uint64_t)(seconds * (double)hz);
@@ -331,17 +348,11 @@ static double run_rate(enum which which, double seconds, FILE *nowhere, const ch
     double took = (double)(rte_rdtsc() - start) / (double)hz;
     __atomic_store_n(&is_over, 1, __ATOMIC_SEQ_CST);
     rte_eal_mp_wait_lcore();
-    if (which == PEER)
-        peer_close(&peer);
     if (which == RECORDED)
         tell_lost();
     if (which == LAST && flight != NULL)
         write_flight(flight);
-    if (which == LINK)
-        linked_close(&linked);
-    if (which > LINK)
-        pie_stage_free(stage);
-    expect_all_back();
+    close_queue(which);
     return (double)packets / took;
 }
 
@@ -365,6 +376,39 @@ static int measure_rate(double seconds, int runs, const char *flight) {
     return 0;
 }
 
+/* Enqueues and dequeues a burst at a given TSC. */
+__attribute__((noinline)) static uint32_t counted(enum which which, struct rte_mbuf **mbufs, uint64_t now) {
+    if (which == PEER) {
+        peer_enqueue(&peer, mbufs, BURST, now);
+        return peer_dequeue(&peer, mbufs, BURST, now);
+    }
+    pie_stage_enqueue(stage, mbufs, BURST, now);
+    return pie_stage_dequeue(stage, mbufs, BURST, now);
+}
+
+/* Makes 1000 bursts of one kind, one each 10 us. Prints the number of packets. The status is 1 if one was dropped. */
+static int count_calls(const char *name) {
+    struct rte_mbuf *mbufs[BURST];
+    enum which which = PEER;
+    while (which < SUMMED && strcmp(names[which], name) != 0)
+        which++;
+    open_queue(which);
+    rte_mempool_obj_iter(pool, fill, NULL);
+    uint64_t now = rte_rdtsc(), packets = 0;
+    for (int i = 0; i < 1000; i++, now += rte_get_tsc_hz() / 100000) {
+        if (rte_pktmbuf_alloc_bulk(pool, mbufs, BURST) != 0)
+            die("mbufs");
+        for (int k = 0; k < BURST; k++)
+            mbufs[k]->pkt_len = mbufs[k]->data_len = 64;
+        uint32_t count = counted(which, mbufs, now);
+        rte_pktmbuf_free_bulk(mbufs, count);
+        packets += count;
+    }
+    printf("%" PRIu64 " packets\n", packets);
+    close_queue(which);
+    return packets != 1000 * BURST;
+}
+
 int main(int count, char **words) {
     int read = rte_eal_init(count, words);
     if (read < 0)
@@ -379,8 +423,10 @@ int main(int count, char **words) {
         status = measure_slow(words[2]);
     else if (count >= 2 && count <= 5 && strcmp(words[1], "rate") == 0)
         status = measure_rate(count > 2 ? atof(words[2]) : 1, count > 3 ? atoi(words[3]) : 5, count > 4 ? words[4] : NULL);
+    else if (count == 3 && strcmp(words[1], "count") == 0)
+        status = count_calls(words[2]);
     else
-        fprintf(stderr, "usage: stage_measure [EAL options] -- slow FOLDER | rate [SECONDS [RUNS [FILE]]]\n");
+        fprintf(stderr, "usage: stage_measure [EAL options] -- slow FOLDER | rate [SECONDS [RUNS [FILE]]] | count KIND\n");
     rte_eal_cleanup();
     return status;
 }

@@ -12,6 +12,7 @@
 
 #include <algorithm>
 #include <cstdio>
+#include <cstring>
 #include <numeric>
 #include <vector>
 
@@ -24,6 +25,7 @@ namespace
 struct Scenario
 {
     std::string queue = "recorded"; /* recorded or pie, also with a choice of ChoicesOf; recorded-scaled; pie-mark, pie-mark-burst or fifo */
+    bool isBounded = false;         /* the queue's name had BOUNDED behind: senders are BoundedCubic */
     double megabits = 10;           /* the shared link's rate */
     uint32_t flows = 4;
     double roundTrip = 40; /* ms, without queues */
@@ -37,6 +39,7 @@ struct Scenario
     std::string flowsFile;
     std::string records;
     double every = 1;
+    std::string windows;
 };
 
 constexpr uint32_t SEGMENT = 1448;   /* bytes; with 52 bytes of headers a packet has 1500 */
@@ -44,6 +47,37 @@ constexpr uint32_t MEAN_PKT = 1500;  /* bytes, for all queues, so that ns-3's sc
 constexpr uint16_t PORT = 5000;
 constexpr int64_t STARTS = 1;        /* random stream of the flows' starts */
 constexpr int64_t WORDS = 2;         /* random stream of the queue's words */
+
+constexpr const char* BOUNDED = "+bounded";
+
+/* CUBIC whose slow start ends at the threshold, as that of Linux. TcpCubic of ns-3.37 adds all acknowledged bytes to the window, also if they lead
+ * far beyond the threshold. */
+class BoundedCubic : public TcpCubic
+{
+  public:
+    static TypeId GetTypeId()
+    {
+        static TypeId id = TypeId("ns3::BoundedCubic").SetParent<TcpCubic>().AddConstructor<BoundedCubic>();
+        return id;
+    }
+
+    void IncreaseWindow(Ptr<TcpSocketState> socket, uint32_t segmentsAcked) override
+    {
+        if (socket->m_cWnd < socket->m_ssThresh)
+        {
+            uint32_t least = (socket->m_ssThresh - socket->m_cWnd + socket->m_segmentSize - 1) / socket->m_segmentSize;
+            segmentsAcked = std::min(segmentsAcked, least);
+        }
+        TcpCubic::IncreaseWindow(socket, segmentsAcked);
+    }
+
+    Ptr<TcpCongestionOps> Fork() override
+    {
+        return CopyObject<BoundedCubic>(this);
+    }
+};
+
+NS_OBJECT_ENSURE_REGISTERED(BoundedCubic);
 
 /* Counters of a run. */
 struct Counts
@@ -57,6 +91,19 @@ struct Counts
 
 Counts g_counts;
 Time g_warmUp;
+FILE* g_windows;
+
+void
+SeeWindow(uint32_t flow, uint32_t before, uint32_t after)
+{
+    std::fprintf(g_windows, "%.0f,%u,%u,%u\n", Simulator::Now().GetSeconds() * 1e9, flow, before, after);
+}
+
+void
+WatchWindow(uint32_t flow, Ptr<BulkSendApplication> source)
+{
+    source->GetSocket()->TraceConnectWithoutContext("CongestionWindow", MakeBoundCallback(&SeeWindow, flow));
+}
 
 void
 SeeWait(Time wait)
@@ -118,7 +165,7 @@ SendBufferBytes(const Scenario& scenario)
 void
 SetTcp(const Scenario& scenario)
 {
-    Config::SetDefault("ns3::TcpL4Protocol::SocketType", TypeIdValue(TcpCubic::GetTypeId()));
+    Config::SetDefault("ns3::TcpL4Protocol::SocketType", TypeIdValue(scenario.isBounded ? BoundedCubic::GetTypeId() : TcpCubic::GetTypeId()));
     Config::SetDefault("ns3::TcpSocket::SegmentSize", UintegerValue(SEGMENT));
     Config::SetDefault("ns3::TcpSocket::InitialCwnd", UintegerValue(10));
     Config::SetDefault("ns3::TcpSocket::SndBufSize", UintegerValue(SendBufferBytes(scenario)));
@@ -292,7 +339,12 @@ StartFlows(const Scenario& scenario, const Dumbbell& net)
         BulkSendHelper bulk("ns3::TcpSocketFactory", InetSocketAddress(net.targets[i], PORT));
         bulk.SetAttribute("SendSize", UintegerValue(SEGMENT));
         ApplicationContainer source = bulk.Install(net.senders.Get(i));
-        source.Start(Seconds(start->GetValue(0, 1)));
+        double begin = start->GetValue(0, 1);
+        source.Start(Seconds(begin));
+        if (g_windows)
+        {
+            Simulator::Schedule(Seconds(begin) + NanoSeconds(1), &WatchWindow, i, DynamicCast<BulkSendApplication>(source.Get(0)));
+        }
     }
 }
 
@@ -349,7 +401,7 @@ Print(const Scenario& s, const Dumbbell& net)
     uint32_t early = stats.GetNDroppedPackets(RecordedPieQueueDisc::EARLY_DROP) +
                      stats.GetNDroppedPackets(PieQueueDisc::UNFORCED_DROP);
     std::printf("%s,%g,%u,%g,%d,%g,%u,%.4f,%.4f,%.4f,%.3f,%.3f,%.3f,%.3f,%.3f,%u,%u,%u,%u\n",
-                s.queue.c_str(), s.megabits, s.flows, s.roundTrip, s.ecn, s.udp, s.seed, goodput, sent,
+                (s.queue + (s.isBounded ? BOUNDED : "")).c_str(), s.megabits, s.flows, s.roundTrip, s.ecn, s.udp, s.seed, goodput, sent,
                 Fairness(g_counts.received), mean, Quantile(waits, 0.5), Quantile(waits, 0.95), Quantile(waits, 0.99),
                 start, stats.nTotalDequeuedPackets, early, stats.nTotalDroppedPackets - early, stats.nTotalMarkedPackets);
 }
@@ -362,7 +414,7 @@ Read(int count, char** words)
     CommandLine line(__FILE__);
     line.AddValue("queue",
                   "recorded or pie, with -stamp, -random, -uncapped or -all for another choice; recorded-scaled, recorded-half; fifo; pie-mark, "
-                  "pie-mark-burst: pie with points changed, also with a choice behind",
+                  "pie-mark-burst: pie with points changed, also with a choice behind; +bounded at the end: senders whose slow start ends at the threshold",
                   s.queue);
     line.AddValue("rate", "Mbit/s of the shared link", s.megabits);
     line.AddValue("flows", "TCP flows", s.flows);
@@ -377,8 +429,15 @@ Read(int count, char** words)
     line.AddValue("flows-file", "file that tells its flows (queue recorded)", s.flowsFile);
     line.AddValue("records", "file for the sums of its periods (queue recorded)", s.records);
     line.AddValue("every", "seconds that such a period lasts", s.every);
+    line.AddValue("windows", "file for the congestion windows of the senders: nanoseconds, flow, bytes before and after", s.windows);
     line.AddValue("header", "print the names of the fields before the record", isHeader);
     line.Parse(count, words);
+    size_t end = s.queue.size() - std::min(s.queue.size(), std::strlen(BOUNDED));
+    s.isBounded = s.queue.substr(end) == BOUNDED;
+    if (s.isBounded)
+    {
+        s.queue.resize(end);
+    }
     if (isHeader)
     {
         std::printf("%s\n", HEADER);
@@ -395,6 +454,11 @@ main(int count, char** words)
     RngSeedManager::SetRun(scenario.seed);
     SetTcp(scenario);
     g_warmUp = Seconds(scenario.warmUp);
+    if (!scenario.windows.empty())
+    {
+        g_windows = std::fopen(scenario.windows.c_str(), "w");
+        NS_ABORT_MSG_UNLESS(g_windows, "cannot write " << scenario.windows);
+    }
     g_counts.received.assign(scenario.flows, 0);
     Dumbbell net = Build(scenario);
     net.queue->TraceConnectWithoutContext("SojournTime", MakeCallback(&SeeWait));
@@ -408,5 +472,6 @@ main(int count, char** words)
     Simulator::Run();
     Print(scenario, net);
     Simulator::Destroy();
+    NS_ABORT_MSG_IF(g_windows && std::fclose(g_windows) != 0, "cannot write " << scenario.windows);
     return 0;
 }

@@ -192,6 +192,8 @@ RecordedPieQueueDisc::RecordedPieQueueDisc()
       m_words(CreateObject<UniformRandomVariable>()),
       m_flows(),
       m_records(),
+      m_flowsFile(),
+      m_recordsFile(),
       m_arrivals(0)
 {
 }
@@ -206,8 +208,8 @@ RecordedPieQueueDisc::DoDispose()
         m_history.close();
         NS_ABORT_MSG_IF(m_history.fail(), "the history could not be written");
     }
-    NS_ABORT_MSG_UNLESS(close_flows(&m_flows), "the flows could not be written");
-    NS_ABORT_MSG_UNLESS(close_records(&m_records), "the records of periods could not be written");
+    NS_ABORT_MSG_UNLESS(close_flows(&m_flows) && close_output(&m_flowsFile), "the flows could not be written");
+    NS_ABORT_MSG_UNLESS(close_records(&m_records) && close_output(&m_recordsFile), "the records of periods could not be written");
     QueueDisc::DoDispose();
 }
 
@@ -277,10 +279,12 @@ RecordedPieQueueDisc::InitializeParams()
     Expect(pie_open(&m_pie, &opening), "pie_open");
     RecordOpening(opening);
     const char* flowsName = m_flowsName.empty() ? nullptr : m_flowsName.c_str();
-    NS_ABORT_MSG_UNLESS(open_flows(&m_flows, flowsName), "cannot write " << m_flowsName);
     const char* recordsName = m_recordsName.empty() ? nullptr : m_recordsName.c_str();
+    bool areOpen = open_output(&m_flowsFile, flowsName, OUTPUT_FOLLOWED, true);
+    NS_ABORT_MSG_UNLESS(areOpen && open_flows(&m_flows, m_flowsFile.file), "cannot write " << m_flowsName);
+    areOpen = open_output(&m_recordsFile, recordsName, OUTPUT_FOLLOWED, true);
     uint64_t every = static_cast<uint64_t>(m_every.GetNanoSeconds());
-    NS_ABORT_MSG_UNLESS(open_records(&m_records, recordsName, every, 0, nullptr), "cannot write " << m_recordsName);
+    NS_ABORT_MSG_UNLESS(areOpen && open_records(&m_records, m_recordsFile.file, every, 0, nullptr), "cannot write " << m_recordsName);
     m_updateEvent = Simulator::Schedule(m_tUpdate, &RecordedPieQueueDisc::Update, this);
 }
 

@@ -4,6 +4,7 @@
 #define RECORDED_PIE_QUEUE_DISC_H
 
 #include "flow.h"
+#include "output.h"
 #include "pie.h"
 #include "records.h"
 
@@ -89,6 +90,8 @@ class RecordedPieQueueDisc : public QueueDisc
     std::ofstream m_history;
     flows m_flows;
     records m_records;
+    output m_flowsFile;
+    output m_recordsFile;
     uint64_t m_arrivals;         /* so far; a packet's tag in the history is its number among them, with Flows below its flow's */
     std::deque<std::pair<uint64_t, uint64_t>> m_tags; /* tags of the queued packets, with the controller's moment at the
                                                          arrival */

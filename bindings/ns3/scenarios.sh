@@ -8,11 +8,12 @@
 #   RATES      in Mbit/s, '10 50' by default
 #   QUEUES     'recorded-stamp pie-stamp' by default. Each of recorded and pie alone has the delay by the departure rate;
 #              the suffixes -random, -uncapped and -all select optional elements of RFC 8033. pie-mark-stamp is
-#              pie-stamp with changed marks; fifo is tail drop
+#              pie-stamp with changed marks; fifo is tail drop. +bounded behind a name: senders whose slow start ends at
+#              the threshold
 #   SCENARIO   one scenario alone, such as '4 40 0 0' below
 set -eu
 if [ $# -lt 1 ] || [ "$1" = --help ]; then
-    sed -n '2,12s/^# //p' "$0"
+    sed -n '2,13s/^# //p' "$0"
     exit 1
 fi
 here=$(cd "$(dirname "$0")" && pwd)
@@ -27,7 +28,7 @@ if [ ! -x "$program" ]; then
     echo "bindings/ns3/scenarios.sh: there is no $program; make -C bindings/ns3 builds it" >&2
     exit 1
 fi
-mkdir -p "$folder/histories"
+mkdir -p "$folder/histories" "$folder/windows"
 results=$folder/results.csv
 [ -s "$results" ] || "$program" --header=1 --seconds=0.001 --warm-up=0 | head -n 1 > "$results"
 
@@ -43,7 +44,7 @@ one() {
     local name=$queue-$rate-$flows-$rtt-$ecn-$udp-$seed
     [ -e "$folder/histories/$name" ] && return
     "$program" --queue="$queue" --rate="$rate" --flows="$flows" --rtt="$rtt" --ecn="$ecn" --udp="$udp" --seed="$seed" \
-        --seconds=60 --warm-up=10 --history="$folder/histories/$name.part" >> "$folder/results.csv"
+        --seconds=60 --warm-up=10 --history="$folder/histories/$name.part" --flows-file=/dev/null --windows="$folder/windows/$name" >> "$folder/results.csv"
     # a queue without a recorder leaves an empty file, which shows that the run was made
     touch "$folder/histories/$name.part"
     mv "$folder/histories/$name.part" "$folder/histories/$name"

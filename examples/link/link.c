@@ -8,6 +8,7 @@
 #include "flow.h"
 #include "metrics.h"
 #include "options.h"
+#include "output.h"
 #include "packet.h"
 #include "pie.h"
 #include "pie_follow.h"
@@ -51,7 +52,7 @@ struct bottleneck {
     uint64_t next_update;  /* first moment at which an update is not too soon */
     struct flight_file flight;
     struct pie_flight_follower follower;
-    FILE *history;         /* NULL if none is written */
+    struct output history, recorded, listed; /* the files of the history, of the records and of the flows */
     _Atomic uint64_t missed; /* number of missing events */
     struct records records;
     struct flows flows;
@@ -78,6 +79,28 @@ static void die(const char *what) {
     const char *hint = errno == EPERM || errno == EACCES ? " (it has to be root, or to have CAP_NET_ADMIN)" : "";
     fprintf(stderr, "link: %s: %s%s\n", what, strerror(errno), hint);
     exit(1);
+}
+
+/* Ends the program after a file was not written, or not named. */
+static void die_unwritten(const struct output *output) {
+    const char *left = output->partial;
+    fprintf(stderr, "link: %s: %s%s%s\n", output->name, strerror(errno), *left != '\0' ? "; the incomplete output is in " : "", left);
+    exit(1);
+}
+
+/* Checks the names of all files, with those that the flight recorder derives from its own. */
+static bool are_files_usable(const struct options *options) {
+    char before[PATH_MAX] = "", text[PATH_MAX] = "";
+    if (options->flight != NULL && (snprintf(before, sizeof before, "%s.before", options->flight) >= (int)sizeof before ||
+                                    snprintf(text, sizeof text, "%s.history", options->flight) >= (int)sizeof text)) {
+        errno = ENAMETOOLONG;
+        die(options->flight);
+    }
+    const struct file_name files[] = {{options->history, FILE_WRITTEN}, {options->records, FILE_WRITTEN},
+                                      {options->flows, FILE_WRITTEN},   {options->metrics, FILE_WRITTEN},
+                                      {options->flight, FILE_KEPT},     {options->flight != NULL ? before : NULL, FILE_KEPT},
+                                      {options->flight != NULL ? text : NULL, FILE_KEPT}};
+    return check_files("link", files, sizeof files / sizeof files[0], options->is_forced);
 }
 
 /* Ends the program after a refusal that no input of it can cause. */
@@ -357,11 +380,11 @@ static int write_to(void *user, const unsigned char *bytes, size_t count) {
 
 /* Writes the events since the last call. */
 static void follow(struct bottleneck *link) {
-    if (link->history == NULL)
+    if (link->history.file == NULL)
         return;
-    int answer = pie_flight_follow_text(&link->follower, link->flight.scratch, write_to, link->history);
+    int answer = pie_flight_follow_text(&link->follower, link->flight.scratch, write_to, link->history.file);
     if (answer == PIE_FLIGHT_STOPPED)
-        die(link->options->history);
+        die_unwritten(&link->history);
     atomic_store(&link->missed, link->follower.missed);
 }
 
@@ -412,14 +435,14 @@ static void open_link(struct bottleneck *link, const struct options *options) {
         tell_flight(&link->flight, moment, unix_time);
     }
     if (options->history != NULL) {
-        link->history = strcmp(options->history, "-") == 0 ? stdout : fopen(options->history, "w");
-        if (link->history == NULL)
+        if (!open_output(&link->history, options->history, OUTPUT_WHOLE, options->is_forced))
             die(options->history);
         pie_flight_follow_open(&link->follower, link->flight.memory, link->flight.bytes);
     }
-    if (!open_records(&link->records, options->records, options->every, moment, &unix_time))
+    if (!open_output(&link->recorded, options->records, OUTPUT_FOLLOWED, options->is_forced) ||
+        !open_records(&link->records, link->recorded.file, options->every, moment, &unix_time))
         die(options->records);
-    if (!open_flows(&link->flows, options->flows))
+    if (!open_output(&link->listed, options->flows, OUTPUT_FOLLOWED, options->is_forced) || !open_flows(&link->flows, link->listed.file))
         die(options->flows);
     open_metrics(&link->metrics, options->metrics, options->to);
     if (pthread_mutex_init(&link->telling, NULL) != 0 || pthread_create(&link->writer, NULL, write_history, link) != 0)
@@ -435,12 +458,14 @@ static void close_link(struct bottleneck *link) {
     pthread_join(link->writer, NULL);
     if (!remove_metrics())
         die(link->options->metrics);
-    if (link->history != NULL && (link->history == stdout ? fflush(stdout) : fclose(link->history)) != 0)
-        die(link->options->history);
-    if (!close_records(&link->records))
-        die("records");
-    if (!close_flows(&link->flows))
-        die("flows");
+    if (!close_output(&link->history))
+        die_unwritten(&link->history);
+    close_records(&link->records);
+    if (!close_output(&link->recorded))
+        die_unwritten(&link->recorded);
+    close_flows(&link->flows);
+    if (!close_output(&link->listed))
+        die_unwritten(&link->listed);
     if (link->flows.missing != 0)
         fprintf(stderr, "link: flows of %" PRIu64 " packets are missing in the file: there were too many\n", link->flows.missing);
     if (link->follower.missed != 0)
@@ -459,6 +484,8 @@ int main(int count, char **words) {
     int answer = read_options(count, words, &options);
     if (answer != OPTIONS_READ)
         return answer == OPTIONS_HELP ? 0 : 1;
+    if (!are_files_usable(&options))
+        return 1;
     /* (by default Linux ends a wait up to 50 us late, so that it can wake several threads at once) */
     if (prctl(PR_SET_TIMERSLACK, 1) != 0)
         die("the timer slack");

@@ -83,7 +83,7 @@ counters() {
 }
 
 # begin FOLDER [OPTIONS OF THE LINK..]: creates the namespaces and the link between them ($process;
-# its output is in FOLDER/link), and starts a server of iperf3
+# its output is in FOLDER/link; files of an earlier run are replaced), and starts a server of iperf3
 begin() {
     local folder=$1 name
     shift
@@ -92,7 +92,7 @@ begin() {
         ip netns add "$name" || return 1
     done
     # shellcheck disable=SC2086
-    (exec ip netns exec "${names[1]}" $before_others "$link_program" --from senders --to receivers --for "${bound}s" "$@") \
+    (exec ip netns exec "${names[1]}" $before_others "$link_program" --from senders --to receivers --for "${bound}s" --force "$@") \
         > "$folder/link" 2>&1 &
     process=$!
     started+=("$process")

@@ -31,7 +31,11 @@ static const char help_of_link[] =
     "                       FILE, and print twice a second the flow with the most bytes\n"
     "  --records FILE       write the sums of each interval when it ends, as pie explain --every --csv --wall does\n"
     "  --every 1s           length of these intervals\n"
+    "  --force              replace existing files\n"
     "  --for 60s            end after this time\n"
+    "\n"
+    "No FILE is another FILE. The history has its name when it is complete, at the end, and is FILE.partial until then. Metrics, flows,\n"
+    "records and the flight recorder can be read while the link runs.\n"
     "\n"
     "Times, rates and sizes have the units of tc and are never rounded. The program needs root or CAP_NET_ADMIN. Example:\n"
     "\n"
@@ -89,6 +93,7 @@ int read_options(int count, char **words, struct options *options) {
         {"--metrics", option_text, &options->metrics},
         {"--flows", option_text, &options->flows},
         {"--records", option_text, &options->records}, {"--every", option_time, &options->every},
+        {"--force", NULL, &options->is_forced},
         {"--delivery", read_delivery, &options->at_start},
         {"--overhead", layer_overhead, &options->layer},
         {"--mpu", layer_mpu, &options->layer},

@@ -21,6 +21,7 @@ struct options {
     const char *metrics;    /* file of the metrics, or NULL */
     const char *flows;      /* file that lists flows, or NULL */
     const char *records;    /* file of the interval records, or NULL */
+    bool is_forced;         /* existing files are replaced */
     uint64_t every;         /* the length of an interval in ns */
     uint64_t rtt;           /* delay on the way back in ns */
     uint64_t grant;         /* ns from one grant to the next; 0: the link sends whenever it is free */

@@ -1,76 +1,132 @@
 #!/usr/bin/env python3
-"""Writes a capture as pcapng, with the explanation of `pie explain --lost` as the comment of
-each packet that was lost or marked. Wireshark shows the comments, and `tshark -T fields -e
-frame.comment` prints them.
+"""Writes a capture as pcapng, with the explanation of `pie explain` as the comment of each packet
+that was lost or marked. Wireshark shows the comments, and `tshark -T fields -e frame.comment`
+prints them.
 
-usage: examples/replay/comments.py PIE HISTORY CAPTURE FILE
-  PIE      the built program;  FILE: the new capture
+usage: examples/replay/comments.py [--force] PIE HISTORY CAPTURE FILE
+  PIE      the built program;  FILE: the new capture;  --force: replace FILE if it exists
   HISTORY  a history of replay, whose tags are the frames' numbers; or of examples/link, whose tags count the arrivals
-  CAPTURE  pcap: the capture that replay read, or one by `tcpdump --direction=out -i DEVICE -w CAPTURE` at the link's
-           first device from its start on. `editcap -F nsecpcap` converts pcapng"""
+  CAPTURE  pcap or pcapng: the capture that replay read, or one by `tcpdump --direction=out -i DEVICE -w CAPTURE` at the
+           link's first device from its start on"""
 import re
 import struct
 import subprocess
 import sys
+from pathlib import Path
+
+sys.dont_write_bytecode = True
+sys.path.insert(0, str(Path(__file__).resolve().parents[2] / "report"))
+from outputs import OutputError, check_outputs, output_file  # noqa: E402
 
 MAGIC = {0xA1B2C3D4: 1000, 0xA1B23C4D: 1}       # ns of a unit of the time stamps
-COMMENT, RESOLUTION, NANOSECONDS = 1, 9, 9
+SECTION, INTERFACE, OLD_PACKET, SIMPLE_PACKET, PACKET = 0x0A0D0D0A, 1, 2, 3, 6  # blocks of pcapng
+SECTION_MAGIC = 0x1A2B3C4D
+END, COMMENT, RESOLUTION, NANOSECONDS = 0, 1, 9, 9  # options
 
 
 def padded(data):
     return data + bytes(-len(data) % 4)
 
 
-def option(code, data):
-    return struct.pack("<HH", code, len(data)) + padded(data)
+def option(order, code, data=b""):
+    return struct.pack(order + "HH", code, len(data)) + padded(data)
 
 
-def block(kind, body):
+def block(order, kind, body):
     size = len(body) + 12
-    return struct.pack("<II", kind, size) + body + struct.pack("<I", size)
+    return struct.pack(order + "II", kind, size) + body + struct.pack(order + "I", size)
 
 
-def frames(data):
-    """Yields the link type and the frames of a pcap, each as (ns since 1970, bytes, length on the
-    wire)."""
-    order = next((order for order in "<>" if struct.unpack(order + "I", data[:4])[0] in MAGIC), None)
-    if order is None:
-        sys.exit("examples/replay/comments.py: not a pcap")
+def order_of(data, magics):
+    """Returns the byte order in which the first four bytes are one of these numbers, or None."""
+    return next((order for order in "<>" if len(data) >= 4 and struct.unpack(order + "I", data[:4])[0] in magics), None)
+
+
+def blocks_of_pcap(data):
+    """Yields the byte order, kind and body of the blocks of pcapng that represent a pcap."""
+    order = order_of(data, MAGIC)
     unit, link = MAGIC[struct.unpack(order + "I", data[:4])[0]], struct.unpack(order + "I", data[20:24])[0] & 0xFFFF
-    found, place = [], 24
+    yield "<", SECTION, struct.pack("<IHHq", SECTION_MAGIC, 1, 0, -1)
+    yield "<", INTERFACE, struct.pack("<HHI", link, 0, 0) + option("<", RESOLUTION, bytes([NANOSECONDS])) + option("<", END)
+    place = 24
     while place + 16 <= len(data):
         seconds, part, caught, length = struct.unpack(order + "IIII", data[place:place + 16])
-        found.append((seconds * 10**9 + part * unit, data[place + 16:place + 16 + caught], length))
+        frame, moment = data[place + 16:place + 16 + caught], seconds * 10**9 + part * unit
+        yield "<", PACKET, struct.pack("<IIIII", 0, moment >> 32, moment & 0xFFFFFFFF, len(frame), length) + padded(frame)
         place += 16 + caught
-    return link, found
 
 
-def explanations(text):
+def blocks_of_pcapng(data):
+    """Yields the byte order, kind and body of each whole block. A section may have another byte order than the one
+    before."""
+    place, order = 0, "<"
+    while place + 12 <= len(data):
+        if data[place:place + 4] == struct.pack("<I", SECTION):  # (the same bytes in both orders)
+            order = order_of(data[place + 8:place + 12], {SECTION_MAGIC}) or "<"
+        kind, size = struct.unpack(order + "II", data[place:place + 8])
+        if size < 12 or size % 4 or place + size > len(data):
+            return
+        yield order, kind, data[place + 8:place + size - 4]
+        place += size
+
+
+def commented(order, kind, body, comment, most):
+    """Returns the kind and the body of a packet's block with this comment, before the options that it has. A simple
+    packet has no options, so it becomes a packet at moment 0; its first `most` bytes were captured."""
+    if kind == SIMPLE_PACKET:
+        length = struct.unpack(order + "I", body[:4])[0]
+        caught = min(length, most, len(body) - 4)
+        kind, body = PACKET, struct.pack(order + "IIIII", 0, 0, 0, caught, length) + padded(body[4:4 + caught])
+    end = 20 + len(padded(bytes(struct.unpack(order + "I", body[12:16])[0])))
+    return kind, body[:end] + option(order, COMMENT, comment.encode()) + (body[end:] or option(order, END))
+
+
+def explanations(program, history):
     """Returns the explanation of each packet that was lost or marked, by the lower 32 bits of its
     tag."""
-    parts = re.split(r"^(?=event )", text, flags=re.M)
-    return {int(re.match(r"event \d+: packet (\d+),", part)[1]) & 0xFFFFFFFF: part.rstrip("\n") for part in parts if part.startswith("event ")}
+    said = {}
+    for which in ("--lost", "--marked"):
+        with open(history, "rb") as file:
+            done = subprocess.run([program, "explain", which], stdin=file, capture_output=True, text=True, check=False)
+        if done.returncode:
+            raise OutputError(f"{history}: {done.stderr.strip()}")
+        parts = re.split(r"^(?=event )", done.stdout, flags=re.M)
+        said |= {int(re.match(r"event \d+: packet (\d+),", part)[1]) & 0xFFFFFFFF: part.rstrip("\n") for part in parts if part.startswith("event ")}
+    return said
+
+
+def write(program, history, capture, to, is_forced):
+    """Writes the new capture. Returns a message if the capture lacks frames, and otherwise None."""
+    check_outputs([to], [history, capture], lambda name: is_forced)
+    said = explanations(program, history)
+    with open(capture, "rb") as file:
+        data = file.read()
+    if order_of(data, MAGIC) is None and order_of(data, {SECTION}) is None:
+        raise OutputError(f"{capture}: neither pcap nor pcapng")
+    number, most = 0, 0
+    with output_file(to, is_forced) as out:
+        for order, kind, body in blocks_of_pcap(data) if order_of(data, MAGIC) else blocks_of_pcapng(data):
+            if kind == INTERFACE:
+                most = struct.unpack(order + "I", body[4:8])[0] or 0xFFFFFFFF
+            if kind in (OLD_PACKET, SIMPLE_PACKET, PACKET):
+                number += 1
+                if number in said:
+                    kind, body = commented(order, kind, body, said[number], most)
+            out.write(block(order, kind, body))
+    missing = sorted(set(said) - set(range(1, number + 1)))
+    return f"the capture has {number} frames, and the history lost or marked packet {missing[0]}" if missing else None
 
 
 def main():
-    program, history, capture, to = sys.argv[1:]
-    with open(history, "rb") as file:
-        text = subprocess.run([program, "explain", "--lost"], stdin=file, capture_output=True, text=True, check=True).stdout
-    said = explanations(text)
-    with open(capture, "rb") as file:
-        link, found = frames(file.read())
-    with open(to, "wb") as out:
-        out.write(block(0x0A0D0D0A, struct.pack("<IHHq", 0x1A2B3C4D, 1, 0, -1)))
-        out.write(block(1, struct.pack("<HHI", link, 0, 0) + option(RESOLUTION, bytes([NANOSECONDS])) + option(0, b"")))
-        for number, (moment, data, length) in enumerate(found, 1):
-            comment = said.get(number)
-            more = option(COMMENT, comment.encode()) + option(0, b"") if comment else b""
-            out.write(block(6, struct.pack("<IIIII", 0, moment >> 32, moment & 0xFFFFFFFF, len(data), length) + padded(data) + more))
-    missing = sorted(set(said) - set(range(1, len(found) + 1)))
-    if missing:
-        sys.exit(f"examples/replay/comments.py: the capture has {len(found)} frames, and the history lost packet {missing[0]}")
+    words = [word for word in sys.argv[1:] if word != "--force"]
+    if len(words) != 4:
+        sys.exit(__doc__.split("\n\n")[1])
+    try:
+        fault = write(*words, "--force" in sys.argv[1:])
+    except (OutputError, OSError) as why:
+        fault = why
+    if fault:
+        sys.exit(f"examples/replay/comments.py: {fault}")
 
 
-if len(sys.argv) != 5:
-    sys.exit(__doc__.split("\n\n")[1])
 main()

@@ -2,18 +2,18 @@
 #ifndef REPLAY_HISTORY_H
 #define REPLAY_HISTORY_H
 
+#include "output.h"
 #include "pie_text.h"
 
 #include <stdbool.h>
-#include <stdio.h>
 
 struct history {
-    FILE *file;
+    struct output output;
     struct pie_history text;
 };
 
 /* Opens the file ("-": standard output), and writes the opening. Returns false if that fails. */
-bool open_history(struct history *history, const char *name, const struct pie_opening *opening);
+bool open_history(struct history *history, const char *name, bool is_forced, const struct pie_opening *opening);
 
 /* Writes that the wall-clock time at this moment is `unix_time` (nanoseconds since 1970). Returns
  * false if that fails. */
@@ -22,7 +22,7 @@ bool write_time(struct history *history, uint64_t moment, uint64_t unix_time);
 /* Writes the record of an event, after its call. */
 void write_event(struct history *history, const struct pie_event *event);
 
-/* Closes the file. Returns false if anything could not be written. */
+/* Closes the file, which then has its name. Returns false with errno if anything could not be written. */
 bool close_history(struct history *history);
 
 #endif

@@ -15,10 +15,13 @@ static const char help_of_use[] =
     "would slow down after a drop continues here as in the capture. So delays and drops in an overload are greater than on a real link,\n"
     "and after an overload the traffic itself would have been different.\n"
     "\n"
+    "Each FILE has its name when it is complete, and is FILE.partial until then. No FILE is the capture or another FILE.\n"
+    "\n"
     "  -o FILE              the history; standard output by default\n"
     "  -w FILE              the capture as pcapng, with a comment at each packet that was dropped or marked\n"
     "  --flows FILE         put the flow's number into the upper 32 bits of each tag, and write the addresses and ports of each number\n"
     "                       to FILE\n"
+    "  --force              replace existing files\n"
     "  --seed 1             seed of the random words; equal seeds give equal histories\n"
     "  --split 1500b        split packets above this size, which segmentation offload joined before the capture\n";
 
@@ -48,6 +51,7 @@ int read_options(int count, char **words, struct options *options) {
         {"-o", option_text, &options->history},
         {"-w", option_text, &options->commented},
         {"--flows", option_text, &options->flows},
+        {"--force", NULL, &options->is_forced},
         {"--seed", option_number, &options->seed},
         {"--split", option_size, &options->split},
     };

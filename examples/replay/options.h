@@ -10,6 +10,7 @@ struct options {
     const char *history;    /* the file for the history; "-": standard output */
     const char *commented;  /* file of the capture with comments, or NULL */
     const char *flows;      /* file that lists flows, or NULL */
+    bool is_forced;         /* existing files are replaced */
     uint64_t seed;          /* seed of the random words */
     uint64_t split;         /* super-packets are split into packets of at most this many bytes; 0: never */
     struct control control; /* the link and its queue */

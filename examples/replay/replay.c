@@ -5,6 +5,7 @@
 #include "frame.h"
 #include "history.h"
 #include "options.h"
+#include "output.h"
 
 #include <errno.h>
 #include <inttypes.h>
@@ -32,6 +33,7 @@ struct replay {
     struct pie_state pie;
     struct history history;
     struct flows flows;
+    struct output listed;           /* the file of the flows */
     struct waiting queue[MOST_PACKETS];
     uint64_t first, packets, bytes; /* index of the oldest queued packet; numbers of queued packets and bytes */
     uint64_t now;                   /* the greatest moment of an arrival */
@@ -47,11 +49,19 @@ struct capture {
     struct bpf_program filter;
     int link;
     uint64_t start, last; /* times of the first and of the previous frame, in ns since 1970 */
-    FILE *commented;      /* NULL with none */
+    struct output commented;
 };
 
 static void die(const char *name, const char *why) {
     fprintf(stderr, "replay: %s: %s\n", name, why);
+    exit(1);
+}
+
+/* Ends the program after a file was not written, or not named. */
+static void die_unwritten(const struct output *output) {
+    const char *left = output->partial;
+    const char *name = strcmp(output->name, "-") == 0 ? "standard output" : output->name;
+    fprintf(stderr, "replay: %s: %s%s%s\n", name, strerror(errno), *left != '\0' ? "; the incomplete output is in " : "", left);
     exit(1);
 }
 
@@ -182,7 +192,7 @@ static bool take(struct replay *replay, struct capture *capture, const struct pc
     if (header->ts.tv_sec < 0 || stamp > capture->last + LONGEST_GAP)
         return false;
     if (replay->counts.frames == 1 && !write_time(&replay->history, 0, stamp))
-        die(replay->options.history, "could not be written");
+        die_unwritten(&replay->history.output);
     replay->counts.backwards += stamp < capture->last;
     capture->last = stamp > capture->last ? stamp : capture->last;
     int kind = read_frame(capture->link, bytes, header->caplen, header->len, &packet);
@@ -197,8 +207,8 @@ static bool take(struct replay *replay, struct capture *capture, const struct pc
         replay->counts.cut += kind == FRAME_CUT;
         replay->counts.wrong += kind == FRAME_WRONG;
     }
-    if (capture->commented != NULL && !write_frame(capture->commented, header, stamp, bytes, comment))
-        die(replay->options.commented, strerror(errno));
+    if (capture->commented.file != NULL && !write_frame(capture->commented.file, header, stamp, bytes, comment))
+        die_unwritten(&capture->commented);
     return true;
 }
 
@@ -216,11 +226,10 @@ static void open_capture(struct capture *capture, const struct options *options)
     }
     if (pcap_compile(capture->file, &capture->filter, options->filter, 1, PCAP_NETMASK_UNKNOWN) != 0)
         die(options->filter, pcap_geterr(capture->file));
-    if (options->commented == NULL)
-        return;
-    capture->commented = fopen(options->commented, "wb");
-    if (capture->commented == NULL || !write_interface(capture->commented, capture->link, (uint32_t)pcap_snapshot(capture->file)))
+    if (!open_output(&capture->commented, options->commented, OUTPUT_WHOLE, options->is_forced))
         die(options->commented, strerror(errno));
+    if (capture->commented.file != NULL && !write_interface(capture->commented.file, capture->link, (uint32_t)pcap_snapshot(capture->file)))
+        die_unwritten(&capture->commented);
 }
 
 /* Processes all frames. Returns false if the capture is broken, after an error message. */
@@ -269,25 +278,31 @@ int main(int count, char **words) {
     int answer = read_options(count, words, &replay.options);
     if (answer != OPTIONS_READ)
         return answer == OPTIONS_HELP ? 0 : 2;
-    const struct pie_opening *opening = &replay.options.control.opening;
-    open_capture(&capture, &replay.options);
+    const struct options *options = &replay.options;
+    const struct pie_opening *opening = &options->control.opening;
+    const struct file_name files[] = {{options->capture, FILE_READ}, {options->history, FILE_WRITTEN}, {options->commented, FILE_WRITTEN},
+                                      {options->flows, FILE_WRITTEN}};
+    if (!check_files("replay", files, sizeof files / sizeof files[0], options->is_forced))
+        return 1;
+    open_capture(&capture, options);
     uint32_t code = pie_open(&replay.pie, opening);
     if (code != PIE_DONE)
         die_refused("the opening", code);
-    if (!open_history(&replay.history, replay.options.history, opening))
-        die(replay.options.history, strerror(errno));
-    if (!open_flows(&replay.flows, replay.options.flows))
-        die(replay.options.flows, strerror(errno));
-    replay.word = replay.options.seed;
+    if (!open_history(&replay.history, options->history, options->is_forced, opening))
+        die(options->history, strerror(errno));
+    if (!open_output(&replay.listed, options->flows, OUTPUT_WHOLE, options->is_forced) || !open_flows(&replay.flows, replay.listed.file))
+        die(options->flows, strerror(errno));
+    replay.word = options->seed;
     bool is_whole = read_capture(&replay, &capture);
     while (is_whole && replay.packets != 0)
         go_on(&replay, replay.free_at);
     if (!close_history(&replay.history))
-        die(replay.options.history, "could not be written");
-    if (!close_flows(&replay.flows))
-        die(replay.options.flows, "could not be written");
-    if (capture.commented != NULL && fclose(capture.commented) != 0)
-        die(replay.options.commented, "could not be written");
+        die_unwritten(&replay.history.output);
+    close_flows(&replay.flows);
+    if (!close_output(&replay.listed))
+        die_unwritten(&replay.listed);
+    if (!close_output(&capture.commented))
+        die_unwritten(&capture.commented);
     pcap_freecode(&capture.filter);
     pcap_close(capture.file);
     free(replay.options.filter);

@@ -9,8 +9,8 @@ const char control_help[] =
     "  --rate 10mbit        rate of the link in bit, kbit, mbit, gbit, tbit, or in bytes: bps, kbps and so on\n"
     "  --target 15ms        target delay in s, ms, us, ns\n"
     "  --tupdate 15ms       time between updates\n"
-    "  --limit 1000p        limit of the queue in packets; also --limit 256kb in bytes (b, kb of 1024 bytes, mb, gb). The default in\n"
-    "                       bytes is 200 ms at the rate, at least 256kb\n"
+    "  --limit 4000p        limit of the queue in packets; also --limit 256kb in bytes (b, kb of 1024 bytes, mb, gb). The default in\n"
+    "                       bytes is 200 ms at the rate, at least 48448b; in packets it is the limit in bytes over 64, at most 65536p\n"
     "  --alpha 2, --beta 20 gains in the unit of tc, sixteenths per second\n"
     "  --ecn                mark packets that are ECN-capable\n"
     "  --delay stamp        delay from time stamps (stamp), or from the departure rate (rate, as --dq_rate_estimator)\n"
@@ -112,6 +112,11 @@ int refuse_word(const struct command *command, const char *name, const char *tex
     return WORDS_WRONG;
 }
 
+/* Returns the default limit in packets: as many packets of 64 bytes as `bytes` contains, from 1 to `most`. */
+static uint64_t packets_for(uint64_t bytes, uint64_t most) {
+    return bytes / 64 == 0 ? 1 : bytes / 64 < most ? bytes / 64 : most;
+}
+
 /* Computes the choices and the parameters from the options. Returns the first option that is out of its range, or
  * NULL. */
 static const char *finish(const struct command *command, struct control *control, const struct said *said) {
@@ -124,11 +129,12 @@ static const char *finish(const struct command *command, struct control *control
     if (opening->profile != PIE_ALWAYS_ON && opening->profile != PIE_ON_AND_OFF)
         return "--profile";
     pie_params_for(control->rate, &usual);
-    opening->packets = said->packets != 0 ? said->packets : command->most_packets < 1000 ? command->most_packets : 1000;
     opening->choices = (said->is_rate ? 0u : PIE_DELAY_STAMP) | (said->no_derandomization ? PIE_PICK_RANDOM : 0u) |
                        (said->no_cap ? PIE_STEP_UNCAPPED : 0u) | (said->bytemode ? PIE_SIZE_SCALED : 0u) |
                        (said->is_half ? PIE_DECAY_HALF : 0u);
     params->limit_bytes = said->bytes != 0 ? said->bytes : usual.limit_bytes;
+    opening->packets = said->packets != 0 ? said->packets : packets_for(params->limit_bytes, command->most_packets);
+    control->has_default_packets = said->packets == 0;
     params->alpha = said->is_tail ? 0 : said->alpha * 1000 / 16;
     params->beta = said->is_tail ? 0 : said->beta * 1000 / 16;
     params->mean_pkt = said->mean_pkt != 0 ? said->mean_pkt : said->bytemode ? said->mtu : usual.mean_pkt;
@@ -139,8 +145,7 @@ static const char *finish(const struct command *command, struct control *control
     return opening->packets > command->most_packets ? "--limit" : NULL;
 }
 
-/* Warns if the queue is full before a packet can wait for the target delay. */
-static void warn(const struct command *command, const struct control *control) {
+void warn_of_limits(const struct command *command, const struct control *control) {
     const struct pie_opening *opening = &control->opening;
     double wanted = (double)control->rate / 8e9 * (double)opening->params.target;
     if ((double)opening->params.limit_bytes < wanted)
@@ -218,6 +223,6 @@ int read_words(const struct command *command, int count, char **words, struct co
     const char *fault = finish(command, control, &said);
     if (fault != NULL)
         return refuse_word(command, fault, "", "out of its range");
-    warn(command, control);
+    warn_of_limits(command, control);
     return place;
 }

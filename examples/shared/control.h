@@ -17,6 +17,7 @@ enum { SENDER = 1, LINK = 2, TIMER = 3 }; /* the callers in a history */
 struct control {
     uint64_t rate;              /* rate of the link in bits per second */
     bool use_ecn;               /* true if ECN-capable packets are marked */
+    bool has_default_packets;   /* true if --limit names no number of packets */
     struct pie_opening opening; /* the controller's opening, at moment 0 */
 };
 
@@ -55,6 +56,9 @@ enum { WORDS_HELP = -1, WORDS_WRONG = -2 };
 /* Reads the words from 1 on, as `--name text` and `--name=text`, up to the first that is no option. Returns its
  * position. Prints the help if it is requested, and errors. */
 int read_words(const struct command *command, int count, char **words, struct control *control);
+
+/* Warns if the queue is full before a packet can wait for the target delay. read_words calls it, and so does a program that lowers a default limit. */
+void warn_of_limits(const struct command *command, const struct control *control);
 
 /* Prints the error, and returns WORDS_WRONG. */
 int refuse_word(const struct command *command, const char *name, const char *text, const char *fault);

@@ -1,5 +1,6 @@
 #define _POSIX_C_SOURCE 200809L
 #include "flight_file.h"
+#include "output.h"
 
 #include <errno.h>
 #include <fcntl.h>
@@ -43,13 +44,11 @@ static int write_to(void *user, const unsigned char *bytes, size_t count) {
 
 int write_flight(const struct flight_file *file) {
     char name[LONGEST_NAME];
-    if (snprintf(name, sizeof name, "%s.history", file->name) >= (int)sizeof name)
+    struct output output;
+    if (snprintf(name, sizeof name, "%s.history", file->name) >= (int)sizeof name || !open_output(&output, name, OUTPUT_WHOLE, true))
         return PIE_FLIGHT_STOPPED;
-    FILE *to = fopen(name, "w");
-    if (to == NULL)
-        return PIE_FLIGHT_STOPPED;
-    int answer = pie_flight_dump(file->memory, file->bytes, file->scratch, write_to, to);
-    return fclose(to) == 0 ? answer : PIE_FLIGHT_STOPPED;
+    int answer = pie_flight_dump(file->memory, file->bytes, file->scratch, write_to, output.file);
+    return close_output(&output) ? answer : PIE_FLIGHT_STOPPED;
 }
 
 int write_flight_of(const char *name, FILE *to) {

@@ -36,7 +36,7 @@ static inline void tell_flight(const struct flight_file *file, uint64_t moment, 
         pie_flight_clock(file->memory, moment, unix_time);
 }
 
-/* Writes the recorder's text to NAME.history, also while other threads keep events. Call it from one thread at a time.
+/* Writes the recorder's text to NAME.history, which has its name when it is complete, also while other threads keep events. Call it from one thread at a time.
  * Returns the result of pie_flight_dump. */
 int write_flight(const struct flight_file *file);
 

@@ -125,16 +125,16 @@ void flow_words(const struct flow *flow, char words[LONGEST_FLOW]) {
         snprintf(words, LONGEST_FLOW, "%s %s > %s", protocol_text(flow->protocol, protocol), source, destination);
 }
 
-bool open_flows(struct flows *flows, const char *name) {
+bool open_flows(struct flows *flows, FILE *file) {
     flows->file = NULL;
-    if (name == NULL)
+    if (file == NULL)
         return true;
     flows->places = calloc(FLOW_PLACES, sizeof *flows->places);
     flows->rows = calloc(MOST_FLOWS, sizeof *flows->rows);
     if (flows->places == NULL || flows->rows == NULL)
         return false;
-    flows->file = fopen(name, "w");
-    return flows->file != NULL && fputs("flow,protocol,source,source_port,destination,destination_port\n", flows->file) >= 0 &&
+    flows->file = file;
+    return fputs("flow,protocol,source,source_port,destination,destination_port\n", flows->file) >= 0 &&
            fflush(flows->file) == 0;
 }
 
@@ -214,8 +214,7 @@ bool close_flows(struct flows *flows) {
     if (flows->file == NULL)
         return true;
     write_flows(flows);
-    bool is_written = !ferror(flows->file);
-    is_written = fclose(flows->file) == 0 && is_written;
+    bool is_written = fflush(flows->file) == 0 && !ferror(flows->file);
     flows->file = NULL;
     free(flows->places);
     free(flows->rows);

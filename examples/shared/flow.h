@@ -51,7 +51,7 @@ struct flow_row {
 
 /* All flows. One thread adds flows, and the same or another thread writes them. */
 struct flows {
-    FILE *file;           /* NULL if flows are not requested */
+    FILE *file;           /* the caller's; NULL if flows are not requested */
     uint32_t *places;     /* hash table of row numbers, counted from 1; 0: free */
     struct flow_row *rows;
     uint32_t count;       /* number of rows: stored after a row was added, loaded before rows are written */
@@ -60,8 +60,8 @@ struct flows {
     struct flow_top top;  /* of the present interval */
 };
 
-/* Opens the file (NULL: none), and writes its header. Returns false if that fails. */
-bool open_flows(struct flows *flows, const char *name);
+/* Begins a list of flows in this file (NULL: none), and writes its header. Returns false if that fails. */
+bool open_flows(struct flows *flows, FILE *file);
 
 /* Counts a packet of this many bytes on the wire, which arrives at this moment in ns and begins with its IP header.
  * Returns the tag: the flow's number, 0 without an IP header, above the lower 32 bits of the counter. Without a
@@ -73,7 +73,7 @@ uint64_t note_flow(struct flows *flows, const uint8_t *bytes, size_t caught, uin
 /* Writes the flows that are new since the last call. */
 void write_flows(struct flows *flows);
 
-/* Writes the rest, and closes the file. Returns false if a write failed. */
+/* Writes the rest; the caller closes the file. Returns false if a write failed. */
 bool close_flows(struct flows *flows);
 
 #ifdef __cplusplus

@@ -1,20 +1,16 @@
 #include "records.h"
 
-#include <string.h>
-
-bool open_records(struct records *records, const char *name, uint64_t every, uint64_t moment, const uint64_t *unix_time) {
+bool open_records(struct records *records, FILE *file, uint64_t every, uint64_t moment, const uint64_t *unix_time) {
     unsigned char line[PIE_RESUME_ROOM];
     records->file = NULL;
     records->begun = 0;
-    if (name == NULL)
+    if (file == NULL)
         return true;
     if (pie_open_period(&records->period, every, unix_time != NULL) != PIE_DONE)
         return false;
     if (unix_time != NULL && pie_period_clock(&records->period, moment, *unix_time) != PIE_DONE)
         return false;
-    records->file = strcmp(name, "-") == 0 ? stdout : fopen(name, "w");
-    if (records->file == NULL)
-        return false;
+    records->file = file;
     size_t count = pie_write_period_header(&records->period, line, sizeof line);
     return fwrite(line, 1, count, records->file) == count && fflush(records->file) == 0;
 }
@@ -35,8 +31,6 @@ bool close_records(struct records *records) {
     make_record(records);
     write_record(records);
     bool is_written = !ferror(records->file);
-    if (records->file != stdout)
-        is_written = fclose(records->file) == 0 && is_written;
     records->file = NULL;
     return is_written;
 }

@@ -13,17 +13,17 @@ extern "C" {
 #endif
 
 struct records {
-    FILE *file; /* NULL if none are written */
+    FILE *file; /* the caller's; NULL if none are written */
     struct pie_period period;
     uint64_t begun;                      /* period.begun before the present event */
     size_t size;                         /* bytes of `line` */
     unsigned char line[PIE_RESUME_ROOM]; /* record of the interval that the present event may end */
 };
 
-/* Opens the file (NULL: none, "-": standard output) for intervals of `every` ns, and writes the header row.
+/* Begins records of intervals of `every` ns in this file (NULL: none), and writes the header row.
  * `unix_time` is the wall-clock time (nanoseconds since 1970) at this moment, or NULL without wall-clock times.
  * Returns false if that fails. */
-bool open_records(struct records *records, const char *name, uint64_t every, uint64_t moment, const uint64_t *unix_time);
+bool open_records(struct records *records, FILE *file, uint64_t every, uint64_t moment, const uint64_t *unix_time);
 
 /* Makes the record of the current interval. */
 void make_record(struct records *records);
@@ -31,7 +31,7 @@ void make_record(struct records *records);
 /* Writes the completed record, and makes it visible to readers. */
 void write_record(struct records *records);
 
-/* Writes the last record, and closes the file. Returns false if a write failed. */
+/* Writes the last record; the caller closes the file. Returns false if a write failed. */
 bool close_records(struct records *records);
 
 /* Returns true if records are written. If the next event may end an interval, formats that interval's record. */

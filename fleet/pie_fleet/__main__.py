@@ -1,12 +1,15 @@
 """pie-fleet: audits and summarizes the histories of many links, and writes one table."""
 import argparse
 import gc
-import os
 import subprocess
 import sys
+from pathlib import Path
 
-from . import changes, page, table, work
-from .journal import Journal
+sys.path.insert(0, str(Path(__file__).resolve().parents[2] / "report"))
+from outputs import OutputError, check_outputs  # noqa: E402
+
+from . import changes, page, table, work  # noqa: E402
+from .journal import Journal  # noqa: E402
 
 HELP = """The status is the first that applies: 1 if a history could not be audited; 2 if one differs; 3 if, with --since, a column of a link
 rose by more than its bound of --worse; otherwise 0."""
@@ -18,7 +21,7 @@ def arguments(words):
     parser.add_argument("--list", metavar="FILE", help="a file with histories that only one machine has, as lines 'host: path'")
     parser.add_argument("--scheduler", metavar="ADDRESS", help="the Dask scheduler, such as tcp://10.0.0.1:8786 (default: run in this process)")
     parser.add_argument("-o", "--output", metavar="TABLE", required=True, help="the table, as CSV; finished rows are in TABLE.journal until it is complete")
-    parser.add_argument("--force", action="store_true", help="replace an existing table")
+    parser.add_argument("--force", action="store_true", help="replace an existing table, and an existing page")
     parser.add_argument("--since", metavar="TABLE", help="an earlier table: audit only new and changed files, and print the changes")
     parser.add_argument("--worse", metavar="COLUMN=BY", action="append", default=[], type=changes.Bound,
                         help="with --since: print each link with a column that rose by more than this, in its unit or in per cent ('mean_wait=20%%')")
@@ -59,7 +62,7 @@ def tell(line):
 
 def listed(path):
     """Yields the histories of a list: (link, path, host) of each line 'host: path'."""
-    with open(path) as lines:
+    with open(path, **table.NAMES) as lines:
         for number, line in enumerate(lines, 1):
             line = line.rstrip("\n")
             if line.strip() and not line.startswith("#"):
@@ -87,6 +90,12 @@ def client_of(scheduler):
     return Client(scheduler)
 
 
+def check_files(asked, inputs):
+    """Raises `OutputError` if an output is one of these inputs or another output, or if it exists and must not be replaced."""
+    journal = f"{asked.output}.journal"  # (of an interrupted run, which continues)
+    check_outputs([asked.output, journal, *([asked.page] if asked.page else [])], inputs, lambda name: asked.force or name == journal)
+
+
 def gather(asked, rows, add):
     """Finds the histories and has their rows made. Returns the links in order."""
     client = workers = None
@@ -105,6 +114,7 @@ def gather(asked, rows, add):
     if missing:
         raise SystemExit(f"pie-fleet: no file is named {missing[0]}")
     sizes = dict(found)
+    check_files(asked, sizes)
     files = [(name, name, None) for name, _ in found] + (list(listed(asked.list)) if asked.list else [])
     files = [(link, path, host, known_of(rows.get(link))) for link, path, host in dict.fromkeys(files)]
     bar = Bar(len(files), asked.quiet)
@@ -132,9 +142,9 @@ def print_worst(rows, column):
 
 def main(words):
     asked = arguments(words)
-    if os.path.exists(asked.output) and not asked.force:
-        tell(f"{asked.output} is there already: --force replaces it")
-        return 1
+    for stream in (sys.stdout, sys.stderr):
+        stream.reconfigure(errors="surrogateescape")  # (the bytes of a name are written as they are)
+    check_files(asked, [name for name in (asked.since, asked.list) if name])
     before = table.read(asked.since) if asked.since else {}
     journal = Journal(f"{asked.output}.journal")
     rows = {**before, **journal.rows}
@@ -149,7 +159,7 @@ def main(words):
     table.write(asked.output, ended, asked.force)
     journal.end()
     if asked.page:
-        page.write(asked.page, ended, asked.reports)
+        page.write(asked.page, ended, asked.reports, asked.force)
     found = changes.changes(before, ended, asked.worse) if asked.since else []
     for line in found:
         print(line)
@@ -165,7 +175,7 @@ def main(words):
 if __name__ == "__main__":
     try:
         sys.exit(main(sys.argv[1:]))
-    except (OSError, ValueError, subprocess.SubprocessError) as fault:
+    except (OSError, ValueError, OutputError, subprocess.SubprocessError) as fault:
         tell(fault)
         sys.exit(1)
     except KeyboardInterrupt:

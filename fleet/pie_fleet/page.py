@@ -2,6 +2,9 @@
 import html
 import os
 import re
+from urllib.parse import quote
+
+from outputs import output_file
 
 from .table import number
 
@@ -34,9 +37,9 @@ def _shown(row, column):
     return html.escape(str(text))
 
 
-def write(path, rows, reports):
+def write(path, rows, reports, force=False):
     """Writes the page. A row links to its report if the folder `reports` has it, and otherwise shows the command
-    that makes it."""
+    that makes it. An existing page is replaced only with `force`."""
     columns = [column for column in SHOWN if any(row.get(column, "") != "" for row in rows)]
     lines = ["<!DOCTYPE html>", '<html lang="en"><head><meta charset="utf-8">',
              "<meta http-equiv=\"Content-Security-Policy\" content=\"default-src 'none'; style-src 'unsafe-inline'\">",
@@ -48,7 +51,7 @@ def write(path, rows, reports):
         report = os.path.join(reports, name)
         where = f"{row['host']}: " if row.get("host") else ""
         if os.path.exists(report):
-            way = f'<a href="{html.escape(os.path.relpath(report, os.path.dirname(os.path.abspath(path))), quote=True)}">report</a>'
+            way = f'<a href="{quote(os.fsencode(os.path.relpath(report, os.path.dirname(os.path.abspath(path)))))}">report</a>'
         else:
             way = f"<code>{html.escape(where)}pie-report {html.escape(quoted(row['path']))} -o {html.escape(quoted(report))}</code>"
         lines.append("<tr>" if str(row["status"]) == "0" else '<tr class="bad">')
@@ -56,10 +59,15 @@ def write(path, rows, reports):
         lines += [f'<td{" class=text" if column in ("finding", "note") else ""}>{_shown(row, column)}</td>' for column in columns]
         lines.append(f'<td class="text">{way}</td></tr>')
     lines.append("</table></body></html>")
-    with open(path, "w") as out:
-        out.write("\n".join(lines) + "\n")
+    with output_file(path, force) as out:
+        # (bytes of a name that are no text become U+FFFD)
+        out.write(os.fsencode("\n".join(lines) + "\n").decode(errors="replace").encode())
 
 
 def quoted(text):
-    """Returns a word quoted for a shell."""
-    return text if re.fullmatch(r"[A-Za-z0-9._/=:@%+-]+", text) else "'" + text.replace("'", "'\\''") + "'"
+    """Returns a word quoted for a shell; for bash if it has bytes that cannot be printed."""
+    if re.fullmatch(r"[A-Za-z0-9._/=:@%+-]+", text):
+        return text
+    if text.isprintable():
+        return "'" + text.replace("'", "'\\''") + "'"
+    return "$'" + "".join(chr(it) if 32 <= it < 127 and it not in b"'\\" else f"\\x{it:02x}" for it in os.fsencode(text)) + "'"

@@ -1,8 +1,13 @@
 """The table: one row for each link, with the columns of the file, percentages, and the fields of `pie explain --summary --csv` under their names."""
 import csv
-import os
+import sys
+
+from outputs import output_file
 
 from .work import KNOWN
+
+# Files with names of histories have the bytes of the names, which may be no text.
+NAMES = {"encoding": sys.getfilesystemencoding(), "errors": sys.getfilesystemencodeerrors()}
 
 SHARES = ["loss_percent", "marks_percent"]
 
@@ -36,24 +41,16 @@ def columns(rows):
 
 
 def write(path, rows, force=False):
-    """Writes the table under another name, and renames it when all of it is on the disk. An existing table is replaced only with `force`."""
-    part = f"{path}.part"
-    with open(part, "w", newline="") as out:
+    """Writes the table, which has its name when all of it is on the disk. An existing table is replaced only with `force`."""
+    with output_file(path, force, "w", newline="", **NAMES) as out:
         to = csv.DictWriter(out, columns(rows), restval="", lineterminator="\n")
         to.writeheader()
         to.writerows(rows)
-        out.flush()
-        os.fsync(out.fileno())
-    if force:
-        os.replace(part, path)
-    else:
-        os.link(part, path)
-        os.unlink(part)
 
 
 def read(path):
     """Returns the rows of a table, by link."""
-    with open(path, newline="") as table:
+    with open(path, newline="", **NAMES) as table:
         return {row["link"]: row for row in csv.DictReader(table)}
 
 

@@ -31,8 +31,10 @@ def _stamp(path):
     return known.st_size, known.st_mtime_ns
 
 
-def _call(words):
-    return subprocess.run(words, capture_output=True, text=True, errors="replace", stdin=subprocess.DEVNULL)
+def _call(words, history=os.devnull):
+    """Runs a program with a history as its standard input, because `pie` refuses a name that is no text."""
+    with open(history, "rb") as given:
+        return subprocess.run(words, capture_output=True, text=True, errors="replace", stdin=given)
 
 
 def row_of(link, path, host, known, pie):
@@ -47,21 +49,21 @@ def row_of(link, path, host, known, pie):
         return {"link": link, "same": True}
     row["size"], row["changed"] = size, changed
     try:
-        audit = _call([pie, "audit", path])
-        summed = _call([pie, "explain", "--summary", "--csv", path])
+        audit = _call([pie, "audit"], path)
+        summed = _call([pie, "explain", "--summary", "--csv"], path)
     except OSError as fault:
-        return {**row, "finding": "unread", "note": f"{pie}: {fault.strerror}"}
-    found = re.fullmatch(r"(?s:.*: )(clean|differs),(\d+)\n", audit.stdout)
+        return {**row, "finding": "unread", "note": fault.strerror if fault.filename == path else f"{pie}: {fault.strerror}"}
+    found = re.fullmatch(r"(clean|differs),(\d+)\n", audit.stdout)
     if found:
         row["status"] = audit.returncode
         row["finding"], row["event"] = found.groups()
     else:
-        row["finding"], row["note"] = "unread" if audit.returncode < 0 else "fault", _reason(audit, path)
+        row["finding"], row["note"] = "unread" if audit.returncode < 0 else "fault", _reason(audit)
     lines = summed.stdout.split("\n")
     if len(lines) > 1 and lines[1]:
         row.update(zip(lines[0].split(","), lines[1].split(",")))
     elif not row["note"]:
-        row.update(status=1, finding="unread", note=f"pie explain: {_reason(summed, path)}")
+        row.update(status=1, finding="unread", note=f"pie explain: {_reason(summed)}")
     try:
         if _stamp(path) != (size, changed):
             row.update(status=1, finding="unread", note="changed while it was read")
@@ -70,14 +72,11 @@ def row_of(link, path, host, known, pie):
     return row
 
 
-def _reason(ended, path):
-    """Returns one line with the reason why `pie` failed: its first line of faults, without the file's name."""
+def _reason(ended):
+    """Returns one line with the reason why `pie` failed: its first line of faults."""
     if ended.returncode < 0:
         return f"pie was ended by signal {-ended.returncode}"
-    told = ended.stderr.strip().split("\n")[0]
-    for start in (f"pie: {path}: ", "pie: "):
-        if told.startswith(start):
-            return told[len(start):]
+    told = ended.stderr.strip().split("\n")[0].removeprefix("pie: ")
     return told or f"pie ended with {ended.returncode} and said nothing"
 
 

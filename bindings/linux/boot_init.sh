@@ -1,0 +1,144 @@
+#!/bin/busybox sh
+# The first process of the kernel that boot.sh boots: queues of pie and fq_pie on the device rb (guest_net.sh describes the network), and pie-watch beside
+# them.
+. /net.sh
+begins
+loads veth sch_htb sch_tbf sch_netem sch_pie sch_fq_pie
+finds_disk
+connects 1
+/bin/tc -n b qdisc add dev b0 root netem delay 5ms limit 10000
+/bin/ip netns exec b /bin/iperf3 -s -D
+/bin/ip netns exec b /bin/iperf3 -s -D -p 5202
+/bin/ip netns exec b /bin/iperf3 -s -D -p 5203
+for name in a b; do
+    /bin/ip netns exec $name $box sysctl -q -w net.ipv4.tcp_ecn=1
+done
+$box sleep 1
+
+# watches NAME WORDS..: starts pie-watch in the namespace of the queue, and waits until it records
+watches() {
+    name=$1
+    shift
+    /bin/ip netns exec r /bin/pie-watch --compact -o /tmp/$name.steps "$@" 2> /tmp/$name.said &
+    watch=$!
+    until $box grep -q '^pie-watch: recording' /tmp/$name.said; do
+        $box kill -0 $watch 2> /dev/null || { echo "FAILED: pie-watch $name"; $box cat /tmp/$name.said; break; }
+        $box sleep 0.2
+    done
+}
+
+# ends STATUS: ends pie-watch, whose status must be STATUS, and keeps tc's later counters
+ends() {
+    $box kill -INT $($box pidof pie-watch)
+    wait $watch
+    status=$?
+    counters > /tmp/$name.later
+    [ $status = $1 ] || echo "FAILED: pie-watch $name ends with $status"
+    $box sed "s/^/TOLD $name: /" /tmp/$name.said
+}
+
+# counters: prints tc's counters, without the probability, which changes in an idle queue
+counters() {
+    /bin/tc -n r -s -j qdisc show dev rb | $box sed 's/"prob":[^,]*,//g; s/"delay":[^,]*,//g'
+}
+
+# keeps: keeps tc's counters, at a moment when no packet comes
+keeps() {
+    until counters > /tmp/$name.earlier && $box sleep 0.3 && counters > /tmp/$name.json && $box cmp -s /tmp/$name.earlier /tmp/$name.json; do :; done
+}
+
+# queues WORDS..: a queue 2: below a link of 10 Mbit/s
+queues() {
+    /bin/tc -n r qdisc add dev rb root handle 1: htb default 1
+    /bin/tc -n r class add dev rb parent 1: classid 1:1 htb rate 10mbit
+    /bin/tc -n r qdisc add dev rb parent 1:1 handle 2: "$@" || echo "FAILED tc $*"
+}
+
+changes() {
+    /bin/tc -n r qdisc change dev rb parent 1:1 handle 2: "$@" || echo "FAILED tc change $*"
+}
+
+# carries BYTES: TCP by two flows, and UDP at three times the rate of the link
+carries() {
+    /bin/ip netns exec a /bin/iperf3 -c 10.0.2.1 -P 2 -n $1 > /dev/null 2>&1 &
+    tcp=$!
+    /bin/ip netns exec a /bin/iperf3 -c 10.0.2.1 -p 5202 -u -b 30M -l 700 -n $1 > /dev/null 2>&1
+    wait $tcp
+}
+
+# rate WORD: the rate of the link
+rate() {
+    /bin/tc -n r class change dev rb parent 1: classid 1:1 htb rate $1 || echo "FAILED rate $1"
+}
+
+# a queue that works already, with packets that wait: 1 kB/s leaves
+queues pie ecn
+carries $bytes
+rate 8kbit
+/bin/ip netns exec a $box ping -q -c 300 -i 0.005 -s 1000 10.0.2.1 > /dev/null
+watches running rb
+/bin/ip netns exec a $box ping -q -c 1 10.0.2.1 > /dev/null
+rate 10mbit
+changes pie limit 60 target 5ms tupdate 10ms alpha 4 beta 30
+carries $bytes
+changes pie limit 10
+/bin/ip -n r link set rb down
+/bin/ip -n r link set rb up
+/bin/ip -n r route replace 10.0.2.0/24 dev rb
+changes pie limit 500 bytemode
+carries $bytes
+keeps
+ends 0
+/bin/tc -n r qdisc del dev rb root
+
+# a queue from its creation on, and its removal
+watches created --all --rate-estimator
+queues pie dq_rate_estimator
+carries $bytes
+keeps
+/bin/tc -n r qdisc del dev rb root
+ends 0
+
+# fq_pie, and a queue that is not wanted
+watches flows --queue 2: rb
+queues fq_pie limit 400 flows 64 ecn
+carries $bytes
+keeps
+ends 0
+/bin/tc -n r qdisc del dev rb root
+
+# a ring that is too small while pie-watch is stopped
+queues pie
+watches small --ring 1 rb
+$box kill -STOP $($box pidof pie-watch)
+carries 6M
+$box kill -CONT $($box pidof pie-watch)
+$box sleep 1
+carries $bytes
+keeps
+ends 2
+/bin/tc -n r qdisc del dev rb root
+
+# refuses NAME WORDS TEXT: pie-watch with WORDS fails, and its only line contains TEXT
+refuses() {
+    $2 > /tmp/refused 2>&1 && echo "FAILED: $1 is not refused"
+    $box sed "s/^/TOLD $1: /" /tmp/refused
+    $box grep -q "$3" /tmp/refused && [ "$($box wc -l < /tmp/refused)" = 1 ] || echo "FAILED: $1"
+}
+refuses device "/bin/pie-watch none" 'no such device'
+echo nobody:x:65534:65534::/: > /etc/passwd
+refuses root "$box start-stop-daemon -S -c nobody -x /bin/pie-watch -- lo" 'CAP_PERFMON, CAP_BPF'
+refuses file "/bin/pie-watch -o /tmp/small.steps lo" 'the file exists'
+$box mount -t tmpfs none /sys/kernel/btf
+refuses types "/bin/pie-watch lo" 'CONFIG_DEBUG_INFO_BTF'
+$box umount /sys/kernel/btf
+$box rmmod sch_fq_pie
+$box rmmod sch_pie
+refuses module "/bin/pie-watch lo" 'sch_pie is not loaded'
+
+$box dmesg | $box grep -E 'WARNING|BUG|Oops|Call Trace'
+cd /tmp
+$box tar -cf - *.steps *.json *.later > /dev/vda || echo "FAILED tar"
+$box sync
+echo ended
+$box poweroff -f

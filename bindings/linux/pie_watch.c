@@ -1,0 +1,402 @@
+/* pie-watch: records each step of the kernel's own queue disciplines pie and fq_pie, by BPF programs (pie_watch.bpf.c). README.md describes it, and
+ * `pie-watch --help` has the options. */
+#define _GNU_SOURCE
+#include "../../examples/shared/output.h"
+#include "watch_check.h"
+#include "watch_queue.h"
+#include "watch_text.h"
+
+#include "pie_watch.skel.h"
+#include "pie.h"
+
+#include <bpf/bpf.h>
+#include <errno.h>
+#include <getopt.h>
+#include <net/if.h>
+#include <signal.h>
+#include <stdlib.h>
+#include <string.h>
+#include <sys/stat.h>
+#include <time.h>
+#include <unistd.h>
+
+#define PROGRAM "pie-watch"
+#define MOST_RING 2048 /* MiB */
+#define VERIFIER_COUNTS 4 /* log level: the verifier prints the instructions that it processed */
+
+static const char usage[] =
+    "Records each step of the kernel's queue disciplines pie and fq_pie\n"
+    "\n"
+    "Usage: pie-watch [OPTIONS] DEVICE\n"
+    "       pie-watch [OPTIONS] --all\n"
+    "       pie-watch text [--force] [-o FILE] STEPS\n"
+    "\n"
+    "Nothing is loaded or changed but BPF programs, which end with pie-watch. A queue is recorded from its creation on, or from its next enqueue. A\n"
+    "signal ends the recording (INT, TERM or HUP). `pie-watch text` writes a compact file of steps as text.\n"
+    "\n"
+    "  -q, --queue HANDLE  Record only the queue with this handle, such as 8001:\n"
+    "  -a, --all           Record the queues of all devices of this network namespace\n"
+    "  -o, --output FILE   Write to FILE, which has its name when it is complete. Default: standard output\n"
+    "  -e, --rate-estimator\n"
+    "                      Read the clock from the beginning, as queues with dq_rate_estimator need it. Otherwise their first steps are lost\n"
+    "  -c, --compact       Write compact steps, of which `pie-watch text` makes text\n"
+    "  -r, --ring MIB      Size of the ring buffer, a power of two. A larger one loses no steps when this program has to wait. Default: 32\n"
+    "      --anyway        Record on a kernel that is not known\n"
+    "      --force         Replace an existing file\n"
+    "  -v, --verbose       Print what libbpf says\n"
+    "  -h, --help          Print help\n"
+    "  -V, --version       Print version\n"
+    "\n"
+    "The status is 0 if each step was recorded, 1 after an error, and 2 if steps were lost. The output has a row `lost,N,QUEUE` where N steps of a queue\n"
+    "are missing.\n";
+
+#define MOST_PROGRAMS 64
+
+struct options {
+    const char *device, *output, *steps;
+    unsigned ifindex, handle, ring;
+    bool is_all, is_compact, is_anyway, is_forced, is_verbose, is_text, has_clock;
+};
+
+/* A recording. */
+struct recording {
+    const struct options *options;
+    struct pie_watch_bpf *bpf;
+    struct bpf_link *links[MOST_PROGRAMS];
+    size_t links_count;
+    struct output output;
+    struct watch_text text;
+    FILE *nowhere;
+    bool needs_clock; /* a queue has the rate estimator */
+    const char *fault;
+};
+
+static volatile sig_atomic_t is_ended;
+
+static void end(int number) {
+    (void)number;
+    is_ended = 1;
+}
+
+static void fail(const char *what, const char *about) {
+    fprintf(stderr, PROGRAM ": %s%s\n", what, about);
+    exit(1);
+}
+
+/* Reports an error of a file (NULL: standard output). */
+static void fail_file(const char *name) {
+    fprintf(stderr, PROGRAM ": %s: %s\n", name != NULL ? name : "standard output", strerror(errno));
+    exit(1);
+}
+
+/* ---- records */
+
+/* Writes a record to the output. The text, or its counters, are updated in any case. */
+static int take(void *user, void *record, size_t bytes) {
+    struct recording *recording = user;
+    const struct watch_head *head = record;
+    if (recording->fault != NULL)
+        return 0;
+    if (bytes < sizeof *head || watch_bytes(head) != bytes || !watch_text_add(&recording->text, record))
+        recording->fault = "the recorder wrote a record that is not possible; please report this";
+    else if (recording->options->is_compact)
+        fwrite(record, 1, bytes, recording->output.file);
+    if ((head->type == WATCH_INIT || head->type == WATCH_RESUME || head->type == WATCH_CHANGE) && head->bits & WATCH_DQ_RATE)
+        recording->needs_clock = true;
+    if (head->type == WATCH_QUEUE && recording->fault == NULL)
+        fprintf(stderr, PROGRAM ": %s: %s\n", watch_text_name(&recording->text, head->queue),
+                ((const struct watch_queue *)record)->kind == WATCH_PIE ? "pie" : "fq_pie");
+    return 0;
+}
+
+static const char compact_magic[16] = "pie-watch steps1";
+
+/* Reads a compact file, and writes its text. */
+static int write_text(const struct options *options) {
+    struct output output;
+    struct watch_text text;
+    union {
+        struct watch_head head;
+        unsigned char bytes[WATCH_MOST];
+    } record;
+    char magic[sizeof compact_magic];
+    const char *fault = NULL;
+    FILE *steps = strcmp(options->steps, "-") == 0 ? stdin : fopen(options->steps, "rb");
+    if (steps == NULL)
+        fail_file(options->steps);
+    if (fread(magic, 1, sizeof magic, steps) != sizeof magic || memcmp(magic, compact_magic, sizeof magic) != 0)
+        fail("this is no file of `pie-watch --compact`: ", options->steps);
+    if (!open_output(&output, options->output != NULL ? options->output : "-", OUTPUT_WHOLE, options->is_forced))
+        fail_file(options->output);
+    watch_text_begin(&text, output.file);
+    while (fault == NULL && fread(&record.head, sizeof record.head, 1, steps) == 1) {
+        size_t rest = watch_bytes(&record.head) - sizeof record.head;
+        if (watch_bytes(&record.head) == 0)
+            fault = "a record has an unknown type: ";
+        else if (rest != 0 && fread(record.bytes + sizeof record.head, rest, 1, steps) != 1)
+            fault = "the last record is not complete: ";
+        else if (!watch_text_add(&text, &record))
+            fault = "a record contradicts those before it: ";
+    }
+    if (fault != NULL)
+        fail(fault, options->steps);
+    if (!close_output(&output))
+        fail("the output is not complete: ", strerror(errno));
+    u64 lost = text.lost + text.missing;
+    watch_text_end(&text);
+    return lost != 0 ? 2 : 0;
+}
+
+/* ---- BPF */
+
+static char last_warning[256]; /* of libbpf */
+static bool is_verbose;
+
+static int note_libbpf(enum libbpf_print_level level, const char *format, va_list arguments) {
+    va_list again;
+    va_copy(again, arguments);
+    if (level == LIBBPF_WARN)
+        vsnprintf(last_warning, sizeof last_warning, format, again);
+    va_end(again);
+    last_warning[strcspn(last_warning, "\n")] = '\0';
+    return is_verbose ? vfprintf(stderr, format, arguments) : 0;
+}
+
+/* The programs that only fq_pie needs, and those that only the rate estimator needs. */
+static bool is_of_fq_pie(const struct bpf_program *program) {
+    const char *name = bpf_program__name(program);
+    return strncmp(name, "fq_pie", 6) == 0 || strcmp(name, "drop_early_ends") == 0 || strcmp(name, "calculation_begins") == 0;
+}
+
+static bool is_of_clock(const struct bpf_program *program) {
+    const char *name = bpf_program__name(program);
+    return strncmp(name, "clock", 5) == 0 || strcmp(name, "dequeue_begins") == 0;
+}
+
+static bool attach(struct recording *recording, const struct bpf_program *program) {
+    struct bpf_link *link = bpf_program__attach(program);
+    if (link == NULL || recording->links_count == MOST_PROGRAMS) {
+        fprintf(stderr, PROGRAM ": %s cannot be traced: %s\n", strchr(bpf_program__section_name(program), '/') + 1, strerror(errno));
+        return false;
+    }
+    recording->links[recording->links_count++] = link;
+    return true;
+}
+
+/* Attaches the programs that read the clock for the rate estimator. They run at each reading of the clock in the kernel. */
+static void attach_clock(struct recording *recording) {
+    struct bpf_program *program;
+    if (recording->bpf->bss->has_clock)
+        return;
+    bpf_object__for_each_program(program, recording->bpf->obj) {
+        if (is_of_clock(program) && !attach(recording, program))
+            exit(1);
+    }
+    recording->bpf->bss->has_clock = true;
+}
+
+static void load(struct recording *recording, const struct watch_checked *checked) {
+    const struct options *options = recording->options;
+    LIBBPF_OPTS(bpf_object_open_opts, opened, .kernel_log_level = options->is_verbose ? VERIFIER_COUNTS : 0);
+    struct pie_watch_bpf *bpf = pie_watch_bpf__open_opts(&opened);
+    struct bpf_program *program;
+    struct stat namespace;
+    int processors = libbpf_num_possible_cpus();
+    if (bpf == NULL || processors < 1)
+        fail("the BPF programs cannot be read: ", strerror(errno));
+    if (stat("/proc/self/ns/net", &namespace) != 0)
+        fail("/proc/self/ns/net: ", strerror(errno));
+    bpf->rodata->wanted_ifindex = options->ifindex;
+    bpf->rodata->wanted_handle = options->handle;
+    bpf->rodata->wanted_netns = (u32)namespace.st_ino;
+    bpf->rodata->has_fq_pie = checked->has_fq_pie;
+    bpf_map__set_max_entries(bpf->maps.words, (u32)processors);
+    bpf_map__set_max_entries(bpf->maps.readings, (u32)processors);
+    bpf_map__set_max_entries(bpf->maps.ring, options->ring << 20);
+    bpf_object__for_each_program(program, bpf->obj)
+        bpf_program__set_autoload(program, checked->has_fq_pie || !is_of_fq_pie(program));
+    if (pie_watch_bpf__load(bpf) != 0) {
+        fprintf(stderr, PROGRAM ": the kernel refuses the BPF programs: %s (%s)\n", strerror(errno), last_warning);
+        exit(1);
+    }
+    recording->bpf = bpf;
+    bpf_object__for_each_program(program, bpf->obj) {
+        if (bpf_program__autoload(program) && !is_of_clock(program) && !attach(recording, program))
+            exit(1);
+    }
+    if (options->has_clock)
+        attach_clock(recording);
+}
+
+static void detach(struct recording *recording) {
+    while (recording->links_count > 0)
+        bpf_link__destroy(recording->links[--recording->links_count]);
+}
+
+/* Writes the number of steps that were lost at the end. */
+static void write_last_losses(struct recording *recording) {
+    int queues = bpf_map__fd(recording->bpf->maps.queues);
+    size_t bytes = bpf_map__value_size(recording->bpf->maps.queues);
+    unsigned char *value = malloc(bytes);
+    u64 key, *before = NULL;
+    struct watch_base lost;
+    while (value != NULL && bpf_map_get_next_key(queues, before, &key) == 0) {
+        const struct queue *queue = (const struct queue *)value;
+        before = &key;
+        if (bpf_map_lookup_elem(queues, &key, value) != 0 || queue->lost == 0)
+            continue;
+        memset(&lost, 0, sizeof lost);
+        lost.head.type = WATCH_LOST;
+        lost.head.queue = queue->number;
+        lost.head.seq = queue->seq;
+        lost.lost = queue->lost;
+        if (queue->is_named)
+            take(recording, &lost, sizeof lost);
+        else
+            recording->text.lost += queue->lost;
+    }
+    free(value);
+}
+
+static int record(const struct options *options, const struct watch_checked *checked) {
+    struct recording recording = {.options = options};
+    struct ring_buffer *ring;
+    load(&recording, checked);
+    if (!open_output(&recording.output, options->output != NULL ? options->output : "-", OUTPUT_WHOLE, options->is_forced))
+        fail_file(options->output);
+    if (options->is_compact) {
+        fwrite(compact_magic, 1, sizeof compact_magic, recording.output.file);
+        recording.nowhere = fopen("/dev/null", "w");
+    }
+    watch_text_begin(&recording.text, options->is_compact ? recording.nowhere : recording.output.file);
+    ring = ring_buffer__new(bpf_map__fd(recording.bpf->maps.ring), take, &recording, NULL);
+    if (ring == NULL)
+        fail("the ring buffer cannot be mapped: ", strerror(errno));
+    signal(SIGINT, end);
+    signal(SIGTERM, end);
+    signal(SIGHUP, end);
+    signal(SIGPIPE, SIG_IGN);
+    recording.bpf->bss->is_on = true;
+    fprintf(stderr, PROGRAM ": recording %s\n", options->is_all ? "all devices" : options->device);
+    while (!is_ended && recording.fault == NULL && !ferror(recording.output.file)) {
+        int count = ring_buffer__consume(ring);
+        if (recording.needs_clock)
+            attach_clock(&recording);
+        if (count == 0)
+            nanosleep(&(struct timespec){.tv_nsec = 2000000}, NULL);
+    }
+    recording.bpf->bss->is_on = false;
+    detach(&recording);
+    ring_buffer__consume(ring);
+    write_last_losses(&recording);
+    u64 steps = recording.text.steps, missing = recording.text.missing + recording.bpf->bss->steps_missed,
+        lost = recording.text.lost + recording.bpf->bss->lost_elsewhere + missing;
+    unsigned queues = recording.bpf->bss->queues_seen, queues_missed = recording.bpf->bss->queues_missed;
+    if (recording.fault != NULL)
+        fail(recording.fault, "");
+    if (!close_output(&recording.output))
+        fail("the output is not complete: ", strerror(errno));
+    fprintf(stderr, PROGRAM ": %u queue%s, %llu steps, %llu lost\n", queues, queues == 1 ? "" : "s", (unsigned long long)steps, (unsigned long long)lost);
+    if (missing != 0)
+        fprintf(stderr, PROGRAM ": %llu steps are missing without a row; please report this\n", (unsigned long long)missing);
+    if (queues_missed != 0)
+        fprintf(stderr, PROGRAM ": queues beyond the first 1024 were not recorded\n");
+    return lost != 0 || queues_missed != 0 ? 2 : 0;
+}
+
+/* ---- options */
+
+/* Reads a handle as tc writes it: the major number in hexadecimal digits, and a colon. */
+static unsigned read_handle(const char *text) {
+    char *rest;
+    unsigned long major = strtoul(text, &rest, 16);
+    if (rest == text || strcmp(rest, ":") != 0 || major == 0 || major > 0xffff)
+        fail("this is no handle of a queue, such as 8001: : ", text);
+    return (unsigned)major << 16;
+}
+
+static unsigned read_ring(const char *text) {
+    char *rest;
+    unsigned long mib = strtoul(text, &rest, 10);
+    if (rest == text || *rest != '\0' || mib == 0 || mib > MOST_RING || (mib & (mib - 1)) != 0)
+        fail("--ring is a power of two from 1 to 2048 MiB: ", text);
+    return (unsigned)mib;
+}
+
+static void read_options(struct options *options, int count, char **words) {
+    static const struct option names[] = {{"queue", required_argument, NULL, 'q'}, {"all", no_argument, NULL, 'a'}, {"output", required_argument, NULL, 'o'},
+                                          {"compact", no_argument, NULL, 'c'}, {"rate-estimator", no_argument, NULL, 'e'}, {"ring", required_argument, NULL, 'r'}, {"anyway", no_argument, NULL, 'w'},
+                                          {"force", no_argument, NULL, 'f'},       {"verbose", no_argument, NULL, 'v'}, {"help", no_argument, NULL, 'h'},
+                                          {"version", no_argument, NULL, 'V'},     {NULL, 0, NULL, 0}};
+    int letter;
+    *options = (struct options){.ring = 32};
+    if (count > 1 && strcmp(words[1], "text") == 0) {
+        options->is_text = true;
+        words++;
+        count--;
+    }
+    while ((letter = getopt_long(count, words, "q:ao:cer:vhV", names, NULL)) != -1) {
+        switch (letter) {
+        case 'q':
+            options->handle = read_handle(optarg);
+            break;
+        case 'a':
+            options->is_all = true;
+            break;
+        case 'o':
+            options->output = optarg;
+            break;
+        case 'c':
+            options->is_compact = true;
+            break;
+        case 'e':
+            options->has_clock = true;
+            break;
+        case 'r':
+            options->ring = read_ring(optarg);
+            break;
+        case 'w':
+            options->is_anyway = true;
+            break;
+        case 'f':
+            options->is_forced = true;
+            break;
+        case 'v':
+            options->is_verbose = true;
+            break;
+        case 'h':
+            fputs(usage, stdout);
+            exit(0);
+        case 'V':
+            printf(PROGRAM " %s\n", PIE_VERSION);
+            exit(0);
+        default:
+            exit(1);
+        }
+    }
+    if (count - optind > 1)
+        fail("one device is recorded, or --all: ", words[optind + 1]);
+    if (options->is_text)
+        options->steps = words[optind];
+    else
+        options->device = words[optind];
+}
+
+int main(int count, char **words) {
+    struct options options;
+    struct watch_checked checked;
+    read_options(&options, count, words);
+    if (options.is_text ? options.steps == NULL : (options.device != NULL) == options.is_all)
+        fail(options.is_text ? "a file of steps is missing; --help" : "a device, or --all, is missing; --help", "");
+    if (!check_files(PROGRAM, (struct file_name[]){{options.steps, FILE_READ}, {options.output, FILE_WRITTEN}}, 2, options.is_forced))
+        return 1;
+    if (options.is_text)
+        return write_text(&options);
+    if (options.device != NULL && (options.ifindex = if_nametoindex(options.device)) == 0)
+        fail("there is no such device in this network namespace: ", options.device);
+    is_verbose = options.is_verbose;
+    libbpf_set_print(note_libbpf);
+    if (!watch_check(&checked, options.is_anyway))
+        return 1;
+    return record(&options, &checked);
+}

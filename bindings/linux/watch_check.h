@@ -1,0 +1,15 @@
+/* Checks before anything is loaded: this process may load BPF programs, and the kernel's pie and fq_pie are the ones that are known. */
+#ifndef WATCH_CHECK_H
+#define WATCH_CHECK_H
+
+#include <stdbool.h>
+
+struct watch_checked {
+    bool has_fq_pie; /* the module sch_fq_pie is loaded */
+};
+
+/* Prints a line on standard error for each thing that is missing or unknown. Returns false if nothing can be recorded, or something is unknown and not
+ * `is_anyway`. */
+bool watch_check(struct watch_checked *checked, bool is_anyway);
+
+#endif

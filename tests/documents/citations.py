@@ -35,10 +35,13 @@ PAGES = ("ARCHITECTURE.md", "PROMISES.md", "GUARANTEES.md", "PROVING.md")
 ENDINGS = {"antt", "rt", "txt"}
 OTHERS = {
     "Drop", "None", "MAX", "u16", "unsafe", "wrapping_sub",  # Rust
-    "using", "Lts", "CRATE", "get_flag",  # the toolchain; a crate's name; clap
+    "using", "requires", "Lts", "CRATE", "get_flag",  # the toolchain; a crate's name; clap
     "tc", "stab", "kbps", "tbit", "kibit", "kibps", "bytemode",  # Linux's tc, and its scheduler
     "pie_qdisc_enqueue", "pie_drop_early", "pie_process_dequeue", "pie_calculate_probability", "pie_timer", "pie_vars_init",
     "pie_change", "INET_ECN_set_ce",
+    "sch_pie", "sch_fq_pie", "pie_init", "pie_stats", "pie_vars", "fq_pie_change", "fq_pie_hash", "fq_pie_init", "fq_pie_qdisc_enqueue", "fq_pie_reset",
+    "fq_pie_timer", "ecn_prob", "ktime_get", "psched_get_time", "psched_mtu", "qdisc_qlen", "skb", "len", "PIE_SCALE", "MAX_PROB", "QUEUE_THRESHOLD",
+    "DTIME_INVALID", "DQCOUNT_INVALID",
     "rte_pie",  # DPDK
 }
 COMMENT = re.compile(r"^\s*(?:(///|//!|//|--) ?)(.*)$")

@@ -1,7 +1,7 @@
 #!/usr/bin/env python3
 """Compares the documents with the code, which must have the layout of `rt fmt`:
 
-- docs/MODEL.md names each definition that a clause of a public function cites.
+- Each definition that a clause of a public function cites has a comment, its own or that of its group of lines.
 - Each function, definition and mutation in its table of rules exists.
 - The map and the list of crates in docs/ARCHITECTURE.md are those of crates.txt (docs/map.py --check).
 - The picture of margins is the one that docs/margins.py draws.
@@ -59,15 +59,28 @@ def is_word_of(name, text):
     return re.search(r"(?<![\w.])" + re.escape(name) + r"(?!\w)", text) is not None
 
 
-def missing_definitions(model):
-    named = " ".join(QUOTED.findall(model))
+def without_comment(crate):
+    """Returns the names of the crate's definitions without a comment in the lines above, up to an empty line."""
+    found = set()
+    for path in (ROOT / "crates" / crate / "specs").glob("*.antt"):
+        has_comment = False
+        for line in path.read_text().splitlines():
+            if not line.strip() or line.lstrip().startswith("--"):
+                has_comment = bool(line.strip())
+            elif (defined := DEFINED.match(line)) and not has_comment:
+                found.add(defined[1] or defined[2])
+    return found
+
+
+def unstated_definitions():
+    """Yields each definition that a clause of a public function cites and that no comment states."""
     for crate in crates():
-        defined = definitions(crate)
+        silent = without_comment(crate)
         for path in sorted((ROOT / "crates" / crate / "src").rglob("*.rt")):
             for function, clauses in public_clauses(path.read_text()):
-                for name in sorted(defined):
-                    if is_word_of(name, clauses) and not is_word_of(name, named):
-                        yield f"docs/MODEL.md: {crate}'s `{name}`, which {function} cites"
+                for name in sorted(silent):
+                    if is_word_of(name, clauses):
+                        yield f"crates/{crate}/specs: no comment states `{name}`, which {function} cites"
 
 
 def missing_of_rules(model):
@@ -98,8 +111,8 @@ def written_equalities():
 
 def main():
     model = (ROOT / "docs" / "MODEL.md").read_text()
-    missing = [*missing_definitions(model), *missing_of_rules(model), *written_equalities()]
-    print("\n".join(missing) or f"{NAME}: the model names what the code has", flush=True)
+    missing = [*unstated_definitions(), *missing_of_rules(model), *written_equalities()]
+    print("\n".join(missing) or f"{NAME}: each cited definition is stated, and the table of rules names what the code has", flush=True)
     drawn = [subprocess.run([ROOT / "docs" / name, "--check"], check=False).returncode for name in ("map.py", "margins.py")]
     sys.exit(bool(missing) or any(drawn))
 

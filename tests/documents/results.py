@@ -2,10 +2,11 @@
 """Checks docs/RESULTS.md, docs/comparisons.csv and docs/ellipses.svg: docs/results.py computes them from the stored runs. docs/RESULTS.in has no
 figure of its own, and README.md and docs/PARAMETERS.md repeat figures of the runs. A page with a changed figure fails.
 
-The stored A/A runs hold: each comparison of a PIE with itself, and of tail drop here with pfifo, is `same`. 84 % of the 90 % intervals of a PIE with
-itself contain 0. In each scenario but reno, three of four starts agree within 0.15 ms at both bottlenecks, and of all starts 24 of 25 within 0.1 % of
+Each row of the table of scenarios averages the blocks that all its queues ran, computed here again from the stored rows. Each `same` of a difference
+has its margin beside it. The stored A/A runs hold: each comparison of a PIE with itself, and of tail drop here with pfifo, is `same`. 84 % of the 90 %
+intervals of a PIE with itself contain 0. In each scenario but reno, three of four starts agree within 0.15 ms at both bottlenecks, and of all starts 24 of 25 within 0.1 % of
 goodput. The margins can fail: queues that are known to differ are `different`. The page contains every scenario that was run, and all runs of RFC
-7928's suite are stored.
+7928's suite are stored. Runs of two versions are in no table together.
 needs: nothing"""
 import os
 import re
@@ -38,6 +39,30 @@ for name, sentence in results.elsewhere():
     changed = text[:place + begin] + "1" + text[place + begin:]
     check(place >= 0 and results.differences({name: changed}), f"{name}: another figure than {sentence[begin:end]} passes")
 
+# the rows of the table of scenarios, by the stored rows alone
+for name, it in results.SCENARIOS.items():
+    line = next((line for line in page.splitlines() if line.startswith(f"|`{name}`|{it['words']}|")), None)
+    if line is None:
+        continue
+    begin, end = results.RUNS.part(name, "after")
+    rows = {}
+    for row in results.ROWS:
+        if row["scenario"] == name and row["queue"] in it["queues"] and (float(row["from"]), float(row["to"])) == (begin, end):
+            rows.setdefault(row["queue"], {})[row["block"]] = float(row["goodput"])
+    common = set.intersection(*map(set, rows.values()))
+    cells = line.split("|")
+    check(cells[5] == str(len(common)), f"{name}: {cells[5]} blocks on the page, and all queues ran {len(common)}")
+    for queue, cell in zip(results.FIVE_NAMES, cells[6:11]):
+        wanted = sum(rows[queue][block] for block in common) / len(common) if queue in rows else None
+        found = float(cell.split("/")[0]) if cell else None
+        check((wanted is None) == (found is None) and (wanted is None or abs(wanted - found) <= (0.0051 if wanted < 100 else 0.051)),
+              f"{name}: the goodput of {queue} is {found} on the page, and {wanted} in the common blocks")
+for line in page.splitlines():
+    if "±" in line:
+        check(len(re.findall(r" same \([\d.]+ %\)", line)) == len(re.findall(r" same\b", line)), f"a difference is `same` without its margin: {line}")
+check(len(re.findall(r", `same` \(margin", " ".join(page.split()))) == len(re.findall(r"\) (?:ms|Mbit/s), `same`", " ".join(page.split()))),
+      "a sentence has a difference that is `same` without its margin")
+
 
 for name, one, other, field, part, it in results.equal_queues():
     check(it[3] == "same", f"{name}, {part}: {one} and {other} are equal queues, but {it[3]}: {field}: {results.interval(it, field, 3)}")
@@ -58,6 +83,13 @@ far = sum(goodput >= results.NEAR_GOODPUT for _, goodput, _ in results.starts())
 check(25 * far <= len(results.starts()), f"the goodput of {far} of {len(results.starts())} starts differs at both bottlenecks")
 inside = [it[-1][1] <= 0 <= it[-1][2] for it in results.equal_queues(*results.PAIRS[2:])]
 check(sum(inside) >= 0.84 * len(inside), f"of {len(inside)} intervals of 90 per cent for no difference only {sum(inside)} contain 0")
+# a table has runs of one version
+for rows, count in ((results.ROWS, 2), (results.LIMIT_ROWS or results.ROWS[:1], 4)):
+    try:
+        results.version_of([*rows, dict(rows[0], version="00000000.00000000.00000000.00000000")], count)
+        check(False, "runs of two versions share a table")
+    except SystemExit:
+        pass
 runs, stored, _ = results.estimate(results.ROWS)
 check(runs == stored, f"{stored} of {runs} runs of the suite of RFC 7928 are stored")
 for name, it in results.SCENARIOS.items():

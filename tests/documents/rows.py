@@ -61,6 +61,7 @@ ROWS = {
         "rows a_fold_after_each_event", "library a_book_decides_worked_histories_and_folds"],
     # histories and audits
     "three lines of a history, and then its end": ["library a_core_decides_worked_histories"],
+    "a fault of a history, and then the same fault": ["library a_fault_of_a_history_is_repeated"],
     "a history without an end": ["library a_history_without_an_end_is_read"],
     "marks and drops audited, with a changed verdict, and with a cut record": [
         f"script {TEXTS} changed clean,14 99 ''", f"script {TEXTS} changed differs,4 5 ", f"script {TEXTS} changed \"record 13: $fields\" 13 "],
@@ -103,13 +104,15 @@ ROWS = {
     "plans that are not sound, and an update too soon": ["library plans_of_storms_are_checked"],
     "three storms of 242 events": [f"script {STORMS} clean,242"],
     "folds and a change take part": ["library folds_and_a_change_take_part"],
-    "a fold that comes too early": ["library a_fold_that_comes_too_early_is_passed_over"],
+    "a fold that comes too early": ["library folds_that_come_too_early_are_passed_over"],
     # the program
     "the program runs and audits": [f"script {RUNS} expect 'an audit' 0 'clean,11\\n'", f"script {RUNS} expect 'an empty history' 1"],
 }
 # Tests of pie_library_tests that are no worked rows. tests/libraries/refused_memory.py runs those
 # of memory and flushes.
-OTHERS = {"refusals_in_words", "the_largest_ring", "calls_that_nothing_else_makes", "a_storm_keeps_its_pace"}
+OTHERS = {
+    "refusals_in_words", "the_largest_ring", "calls_that_nothing_else_makes", "a_storm_keeps_its_pace", "quoted_records_are_copied",
+    "a_failed_write_is_followed_by_a_flush", "an_explanation_without_memory_is_flushed"}
 # the names of the files in tests/rows/worked.txt
 WORKED = set(re.findall(r"^== (\S+)", (ROOT / "tests/rows/worked.txt").read_text(), re.M))
 NEEDS = re.compile(r"^(?:# )?needs: ([\w, ]+?)(?:\"\"\")?$", re.M)

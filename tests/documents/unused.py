@@ -1,8 +1,9 @@
 #!/usr/bin/env python3
-"""Reports public functions without a caller: each `pub fn` of a library in crates/ that other crates can name
-(functions, methods and exports for C), whose name no other crate, test, measure, binding or example uses. A law,
-which does nothing and takes nothing, has no caller; it is used if docs/PROMISES.md or docs/MODEL.md names it. The
-exit status is 1 if a function is unused.
+"""Reports what a library in crates/ offers to nobody: each `pub fn` that other crates can name (functions, methods and
+exports for C), whose name no other crate, test, measure, binding or example uses; each public module that no other crate
+names; and each item with two paths, because its module is public and the library re-exports it. A law, which does
+nothing and takes nothing, has no caller; it is used if docs/PROMISES.md or docs/MODEL.md names it. The exit status is
+1 if something is reported.
 
 The script compares names. A function is called if a crate that depends on its own names it outside contracts; a
 function of a type without `self` if the type stands before it; a method if a dot or its type does. The script
@@ -90,9 +91,22 @@ def functions(crate):
                     yield it
 
 
+def paths(crate, above):
+    """Returns a line for each public module of a crate that no crate above names, and for each one with a
+    re-exported item."""
+    root = (ROOT / "crates" / crate / "src/lib.rt").read_text()
+    for module in re.findall(r"^pub mod (\w+);", root, re.M):
+        if not any(re.search(rf"\b{crate}::{module}::", text) for text in above):
+            yield f"{crate}: no other crate names the public module {module}"
+        if re.search(rf"^pub use {module}::", root, re.M):
+            yield f"{crate}: items of the public module {module} have a second path"
+
+
 def main():
     below = lower_crates()
-    source = {crate: "\n".join(code_of(path.read_text()) for path in (ROOT / "crates" / crate / "src").rglob("*.rt")) for crate in below}
+    texts = {crate: [path.read_text() for path in (ROOT / "crates" / crate / "src").rglob("*.rt")] for crate in below}
+    source = {crate: "\n".join(map(code_of, texts[crate])) for crate in below}
+    whole = {crate: "\n".join(texts[crate]) for crate in below}
     outside = "\n".join(path.read_text() for folder in OUTSIDE for path in (ROOT / folder).rglob("*")
                         if path.suffix in ENDINGS and path.is_file() and path != ROOT / "include/pie.h")
     named = set(re.findall(r"`(?:\w+::)*(\w+)`", "".join((ROOT / page).read_text() for page in ("docs/PROMISES.md", "docs/MODEL.md"))))
@@ -102,12 +116,13 @@ def main():
         if (ROOT / "crates" / crate / "src/main.rt").exists():
             continue
         above = [source[other] for other in below if crate in below[other]]
+        unused += paths(crate, [whole[other] for other in below if crate in below[other]])
         for it in functions(crate):
             found += 1
             calls = [outside] if it.is_for_c else above
             if not (any(it.call.search(text) for text in calls) or it.is_law and it.name in named):
                 unused.append(it.title())
-    print("\n".join(unused) or f"{NAME}: each of {found} public functions is called")
+    print("\n".join(unused) or f"{NAME}: each of {found} public functions is called, and each item has one path")
     sys.exit(bool(unused) or not found)
 
 

@@ -117,7 +117,7 @@ def find(name):
 
 
 def table(path):
-    with open(path, newline="") as text:
+    with open(path, newline="", errors="surrogateescape") as text:
         rows = list(csv.DictReader(text))
     check(f"{path}: each link once", len({row["link"] for row in rows}) == len(rows))
     return {row["link"]: row for row in rows}
@@ -190,8 +190,8 @@ class Cluster:
         bin_folder = f"{self.folder}/{name}"
         os.makedirs(bin_folder, exist_ok=True)
         if program:
-            made_script(f"{bin_folder}/pie", "for last; do :; done",
-                        f'while [ -e "$last.hold" ]; do : > "{bin_folder}/held"; sleep 0.1; done', f'exec "{program}" "$@"')
+            made_script(f"{bin_folder}/pie", "read=$(readlink /proc/$$/fd/0)",
+                        f'while [ -e "$read.hold" ]; do : > "{bin_folder}/held"; sleep 0.1; done', f'exec "{program}" "$@"')
         path = f"{bin_folder}:{os.path.dirname(shutil.which('env'))}"
         words = [shutil.which(PYTHON), "-m", "distributed.cli.dask_worker", self.address, "--name", name, "--nthreads", "1", "--no-dashboard",
                  "--host", "127.0.0.1", "--nanny" if nanny else "--no-nanny", "--local-directory", bin_folder]
@@ -233,8 +233,8 @@ def stage(told):
 
 def fleet(*words, status, errors=None):
     """Runs pie-fleet, checks its status, and returns its output."""
-    ended = subprocess.run([PYTHON, "-m", "pie_fleet", *words], cwd=f"{TOP}/fleet", capture_output=True, text=True, stdin=subprocess.DEVNULL,
-                           timeout=PATIENCE)
+    ended = subprocess.run([PYTHON, "-m", "pie_fleet", *words], cwd=f"{TOP}/fleet", capture_output=True, errors="surrogateescape",
+                           stdin=subprocess.DEVNULL, timeout=PATIENCE)
     check(f"pie-fleet {' '.join(words)}: status", ended.returncode == status, f"{ended.returncode} and not {status}: {ended.stderr[-2000:]}")
     if errors is not None:
         check(f"pie-fleet {' '.join(words)}: {errors}", errors in ended.stderr, ended.stderr[-2000:])
@@ -285,6 +285,68 @@ def run_alone(work, names):
     fleet(f"{work}/histories/link00*.history", "-o", f"{work}/alone.csv", "--pie", PROGRAM, status=1)
     same("alone", f"{work}/alone.csv", names[:10])
     fleet(f"{work}/histories/link00*.history", "-o", f"{work}/alone.csv", "--pie", PROGRAM, status=1, errors="--force")
+    run_named(work)
+    run_over_files(work)
+
+
+def run_named(work):
+    """Checks names that are no text, of a pattern and of a list: each history has its row, with the bytes of its name."""
+    folder, links = f"{work}/named", [b"caf\xe9", b"\xff\xfe\xfd", "caf\u00e9".encode(), b"a b, 'c' \"d\"", b"-x", b"new\nline"]
+    os.mkdir(folder)
+    names = [os.path.join(os.fsencode(folder), link + b".history") for link in links]
+    for name in names:
+        shutil.copy(f"{TOP}/examples/burst.history", name)
+    with open(f"{work}/named.list", "wb") as out:
+        out.writelines(b"one: " + name + b"\n" for name in names[:2])
+    told = fleet(f"{folder}/*.history", "--list", f"{work}/named.list", "-o", f"{work}/named.csv", "--page", f"{work}/named.html", "--pie", PROGRAM,
+                 "--worst", "mean_wait", status=0)
+    with open(f"{work}/named.csv", "rb") as text:
+        bytes_of_table = text.read()
+    rows = list(csv.DictReader(bytes_of_table.decode(errors="surrogateescape").splitlines(keepends=True)))
+    check("names that are no text", {os.fsencode(row["path"]) for row in rows} == set(names) and len(rows) == 8, rows)
+    check("names that are no text: clean", all(row["finding"] == "clean" for row in rows), rows)
+    check("names that are no text: the worst", b"caf\xe9.history" in os.fsencode(told), told)
+    with open(f"{work}/named.html", encoding="utf-8") as text:
+        page = text.read()
+    check("names that are no text: the page", page.count("<tr") == 9 and "\\xff\\xfe\\xfd.history" in page and "caf\ufffd.history" in page, page)
+    # an unchanged file keeps its row, also in the table of the next day
+    fleet(f"{folder}/*.history", "-o", f"{work}/again.csv", "--since", f"{work}/named.csv", "--pie", PROGRAM, status=0)
+    check("names that are no text: the next day", all(os.fsdecode(name) in table(f"{work}/again.csv") for name in names))
+
+
+def run_over_files(work):
+    """Checks that no file is lost: an output that is an input or another output is refused, and so is one that exists, unless it is replaced by
+    --force. A refused run leaves no journal."""
+    folder = f"{work}/over"
+    os.mkdir(folder)
+    shutil.copy(f"{TOP}/examples/burst.history", f"{folder}/one.history")
+    os.link(f"{folder}/one.history", f"{folder}/hard")
+    os.symlink("one.history", f"{folder}/soft")
+    shutil.copy(f"{TOP}/examples/burst.history", f"{folder}/new.csv.journal")
+    for name in ("table", "page", "list"):
+        with open(f"{folder}/{name}", "w") as out:
+            out.write("link\n" if name == "table" else f"one: {folder}/one.history\n")
+
+    def contents():
+        return {name: open(f"{folder}/{name}", "rb").read() for name in os.listdir(folder)}
+
+    before = contents()
+    cases = [(["-o", f"{folder}/{name}"], "--force") for name in ("one.history", "hard", "soft")]
+    cases += [(["-o", f"{folder}/{name}", "--force"], "input file cannot be the output") for name in ("one.history", "hard", "soft")]
+    cases += [(["-o", f"{folder}/new", "--page", f"{folder}/{name}", "--force"], "input file cannot be the output") for name in ("one.history", "hard")]
+    cases += [(["-o", f"{folder}/new", "--page", f"{folder}/new"], "two outputs cannot be one"),
+              (["-o", f"{folder}/new", "--page", f"{folder}/new.journal"], "two outputs cannot be one"),
+              (["-o", f"{folder}/new", "--page", f"{folder}/page"], "--force"), (["-o", f"{folder}/table"], "--force"),
+              (["-o", f"{folder}/table", "--since", f"{folder}/table", "--force"], "input file cannot be the output"),
+              (["-o", f"{folder}/list", "--list", f"{folder}/list", "--force"], "input file cannot be the output"),
+              (["-o", f"{folder}/new.csv", "--force"], "not the journal of an interrupted run"),
+              (["-o", f"{folder}/new", "--page", f"{folder}/none/page"], "No such file"), (["-o", folder, "--force"], "folder")]
+    for words, told in cases:
+        fleet(f"{folder}/*.history", *words, "--pie", PROGRAM, status=1, errors=told)
+        check(f"{words}: the files", contents() == before, set(contents()) ^ set(before))
+    fleet(f"{folder}/*.history", "-o", f"{folder}/table", "--page", f"{folder}/page", "--force", "--pie", PROGRAM, status=0)
+    check("--force: table and page", len(table(f"{folder}/table")) == 1 and contents()["page"].endswith(b"</html>\n"))
+    check("--force: other files", set(contents()) == set(before), set(contents()) ^ set(before))
 
 
 def run_cluster(cluster, work, names):

@@ -5,9 +5,11 @@ its value. If the headers lack a line of dist/abi.txt, programs that were linked
 and another soname is needed. An additional line is a new function, struct or constant; --write adds
 it.
 
-dist/abi.txt is also the list of the functions that the shared library exports (Makefile).
+dist/abi.txt is also the list of the functions that the shared library exports (Makefile). On other processors with 64-bit words the
+list is the same, except that struct pie_link_shared is as long as two of their cache lines.
 
 usage: tests/libraries/abi.py [--write | ROOT]      ROOT: another folder with include/ and bindings/python/native/
+       CC=COMPILER RUN=EMULATOR tests/libraries/abi.py      for another processor
 needs: nothing
 """
 import os
@@ -59,7 +61,7 @@ def measured(root, structs, constants):
         source = Path(work) / "abi.c"
         source.write_text("\n".join([*lines, "    return 0;", "}", ""]))
         subprocess.run([os.environ.get("CC", "cc"), f"-I{root}/include", "-D_GNU_SOURCE", "-o", f"{work}/abi", source], check=True)
-        return subprocess.run([f"{work}/abi"], check=True, capture_output=True, text=True).stdout.splitlines()
+        return subprocess.run([*os.environ.get("RUN", "").split(), f"{work}/abi"], check=True, capture_output=True, text=True).stdout.splitlines()
 
 
 def main():
@@ -71,6 +73,8 @@ def main():
     functions, structs, constants = declared(root)
     found = sorted([*functions, *measured(root, structs, constants)])
     listed = LIST.read_text().splitlines() if LIST.exists() else []
+    if os.environ.get("RUN"):
+        found, listed = ([it for it in lines if not it.startswith("struct pie_link_shared")] for lines in (found, listed))
     for line in sorted(set(listed) - set(found)):
         check(False, f"programs that were linked before break, since the headers do not have this of dist/abi.txt: {line}")
     if "--write" in words and set(listed) <= set(found):

@@ -1,16 +1,20 @@
 #!/usr/bin/env python3
 """Compares dist/ with the proved code. The checksums of dist/MANIFEST must hold, and its commit must have its tree
 of crates/. dist/'s assembly of the libraries must be byte for byte the output of bindings/c/library.py from the
-proved crates; assembled and linked by the toolchain, dist/'s program must be the one that `rt ci` built. If crates/ is
-no longer the manifest's tree, a difference is printed, with the number of commits by which dist/ is older, and is
-no failure. Then `make check` runs in a new folder, with clang if it is installed: with cc, tests/documents/pages.py
-runs it, as the README has it.
+proved crates, for x86-64, and of dist/lower.py from the same modules, for the other processors; assembled and
+linked by the toolchain, dist/'s program for x86-64 must be the one that `rt ci` built. The programs for other
+processors are compared if crates/pie/out/pie.bc is here, which dist/make.sh leaves. The assembly of the kernel's queue
+must be the output of bindings/kernel/lower.py from the module of pie_c. If crates/ is no longer the manifest's tree, a
+difference is printed, with the number of commits by which dist/ is older, and is no failure.
+Then `make check` runs in a new folder, with clang if it is installed: with cc, tests/documents/pages.py runs it, as
+the README has it. tests/libraries/processors.py checks what is built for the other processors.
 
 The assembly must have one meaning for every assembler: it consists of labels, instructions, and directives of a
 short list, without macros, conditions, included files or preprocessor lines.
 
-usage: tests/libraries/dist.py                holds dist/ to the proofs
-       tests/libraries/dist.py --read FILE..  reads assembly, and prints the stack that each exported function uses, with all that it calls
+usage: tests/libraries/dist.py                      holds dist/ to the proofs
+       tests/libraries/dist.py --read TARGET FILE..  reads assembly, and prints the stack that each exported function uses, with all that it
+                                                    calls. TARGET: a folder of dist/
 needs: library, program
 """
 import hashlib
@@ -29,14 +33,36 @@ from checks import NAME, ROOT, check, finish  # noqa: E402
 DIST = ROOT / "dist"
 DIRECTIVES = {".file", ".section", ".text", ".data", ".bss", ".globl", ".hidden", ".local", ".comm", ".type", ".size", ".p2align", ".byte", ".short", ".long",
               ".quad", ".zero", ".ascii", ".asciz", ".ident", ".set", ".weak"}
+# the directives of one processor alone
+MORE = {"x86_64": set(), "aarch64": {".hword", ".word", ".xword"}, "riscv64": {".half", ".word", ".option"},
+        "armv7": {".syntax", ".code", ".fnstart", ".fnend", ".cantunwind", ".save", ".pad", ".setfp", ".vsave", ".word", ".hword"},
+        "mipsel": {".ent", ".end", ".frame", ".mask", ".fmask", ".abicalls", ".cpload", ".cprestore", ".word", ".hword", ".4byte", ".8byte", ".2byte", ".insn", ".reloc", ".gpword"}}
+# the characters of operands, beside letters and digits
+MARKS = {"x86_64": r"-.$%@(),*+ ", "aarch64": r"-.,*+ #:!\[\]{}", "riscv64": r"-.%(),+ ", "armv7": r"-.,+ #:!\[\]{}()^", "mipsel": r"-.$%(),+ "}
 NAME_OF = r'(?:"[^"]+"|[\w.$]+)'
-LINE = re.compile(rf'{NAME_OF}:|\t(\.\w+)(?:\t.*)?|\t(?:(?:lock|rep|notrack)\t\t)?\w+(?:\t(?:[-\w.$%@(),*+ ]|"[^"]+")*)?|\t#(?:NO_)?APP')
-# functions of the C library and of libgcc, whose stack is not counted
-OUTSIDE = {"memcpy", "memmove", "memset", "memcmp", "bcmp", "__divti3", "__udivti3", "__umodti3", "__modti3", "rattle_alloc", "rattle_realloc", "rattle_dealloc"}
 
-# functions that call themselves, and the greatest depth: a row of 512 bytes has room for 24 numbers (crates/pie_text/src/words.rt); an interval has
-# 9 answers (crates/pie_summary/src/record.rt)
-ROUNDS = {"pie_text::words::put_numbers": 25, "pie_summary::record::together": 10}
+
+def line_of(target):
+    """Returns the pattern of a line: a label, a directive, an instruction, or a mark around an instruction that the source states."""
+    prefix = r"(?:(?:lock|rep|notrack)\t\t)?" if target == "x86_64" else ""
+    return re.compile(rf'{NAME_OF}:|\t(\.\w+)(?:[\t ].*)?|\t{prefix}[\w.]+(?:\t(?:[{MARKS[target]}\w]|"[^"]+")*)?|\t(?:#|//|@)(?:NO_)?APP')
+
+
+# functions of the C library and of libgcc, whose stack is not counted
+OUTSIDE = {"memcpy", "memmove", "memset", "memcmp", "bcmp", "__divti3", "__udivti3", "__umodti3", "__modti3", "rattle_alloc", "rattle_realloc", "rattle_dealloc",
+           "__aeabi_memcpy", "__aeabi_memmove", "__aeabi_memset", "__aeabi_memclr", "__aeabi_memcpy4", "__aeabi_memcpy8", "__aeabi_memmove8", "__aeabi_memset8",
+           "__aeabi_memclr4", "__aeabi_memclr8", "__aeabi_uldivmod", "__aeabi_uidiv", "__aeabi_uidivmod", "__udivdi3", "__umoddi3", "__muldi3", "__aeabi_llsl", "__aeabi_llsr",
+           "__multi3", "__ashlti3", "__lshrti3", "abort"}
+
+# the files of each folder of dist/: links and the program need 64-bit words
+WHOLE = {"pie_c", "pie_link_c", "pie"}
+PARTS = {"x86_64": WHOLE, "aarch64": WHOLE, "riscv64": WHOLE, "armv7": {"pie_c"}, "mipsel": {"pie_c"}}
+
+# functions that call themselves, and the greatest depth: a row of 512 bytes has room for 24 numbers (crates/pie_text/src/words.rt), and one of 1280 bytes
+# for 60 (crates/pie_text/src/long_row.rt); an interval has 9 answers (crates/pie_summary/src/record.rt)
+ROUNDS = {"pie_text::words::put_numbers": 25, "pie_text::long_row::push_numbers": 61, "pie_summary::record::together": 10}
+# (with plain names, as in the assembly for MIPS)
+ROUNDS |= {re.sub(r"\W", "_", name): rounds for name, rounds in ROUNDS.items()}
 
 
 def read(path):
@@ -45,12 +71,12 @@ def read(path):
     return (lzma.decompress(raw) if path.suffix == ".xz" else raw).decode()
 
 
-def unknown(text):
+def unknown(text, target):
     """Returns the lines that are neither a label, nor a directive of the list, nor an instruction."""
-    found = []
+    found, pattern, directives = [], line_of(target), DIRECTIVES | MORE[target]
     for number, line in enumerate(text.splitlines(), 1):
-        match = LINE.fullmatch(line)
-        if line and (not match or match[1] and match[1] not in DIRECTIVES):
+        match = pattern.fullmatch(line)
+        if line and (not match or match[1] and match[1] not in directives):
             found.append(f"{number}: {line}")
     return found
 
@@ -59,35 +85,65 @@ class Function:
     """A function's own stack in bytes, and the functions that it calls or ends in."""
 
     def __init__(self):
-        self.frame, self.calls, self.ends, self.unknown = 0, set(), set(), False
+        self.frame, self.calls, self.ends, self.unknown, self.named = 0, set(), set(), False, 0
 
 
-def functions(text):
+def functions(text, target="x86_64"):
+    """Returns the functions of assembly by their names."""
     found, current = {}, Function()
     for line in text.splitlines():
         label = re.fullmatch(f"({NAME_OF}):", line)
         if label:
-            if not label[1].startswith("."):
+            if not label[1].startswith((".", "$")):
                 current = found[label[1].strip('"')] = Function()
             continue
         words = line.strip().replace('"', "").split("\t")
         to = words[1].removesuffix("@PLT") if len(words) > 1 else ""
-        if words[0] == "pushq":
-            current.frame += 8
-        elif words[0] == "subq" and to.endswith(", %rsp"):
-            number = re.match(r"\$(-?\d+),", to)
-            current.frame += int(number[1]) if number else 0
-            current.unknown |= not number
-        elif words[0] == "andq" and to.endswith(", %rsp"):
-            current.frame += -int(re.match(r"\$(-\d+),", to)[1])
-        elif words[0] in ("callq", "call"):
-            if to.startswith("*") and not re.fullmatch(r"\*(\w+)@GOTPCREL\(%rip\)", to):
-                current.unknown = True
-            else:
-                current.calls.add(re.sub(r"^\*|@GOTPCREL\(%rip\)", "", to))
-        elif words[0].startswith("j") and to and not to.startswith((".L", "*")):
-            current.ends.add(to)
+        (of_x86 if target == "x86_64" else of_others)(current, words[0], to)
     return found
+
+
+def of_x86(current, word, to):
+    """Adds the stack and the calls of an instruction of x86-64 to a function."""
+    if word == "pushq":
+        current.frame += 8
+    elif word == "subq" and to.endswith(", %rsp"):
+        number = re.match(r"\$(-?\d+),", to)
+        current.frame += int(number[1]) if number else 0
+        current.unknown |= not number
+    elif word == "andq" and to.endswith(", %rsp"):
+        current.frame += -int(re.match(r"\$(-\d+),", to)[1])
+    elif word in ("callq", "call"):
+        if to.startswith("*") and not re.fullmatch(r"\*(\w+)@GOTPCREL\(%rip\)", to):
+            current.unknown = True
+        else:
+            current.calls.add(re.sub(r"^\*|@GOTPCREL\(%rip\)", "", to))
+    elif word.startswith("j") and to and not to.startswith((".L", "*")):
+        current.ends.add(to)
+
+
+def of_others(current, word, to):
+    """Adds the stack and the calls of an instruction of another processor to a function."""
+    step = re.fullmatch(r"(?:sp, sp|sp|\$sp, \$sp), #?-?(\d+)(, lsl #12)?", to)
+    stored = re.search(r"\[sp, #-(\d+)\]!$", to)
+    if word == "sub" and step or word in ("addi", "addiu") and step and ", -" in to:
+        current.frame += int(step[1]) << (12 if step[2] else 0)
+    elif word in ("sub", "addi", "addiu", "subu") and to.startswith(("sp, sp", "$sp, $sp")) and not step:
+        current.unknown = True
+    elif stored and word in ("stp", "str"):
+        current.frame += int(stored[1])
+    elif word in ("push", "vpush"):
+        current.frame += (8 if word == "vpush" else 4) * len(to.split(","))
+    elif word in ("bl", "call", "b", "tail"):
+        if not to.startswith((".L", "$")):
+            (current.calls if word in ("bl", "call") else current.ends).add(to)
+    elif word.startswith(".reloc ") and "R_MIPS_JALR" in word:
+        # (MIPS calls every function by a register; this line names the function)
+        current.calls.add(word.split(", ")[-1])
+        current.named += 1
+    elif word in ("blr", "blx", "jalr"):
+        current.named -= 1
+        current.unknown |= current.named < 0
 
 
 def stack(name, found, known, above=()):
@@ -112,8 +168,8 @@ def exported(text):
     return re.findall(r"^\t\.globl\t(pie_\w+)$", text, re.M)
 
 
-def stacks(text):
-    found, known = functions(text), {}
+def stacks(text, target="x86_64"):
+    found, known = functions(text, target), {}
     return {name: stack(name, found, known) for name in sorted(exported(text))}
 
 
@@ -133,25 +189,34 @@ def tree_of_crates():
         return git("rev-parse", f"{written}:crates")
 
 
-def differs(name, text, work):
+def differs(target, name, text, work):
     """Returns the parts of the proved code that differ from dist/; prints a line and returns None if they cannot be
     compared."""
-    made = ROOT / f"crates/{name}/out/{name}.S"
+    out = ROOT / f"crates/{name}/out"
+    if target != "x86_64":
+        module, made = out / f"{name}.bc", Path(f"{work}/{target}-{name}.S")
+        if not module.exists():
+            if name != "pie":
+                print(f"NOT RUN: {NAME}: {module.relative_to(ROOT)} is not here (bindings/c/library.py writes it), so {target}/{name}.S was not compared")
+            return None
+        subprocess.run([DIST / "lower.py", target, module, made], check=True)
+        return "" if made.read_text() == text else f"{target}/{name}.S is not the assembly of crates/{name}"
     if name != "pie":
+        made = out / f"{name}.S"
         if not made.exists():
             print(f"NOT RUN: {NAME}: {made.relative_to(ROOT)} is not here (bindings/c/library.py writes it), so {name}.S was not compared")
             return None
         return "" if made.read_text() == text else f"{name}.S is not the assembly of crates/{name}"
-    made, kit = ROOT / "crates/pie/out/pie", Path(shutil.which("rt") or "/").resolve().parent.parent
+    made, kit = out / "pie", Path(shutil.which("rt") or "/").resolve().parent.parent
     if not made.exists() or not (kit / "bin/rattle-link").exists():
         print(f"NOT RUN: {NAME}: no {made.relative_to(ROOT)} or toolchain here, so pie.S was not compared")
         return None
     Path(f"{work}/pie.s").write_text(text)
-    target = "x86_64-unknown-linux-gnu"
-    subprocess.run([kit / "toolchain/bin/clang", f"--target={target}", "--no-default-config", "-march=x86-64-v2", "-x", "assembler", "-c", f"{work}/pie.s",
+    triple = "x86_64-unknown-linux-gnu"
+    subprocess.run([kit / "toolchain/bin/clang", f"--target={triple}", "--no-default-config", "-march=x86-64-v2", "-x", "assembler", "-c", f"{work}/pie.s",
         "-o", f"{work}/pie.o"], check=True)
     # (as rt links the program)
-    done = subprocess.run([kit / "bin/rattle-link", "--target", target, "--toolchain", kit / "toolchain", "-o", f"{work}/pie", f"{work}/pie.o",
+    done = subprocess.run([kit / "bin/rattle-link", "--target", triple, "--toolchain", kit / "toolchain", "-o", f"{work}/pie", f"{work}/pie.o",
         kit / "c/libos_c.a", kit / "c/liblibc_c.a"], capture_output=True, text=True, check=False)
     if done.returncode:
         return f"pie.S can't be linked: {done.stderr}"
@@ -159,23 +224,48 @@ def differs(name, text, work):
 
 
 def compare(manifest, work):
-    texts = {path.name.partition(".")[0]: read(path) for path in sorted((DIST / "x86_64").iterdir())}
-    check(set(texts) == {"pie", "pie_c", "pie_link_c"}, f"dist/x86_64 has {', '.join(texts)}")
-    found = {name: differs(name, text, work) for name, text in texts.items()}
+    """Compares each file of dist/ with the proved code. Returns the texts by target and name."""
+    texts = {(path.parent.name, path.name.partition(".")[0]): read(path) for path in sorted(DIST.glob("*/*"))}
+    for target, names in PARTS.items():
+        has = {name for it, name in texts if it == target}
+        check(has == names, f"dist/{target} has {', '.join(sorted(has)) or 'no file'}, and not {', '.join(sorted(names))}")
+    found = {it: differs(*it, text, work) for it, text in texts.items()}
     if manifest["crates"] == tree_of_crates():
         for why in filter(None, found.values()):
             check(False, f"dist/ was made from these crates, and {why}")
         if not any(found.values()):
-            print(f"{NAME}: dist/ is what was proved: {', '.join(it for it in found if found[it] == '')}")
+            print(f"{NAME}: dist/ is what was proved: {', '.join('/'.join(it) for it in found if found[it] == '')}")
     else:
         count = git("rev-list", "--count", f"{manifest['commit']}..HEAD", "--", "crates")
-        which = [it for it in found if found[it]]
+        which = ["/".join(it) for it in found if found[it]]
         print(f"{NAME}: dist/ is {count or 'an unknown number of'} commits of crates/ older than this tree: "
               f"{', '.join(which) + ' differ' if which else 'the code is the same'}. dist/make.sh makes it anew")
-    for name, text in texts.items():
-        for line in unknown(text)[:5]:
-            check(False, f"{name}.S has a line that assemblers may take otherwise: {line}")
+    for (target, name), text in texts.items():
+        for line in unknown(text, target)[:5]:
+            check(False, f"{target}/{name}.S has a line that assemblers may take otherwise: {line}")
     return texts
+
+
+def compare_kernels(work):
+    """Compares the assembly of the kernel's queue with that of the module of pie_c."""
+    kernel, module = ROOT / "bindings/kernel", ROOT / "crates/pie_c/out/pie_c.bc"
+    clang = Path(shutil.which("rt") or "/").resolve().parent.parent / "toolchain/bin/clang"
+    if not module.exists() or not clang.exists():
+        print(f"NOT RUN: {NAME}: no {module.relative_to(ROOT)} or toolchain here, so the assembly of the kernel's queue was not compared")
+        return
+    names, different = ("x86", "arm64", "riscv"), []
+    for name in names:
+        made = Path(f"{work}/kernel.S")
+        subprocess.run([kernel / "lower.py", clang, module, made, name], check=True)
+        if made.read_text() != (kernel / f"pie_kernel_{name}.S").read_text():
+            different.append(f"pie_kernel_{name}.S")
+    if f"crates {tree_of_crates()}" in (kernel / "MANIFEST").read_text().splitlines():
+        check(not different, f"bindings/kernel was made from these crates, and is not their assembly: {', '.join(different)}")
+        if not different:
+            print(f"{NAME}: the assembly of the kernel's queue is what was proved: {', '.join(names)}")
+    else:
+        print(f"{NAME}: bindings/kernel is older than this tree: {', '.join(different) + ' differ' if different else 'the code is the same'}. bindings/kernel/make.sh "
+              "makes it anew")
 
 
 def stated(texts):
@@ -186,26 +276,28 @@ def stated(texts):
     check(sentence, "include/pie.h does not state the stack of the calls")
     if not sentence:
         return
-    limits = {name.replace("*", r"\w+"): int(limit) for name, limit in re.findall(r"(pie_\w+\*?) at most (\d+)", sentence[2])}
-    for name in ("pie_c", "pie_link_c"):
-        for call, used in stacks(texts[name]).items():
-            limit = limits.get(call, next((limits[it] for it in limits if re.fullmatch(it, call)), int(sentence[1])))
-            check(used is not None and used <= limit, f"include/pie.h states at most {limit} bytes of stack for {call}, which uses {used}")
+    of_one = {(target, name): int(limit) for target, one, two, limit in re.findall(r"On (\w+), (pie_\w+) and (pie_\w+) use at most (\d+)", text) for name in (one, two)}
+    limits = {name.replace("*", r"\w+"): int(limit) for name, limit in re.findall(r"(pie_[\w*]+) at most (\d+)", sentence[2])}
+    for (target, name), text in texts.items():
+        for call, used in stacks(text, target).items() if name != "pie" else ():
+            limit = of_one.get((target, call)) or limits.get(call, next((limits[it] for it in limits if re.fullmatch(it, call)), int(sentence[1])))
+            check(used is not None and used <= limit, f"include/pie.h states at most {limit} bytes of stack for {call}, which uses {used} on {target}")
 
 
 def main():
     if sys.argv[1:2] == ["--read"]:
-        for path in map(Path, sys.argv[2:]):
+        target, files = sys.argv[2], sys.argv[3:]
+        for path in map(Path, files):
             text = read(path)
-            for line in unknown(text)[:20]:
+            for line in unknown(text, target)[:20]:
                 check(False, f"{path}: {line}")
-            for name, used in stacks(text).items():
+            for name, used in stacks(text, target).items():
                 print(f"{used if used is not None else 'unknown':>8}  {name}")
-        sys.exit(1 if any(unknown(read(Path(it))) for it in sys.argv[2:]) else 0)
+        sys.exit(1 if any(unknown(read(Path(it)), target) for it in files) else 0)
     lines = [line.split(None, 1) for line in (DIST / "MANIFEST").read_text().splitlines()]
     manifest = {key: value for key, value in lines if len(key) < 64}
     sums = {value: key for key, value in lines if len(key) == 64}
-    check(set(sums) == {f"x86_64/{it.name}" for it in (DIST / "x86_64").iterdir()}, "dist/MANIFEST lists other files than dist/x86_64 has")
+    check(set(sums) == {f"{it.parent.name}/{it.name}" for it in DIST.glob("*/*")}, "dist/MANIFEST lists other files than the folders of dist/ have")
     for name, wanted in sums.items():
         check(hashlib.sha256((DIST / name).read_bytes()).hexdigest() == wanted, f"dist/{name} is not the file that dist/MANIFEST lists")
     version = re.search(r'#define PIE_VERSION "(.*)"', (ROOT / "include/pie.h").read_text())[1]
@@ -216,6 +308,7 @@ def main():
         check(git("rev-parse", f"{manifest['commit']}:crates") == manifest["crates"], "the manifest's commit has another tree of crates/")
     with tempfile.TemporaryDirectory() as work:
         stated(compare(manifest, work))
+        compare_kernels(work)
         compiler = "clang" if shutil.which("clang") else "cc"
         if compiler == "cc":
             print(f"NOT RUN: {NAME}: no clang here, so make check did not run over what it builds")

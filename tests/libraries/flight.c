@@ -1,11 +1,12 @@
 /* Tests include/pie_flight.h: random events through the library's calls, one at a time and in bursts, with dumps at
  * random places, each of which the same calls decide again; a dumping thread beside a writer; a killed process;
- * damaged memory. Built as C and as C++, and with sanitizers.
- * usage: flight SEED EVENTS          all of these, with EVENTS events each
+ * damaged memory; memory of version 2. Built as C and as C++, and with sanitizers.
+ * usage: flight SEED EVENTS STORED   all of these, with EVENTS events each; STORED has memory of version 2, and its text
  *        flight texts SEED FOLDER    writes twenty texts to FOLDER for an audit: N.history, and N.changed with a changed answer
  *        flight decide FILE          decides a text again; prints `clean,` and the number of its last event, or `differs` */
 #define _DEFAULT_SOURCE
 #include "flight_again.h"
+#include "pie_follow.h"
 
 #include <pthread.h>
 #include <sched.h>
@@ -121,6 +122,7 @@ static void random_events(uint64_t seed, uint64_t events) {
     struct queue queue;
     struct pie_flight flight;
     struct pie_event event;
+    struct pie_stats stats;
     uint64_t wanted = 1 + below(&seed, below(&seed, 2) == 0 ? 40 : 3000), number_of_events = 0, first = 0, last, i;
     size_t bytes;
     void *memory, *scratch;
@@ -130,13 +132,19 @@ static void random_events(uint64_t seed, uint64_t events) {
     scratch = aligned(bytes);
     expect(pie_flight_open(&flight, memory, bytes, wanted, &queue.opening, &queue.pie), "a recorder opens", bytes);
     unix_time = 0;
+    memset(&stats, 0, sizeof stats);
     for (i = 0; i < events; i++) {
+        uint64_t since = queue.packets[queue.first].since;
         step(&queue, &event);
         pie_flight_keep(&flight, &queue.pie, &event);
+        if (event.answer <= 100)
+            pie_count_event(&stats, &event, queue.bytes, queue.pie.moment - since);
         if (below(&seed, 1000) == 0)
             tell_time(memory, &seed);
         number_of_events += event.answer <= 100;
+        pie_flight_sum(&flight);
         expect(flight.count == number_of_events && flight.packets == queue.count && flight.bytes == queue.bytes, "counted otherwise", i);
+        expect(memcmp(&flight.stats, &stats, sizeof stats) == 0, "other statistics", i);
         if (below(&seed, 400) == 0) {
             last = dump(memory, bytes, below(&seed, 2) == 0 ? scratch : NULL, NULL, &first);
             expect(last == number_of_events || (last == 0 && number_of_events == 0), "not the last event", last);
@@ -249,6 +257,32 @@ static void refusals(void) {
     free(memory);
 }
 
+/* The greatest number of writes that a small recorder's text can take; a dump of damaged memory must not need more. */
+#define MOST_WRITES 2000
+
+/* Tests each word of the head with other values: a size that the others contradict is no recorder's, and no text is endless. */
+static void damaged_heads(const uint64_t *memory, uint64_t *copy, size_t bytes) {
+    size_t at, i;
+    for (at = 0; at < PIE_FLIGHT_HEAD; at++) {
+        const uint64_t others[] = {UINT64_MAX, UINT64_MAX - 1, UINT64_C(1) << 63, UINT64_C(1) << 61, UINT64_C(1) << 32,
+                                   memory[at] + 1, memory[at] - 1, memory[at] * 2, memory[at] / 2, 1, 0};
+        for (i = 0; i < sizeof others / sizeof others[0]; i++) {
+            /* (a size near the true one may be that of a smaller recorder) */
+            int answer, is_far = i < 5 || others[i] == 0, is_size = at <= PIE_FLIGHT_BURST || at == PIE_FLIGHT_OPENING + offsetof(struct pie_opening, packets) / 8;
+            if (others[i] == memory[at])
+                continue;
+            memcpy(copy, memory, bytes);
+            copy[at] = others[i];
+            text.count = 0;
+            text.stop_at = MOST_WRITES;
+            answer = pie_flight_dump(copy, bytes, NULL, take, &text);
+            expect(answer != PIE_FLIGHT_STOPPED, "a text without end, of the damaged word", at);
+            expect(!is_size || !is_far || answer == PIE_FLIGHT_NONE, "a recorder of impossible sizes, of the damaged word", at);
+            expect(at != PIE_FLIGHT_KEPT || others[i] < PIE_FLIGHT_MOST_KEPT || answer == PIE_FLIGHT_NONE, "too many kept events", others[i]);
+        }
+    }
+}
+
 /* Tests damaged memory: a dump ends with any content, and changes nothing else. */
 static void damaged(uint64_t seed, uint64_t rounds) {
     struct queue queue;
@@ -259,6 +293,7 @@ static void damaged(uint64_t seed, uint64_t rounds) {
     open_queue(&queue, seed);
     queue.opening.packets = 40;
     expect(pie_flight_open(&flight, memory, bytes, 60, &queue.opening, &queue.pie), "a recorder opens", bytes);
+    damaged_heads(memory, copy, bytes);
     for (i = 0; i < 500; i++) {
         step(&queue, &event);
         pie_flight_keep(&flight, &queue.pie, &event);
@@ -271,12 +306,51 @@ static void damaged(uint64_t seed, uint64_t rounds) {
             copy[at] = below(&seed, 2) == 0 ? word_of(&seed) >> below(&seed, 64) : copy[at] ^ (UINT64_C(1) << below(&seed, 64));
         }
         text.count = 0;
-        text.stop_at = 2000;
+        text.stop_at = MOST_WRITES;
         counts[pie_flight_dump(copy, bytes, NULL, take, &text)]++;
     }
     expect(counts[PIE_FLIGHT_DONE] > 0 && counts[PIE_FLIGHT_NONE] > 0 && counts[PIE_FLIGHT_BROKEN] > 0, "damage of each kind", counts[0]);
+    expect(counts[PIE_FLIGHT_STOPPED] == 0, "texts without end", counts[PIE_FLIGHT_STOPPED]);
+    damaged_heads(memory, copy, bytes);
     free(memory);
     free(copy);
+}
+
+/* Tests memory of version 2. The file has the number of its words, the words in hexadecimal, and the text that the header of that version wrote. A
+ * follower must read the events of the text. */
+static void stored(const char *name) {
+    static uint64_t memory[2000], scratch[2000];
+    static char wanted[1 << 16];
+    struct pie_flight_follower follower;
+    struct pie_event event;
+    struct pie_params params;
+    struct text read = {wanted, 0, 0};
+    FILE *file = fopen(name, "r");
+    size_t bytes = 0, i;
+    uint64_t first = 0, last;
+    expect(file != NULL && fscanf(file, "%zu", &bytes) == 1 && bytes <= 2000, "no memory of version 2", bytes);
+    for (i = 0; i < bytes; i++)
+        expect(fscanf(file, "%" SCNx64, &memory[i]) == 1, "too few words", i);
+    expect(fgetc(file) == '\n', "no line of words", 0);
+    bytes *= 8;
+    expect(memory[PIE_FLIGHT_VERSION] == 2, "memory of another version", memory[PIE_FLIGHT_VERSION]);
+    read.count = fread(wanted, 1, sizeof wanted, file);
+    fclose(file);
+    unix_time = memory[PIE_FLIGHT_CLOCK];
+    last = dump(memory, bytes, NULL, NULL, &first);
+    expect(text.count == read.count && memcmp(text.bytes, wanted, text.count) == 0, "another text of version 2", text.count);
+    expect(dump(memory, bytes, scratch, NULL, &first) == last && text.count == read.count, "another text of a copy of version 2", text.count);
+    expect(pie_flight_follow_open(&follower, memory, bytes) == 1, "version 2 is followed", bytes);
+    follower.next = first;
+    text.count = 0;
+    while (pie_flight_follow(&follower, &event, &params))
+        text.count += event.kind != PIE_EVENT_PARAMS ? pie_write_event(&event, (unsigned char *)text.bytes + text.count, PIE_RECORD_ROOM)
+                                                     : pie_write_params(&event, &params, (unsigned char *)text.bytes + text.count, PIE_RECORD_ROOM);
+    expect(follower.next == last && text.count != 0 && memcmp(text.bytes, wanted + read.count - text.count, text.count) == 0, "other events", last);
+    memory[PIE_FLIGHT_VERSION] = 1;
+    expect(pie_flight_dump(memory, bytes, NULL, take, &text) == PIE_FLIGHT_NONE, "memory of version 1 is read", 0);
+    memory[PIE_FLIGHT_VERSION] = 4;
+    expect(pie_flight_dump(memory, bytes, NULL, take, &text) == PIE_FLIGHT_NONE, "memory of version 4 is read", 0);
 }
 
 /* ---- a writer and a thread that dumps */
@@ -444,14 +518,17 @@ static int decide(const char *name) {
 }
 
 int main(int count, char **words) {
-    uint64_t seed = count >= 3 ? strtoull(words[count == 4 ? 2 : 1], NULL, 10) : 1, events = count == 3 ? strtoull(words[2], NULL, 10) : 100000, i;
+    int is_texts = count == 4 && strcmp(words[1], "texts") == 0;
+    uint64_t seed = count == 4 ? strtoull(words[is_texts ? 2 : 1], NULL, 10) : 1, events = count == 4 ? strtoull(words[2], NULL, 10) : 100000, i;
     text.bytes = (char *)malloc(MOST_TEXT);
     if (count == 3 && strcmp(words[1], "decide") == 0)
         return decide(words[2]);
-    if (count == 4) {
+    if (is_texts) {
         texts(seed, words[3]);
         return 0;
     }
+    expect(count == 4, "usage: flight SEED EVENTS STORED", 0);
+    stored(words[3]);
     refusals();
     for (i = 0; i < 20; i++)
         random_events(seed * 1000 + i, events / 10);

@@ -224,6 +224,33 @@ static void at_full_speed(uint64_t events, uint64_t wanted) {
     free(memory);
 }
 
+/* Tests a follower of a damaged recorder: a number of kept events that no recorder reaches ends no event, and sizes that contradict each other are
+ * no recorder's. */
+static void damaged(void) {
+    struct pie_flight_follower follower;
+    struct pie_event event;
+    struct pie_params params;
+    size_t bytes;
+    uint64_t *memory = (uint64_t *)open_all(1, 1000, &bytes), kept_events, i;
+    for (i = 0; i < 100; i++)
+        keep_one();
+    kept_events = flight.count;
+    memory[PIE_FLIGHT_KEPT] = UINT64_MAX;
+    expect(!pie_flight_follow_open(&follower, memory, bytes), "a recorder of too many events is followed", 0);
+    memory[PIE_FLIGHT_KEPT] = kept_events;
+    expect(pie_flight_follow_open(&follower, memory, bytes) == 1, "a recorder is followed", bytes);
+    for (i = 0; i < kept_events; i++)
+        expect(pie_flight_follow(&follower, &event, &params) == 1 && event.kind != PIE_EVENT_LOST, "a kept event", i);
+    memory[PIE_FLIGHT_KEPT] = UINT64_MAX;
+    for (i = 0; i < 5000; i++)
+        expect(pie_flight_follow(&follower, &event, &params) == 0, "an event of a damaged recorder", i);
+    expect(follower.missed == 0, "missed events of a damaged recorder", follower.missed);
+    memory[PIE_FLIGHT_KEPT] = kept_events;
+    memory[PIE_FLIGHT_BURST] = memory[PIE_FLIGHT_EVENTS] / 2 + 1;
+    expect(!pie_flight_follow_open(&follower, memory, bytes), "a recorder with a burst above half of its events is followed", 0);
+    free(memory);
+}
+
 int main(int count, char **words) {
     uint64_t seed = count == 3 ? strtoull(words[1], NULL, 10) : 1, events = count == 3 ? strtoull(words[2], NULL, 10) : 50000, i;
     struct pie_flight_follower follower;
@@ -234,6 +261,7 @@ int main(int count, char **words) {
     kept.bytes = (char *)malloc(MOST_TEXT);
     expect(ends != NULL && followed.bytes != NULL && kept.bytes != NULL, "no memory", 0);
     expect(pie_flight_follow_open(&follower, nothing, sizeof nothing) == 0, "what is no recorder is followed", 0);
+    damaged();
     for (i = 0; i < 40; i++)
         random_looks(seed * 1000 + i, events / 10);
     expect(anew > 40, "too few new texts", anew);

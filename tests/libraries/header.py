@@ -354,7 +354,7 @@ def compare_flight(header, rust):
     bare = re.sub(r"/\*.*?\*/", "", header, flags=re.S)
     answers = {"DONE", "NONE", "GONE", "BROKEN", "STOPPED"}
     told = [it for it in re.findall(r"PIE_FLIGHT_(\w+) = (\d+)()", bare) if it[0] not in answers]
-    told += re.findall(r"#define PIE_FLIGHT_(\w+) \(?(?:UINT64_C\()?(\w+)\)*(?: << (\d+)\))?", bare)
+    told += re.findall(r"#define PIE_FLIGHT_(\w+) \(?(?:UINT64_C\()?(\d\w*)\)*(?: << (\d+)\))?", bare)
     found = re.findall(r"const (\w+): (?:usize|u64|u32) = (\w+)(?: << (\d+))?;", rust)
     here, there = ({name: int(number, 0) << int(shift or 0) for name, number, shift in it} for it in (found, told))
     if len(there) < 20:
@@ -372,17 +372,25 @@ def compare_names(root):
         yield f"include: {name} is a struct and a function"
 
 
-def compare_rates(header, page):
-    """Checks the table of rates in docs/LIBRARY.md, and the rates at which a default is 15 ms."""
-    limit, most = (int(it) for it in (default(header.comments["pie_params"]["limit_bytes"]), bound(header.comments["pie_params"]["limit_bytes"])[1]))
-    units = {"Mbit/s": 10**6, "Gbit/s": 10**9}
-    rows = re.findall(r"\| (\d+) ([MG]bit/s) \| (\d+) \| (\d+)", page)
-    if len(rows) < 6:
-        yield "docs/LIBRARY.md: the table of rates was not found"
-    for number, unit, wanted, chosen in rows:
+def compare_rates(header, table, page):
+    """Checks the table of limits in docs/PARAMETERS.md, and the rates in docs/LIBRARY.md at which a default is 15 ms. Header and table have the least
+    limit, as a number and as packets of 1514 bytes."""
+    most = int(bound(header.comments["pie_params"]["limit_bytes"])[1])
+    leasts = [re.findall(r"at least (\d+) (?:bytes )?\((\d+) packets of 1514 bytes\)", one_line(re.sub(r"^ \* ?", "", it, flags=re.M))) for it in (header.text, table)]
+    if any(len(it) != 1 or int(it[0][0]) != int(it[0][1]) * 1514 for it in leasts) or leasts[0] != leasts[1]:
+        yield f"include/pie.h, docs/PARAMETERS.md: the least limit is {leasts}"
+        return
+    limit = int(leasts[0][0][0])
+    units = {"kbit/s": 10**3, "Mbit/s": 10**6, "Gbit/s": 10**9}
+    rows = re.findall(r"\| (\d+) ([kMG]bit/s) \| (\d+) \| (\d+) \| (\d+) ms \| (\d+) \|", table)
+    if len(rows) < 8:
+        yield "docs/PARAMETERS.md: the table of rates was not found"
+    for number, unit, wanted, chosen, time, packets in rows:
         rate = int(number) * units[unit]
-        if int(wanted) * 8 * 1000 != rate * 15 or int(chosen) != max(min(rate // 40, most), limit):
-            yield f"docs/LIBRARY.md: the table of rates at {number} {unit}"
+        limit_bytes = min(max(-(-rate // 40), limit), most)
+        right = (rate * 15 // 8000, limit_bytes, round(limit_bytes * 8000 / rate), min(limit_bytes // 64, 2**20))
+        if right != (int(wanted), int(chosen), int(time), int(packets)):
+            yield f"docs/PARAMETERS.md: the table of limits at {number} {unit}"
     found = re.findall(r"default of ([\d,]+) bytes(?: is|, which is) 15 ms at ([\d.]+) Mbit/s", one_line(page))
     if len(found) != 2:
         yield "docs/LIBRARY.md: the rates at which the defaults are 15 ms were not found"
@@ -425,7 +433,7 @@ def differences(root):
     yield from compare_methods(rust_text, source)
     formats = (root / "docs/FORMATS.md").read_text()
     yield from compare_ranges(header, rust, formats)
-    yield from compare_rates(header, (root / "docs/LIBRARY.md").read_text())
+    yield from compare_rates(header, (root / "docs/PARAMETERS.md").read_text(), (root / "docs/LIBRARY.md").read_text())
     yield from compare_refusals(header, rust_text, source)
     yield from compare_numbers(header, source)
     yield from compare_limits(header)

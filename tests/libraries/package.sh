@@ -121,9 +121,9 @@ if command -v cargo > /dev/null && [ "$(rustc --version | cut -d. -f2)" -ge 82 ]
         --manifest-path "$work/program/Cargo.toml" 2> "$work/refused" > /dev/null; then
         fail "a Rust program was built over a prefix without the library"
     fi
-    grep -q "has no libpie_c.a" "$work/refused" || fail "cargo does not say that the library is missing: $(cat "$work/refused")"
+    grep -q "no libpie_c.a is in its folders" "$work/refused" || fail "cargo does not say that the library is missing: $(cat "$work/refused")"
     cargo package --offline --allow-dirty --list --manifest-path "$work/juniperbowls/Cargo.toml" > "$work/listed" 2> "$work/said"
-    for file in pie_c.S pie_link_c.S heap.c runtime.h; do
+    for file in x86_64/pie_c.S x86_64/pie_link_c.S aarch64/pie_c.S mipsel/pie_c.S heap.c runtime.h; do
         grep -qx "assembly/$file" "$work/listed" || fail "the package for cargo has no assembly/$file"
     done
 else

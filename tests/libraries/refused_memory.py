@@ -1,7 +1,8 @@
 #!/usr/bin/env python3
 """Makes each request for memory of a call of the libraries fail in turn, alone and with all later requests. The
 call must report out of memory in its own form and keep its promises. The first run without a failure must answer as
-with ample memory. Other calls must answer as usual.
+with ample memory. Other calls must answer as usual. Then it holds each thread of a storm until all others have ended:
+the storm must report that it lost its pace.
 
 usage: tests/libraries/refused_memory.py [PROGRAM]      PROGRAM: crates/pie_library_tests/out/pie_library_tests by default
 needs: pie_library_tests"""
@@ -103,6 +104,23 @@ class Program:
         print(f"{NAME}: {name}: no request is for more than {enough} bytes")
 
 
+def loses_pace(library, place):
+    """Returns true if a storm reports a lost pace while this one of its six threads is held."""
+    done = subprocess.run([PROGRAM, "pace"], capture_output=True, text=True, timeout=600, check=False,
+                          env={**os.environ, "LD_PRELOAD": library, "REFUSE_HOLD": str(place), "REFUSE_THREADS": "6"})
+    return done.stdout == "a_storm_reports_a_lost_pace: holds\n"
+
+
+def lose_pace(library):
+    """Holds each of the six threads of a storm in turn. No caller waits for the first two, which make no calls; on a
+    loaded machine a wait for another caller can time out then too, but not in each of ten storms."""
+    silent = [any(not loses_pace(library, place) for _ in range(10)) for place in (1, 2)]
+    lost = [loses_pace(library, place) for place in (3, 4, 5, 6)]
+    print(f"{NAME}: pace: a storm kept it with {sum(silent)} of 2 threads without calls held, and lost it with {sum(lost)} of 4 others")
+    check(all(silent), "each of ten storms lost its pace with a thread held that makes no calls:", silent)
+    check(all(lost), "a storm kept its pace although a thread that makes calls was held:", lost)
+
+
 def main():
     with tempfile.TemporaryDirectory() as room:
         library, met = refusing(room, "memory of the libraries"), f"{room}/met"
@@ -111,6 +129,7 @@ def main():
             program.refuse_each(library, met)
             for name, sizes in ROOM.items():
                 program.has_room(library, met, name, *sizes)
+            lose_pace(library)
     finish()
 
 

@@ -16,7 +16,7 @@ import tempfile
 from pathlib import Path
 
 ROOT = Path(__file__).resolve().parents[2]
-HEADER, PAGE, CRATE, LINK = "include/pie.h", "docs/LIBRARY.md", "bindings/rust/src/", "bindings/rust/src/link.rs"
+HEADER, PAGE, TABLE, CRATE, LINK = "include/pie.h", "docs/LIBRARY.md", "docs/PARAMETERS.md", "bindings/rust/src/", "bindings/rust/src/link.rs"
 ARRIVE = "uint64_t queued, uint32_t size, uint32_t room, uint32_t ecn, uint64_t word"
 
 # each edit: a name, the file, and pairs of a text that occurs once in the file, and its replacement
@@ -56,7 +56,10 @@ EDITS = [
     ("a comment: later moments", HEADER, "a moment above 2^60 - 1 */", "a moment above 2^62 - 1 */"),
     ("a comment: a larger queue", HEADER, "this packet, at most 2^30", "this packet, at most 2^32"),
     ("a text: an ECN field of 4", HEADER, "an ECN field above 3\"", "an ECN field above 4\""),
-    ("a page: another limit at 100 Mbit/s", PAGE, "187500 | 2500000", "187500 | 250000"),
+    ("a page: another limit at 100 Mbit/s", TABLE, "187500 | 2500000", "187500 | 250000"),
+    ("a page: other packets at 1 Gbit/s", TABLE, "200 ms | 390625", "200 ms | 39062"),
+    ("a page: another least limit", TABLE, "(32 packets of 1514 bytes)", "(64 packets of 1514 bytes)"),
+    ("a comment: another least limit", HEADER, "at least 48448 (32", "at least 96896 (64"),
     ("a page: the default is 15 ms at another rate", PAGE, "15 ms at 140 Mbit/s", "15 ms at 1400 Mbit/s"),
     ("a comment: sizes looked at before moments", HEADER, "PIE_BAD_MOMENT, PIE_BAD_SIZE, PIE_BAD_ECN", "PIE_BAD_SIZE, PIE_BAD_MOMENT, PIE_BAD_ECN"),
     ("a comment: parameters numbered otherwise", HEADER, "1 target, 2 t_update", "1 t_update, 2 target"),

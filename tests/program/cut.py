@@ -301,7 +301,7 @@ def check_unmakeable_segments(history, text, record, number, every, what):
 
 def check_nothing(history):
     """Tries selections without an event, and a fault at any place."""
-    nothing = (1, "", "no event of the text is wanted")
+    nothing = (1, "", "no event of the text is selected")
     check(cut(history.text, "--event", str(history.count + 1)) == nothing, f"{history.name}: an event that is not there")
     if history.moments[-1] < LATEST:
         check(cut(history.text, "--from", str(history.moments[-1] + 1)) == nothing, f"{history.name}: a moment after all events")

@@ -71,6 +71,25 @@ expect 'a burst that is allowed' 0 'event 1: packet 7, 1000 bytes, Not-ECT: queu
   before it: 0 packets, 0 bytes, a delay of 0.000000 ms (0 ns)
   probability 0.0000 %% (0), as at the opening; no update so far; burst allowance 150.000000 ms (150000000 ns)
 ' '' 'open,1,4,16,100\narrive,1,2,7,1000,not,0,enqueue\n' explain --event 1
+# With a max_burst below the remaining allowance a reset or a calm update leaves max_burst of it: 20 ms after the last
+# update, or nothing. An arrival after that time has no promise either.
+for lowered in 20000000 0; do
+    lasts='  with unchanged parameters nothing is marked or dropped early before 20.000000 ms (20000000 ns)\n'
+    [ "$lowered" = 0 ] && lasts=''
+    expect "a max_burst of $lowered below the allowance" 0 "event 2: packet 0, 1000 bytes, Not-ECT: queued
+  at 0.000002 ms (2 ns), by caller 1
+  a burst is allowed: 150.000000 ms (150000000 ns) are left of it
+$lasts  before it: 0 packets, 0 bytes, a delay of 0.000000 ms (0 ns)
+  probability 0.0000 %% (0), as at the opening; no update so far; burst allowance 150.000000 ms (150000000 ns)
+" '' "open,0,4,16,100\nparams,1,1,15000000,15000000,$lowered,125,1250,1024,262144,100000000000,1024,done\narrive,1,2,0,1000,not,0,enqueue\n" \
+        explain --event 2
+done
+expect 'an arrival at the end of the promise' 0 'event 1: packet 7, 1000 bytes, Not-ECT: queued
+  at 150.000001 ms (150000001 ns), by caller 1
+  a burst is allowed: 150.000000 ms (150000000 ns) are left of it
+  before it: 0 packets, 0 bytes, a delay of 0.000000 ms (0 ns)
+  probability 0.0000 %% (0), as at the opening; no update so far; burst allowance 150.000000 ms (150000000 ns)
+' '' 'open,1,4,16,100\narrive,1,150000001,7,1000,not,0,enqueue\n' explain --event 1
 # The probability is 0.903954174169, which is not below a marking threshold of 0.9. With nine
 # packets that pass because of their random words, the tenth makes a sum above 8.5.
 begun='arrive,1,0,1,1024,not,0\narrive,1,0,2,1024,not,0\narrive,1,0,3,1024,not,0\narrive,1,0,4,1024,not,0\n'
@@ -95,10 +114,11 @@ expect 'a mark that is not given' 0 "$header$below" '' "$(cat "$work/below")" ex
 sum=19,arrive,1,1001003,1001003,10,500,mark,picked_by_sum,6548,11,6394531,903954174169,8135587567521,0
 expect 'a mark by the sum' 0 "$header$sum,ect0,18446744073709551615,,1,9,7048,12,6882812,903954174169,0,0,1\n" '' \
     "$(cat "$work/sum")" explain --csv --event 19
+choices='pie: explain takes only one of --event N, --tag T, --lost, --marked and --all; see pie explain --help\n'
 expect 'no choice' 1 '' "$choice" "$history" explain
 expect 'no choice but a form' 1 '' "$choice" "$history" explain --csv
-expect 'two choices' 1 '' "$choice" "$history" explain --lost --all
-expect 'two choices of packets' 1 '' "$choice" "$history" explain --lost --marked
+expect 'two choices' 1 '' "$choices" "$history" explain --lost --all
+expect 'two choices of packets' 1 '' "$choices" "$history" explain --lost --marked
 marked='10,arrive,1,1001003,1001003,5,500,mark,picked_by_word,2048,2,2000000,903954174169,0,0,ect0,0,,1,9,2548,3,2488281,903954174169,0,0,1\n'
 expect 'a marked packet' 0 "$header$marked" '' "$history" explain --csv --marked
 expect 'no packet marked before a changed verdict' 2 "$header" "$differs" "$changed" explain --csv --marked

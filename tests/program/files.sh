@@ -23,8 +23,8 @@ for words in "run $work/long.trace" "audit $work/long" "explain --summary $work/
 done
 echo dep >> "$work/long.trace"
 "$program" run --progress "$work/long.trace" > "$work/output" 2> "$work/errors"
-told=$(tr '\r' '\n' < "$work/errors" | tail -n 1)
-if ! cmp -s "$work/output" "$work/long" || [ "$told" != "$(printf '\033[Kpie: record 1000002: unknown kind')" ]; then
+told=$(tr '\r' '\n' < "$work/errors" | tail -n 2)
+if ! cmp -s "$work/output" "$work/long" || [ "$told" != "$(printf '\033[Kpie: record 1000002: unknown kind\npie: the text is in %s' "$work/long.trace")" ]; then
     echo "$script: progress before a fault: $(cat -v "$work/errors")"
     failed=1
 fi
@@ -42,7 +42,7 @@ printf 'open,0,4,16,100\n' > "$work/none"
 expect 'a run of a file' 0 "$history" '' '' run "$work/trace"
 expect 'a counted run of a file' 0 "$history" 'pie: 11 events, 0 refused records\n' '' run "$work/trace" --count
 expect 'a run of -' 0 "$history" '' "$trace" run -
-expect 'a run of a file with a fault' 1 'open,0,4,16,100\ndepart,1,9,empty\n' 'pie: record 3: wrong number of fields\n' '' run "$work/faulty.trace"
+expect 'a run of a file with a fault' 1 'open,0,4,16,100\ndepart,1,9,empty\n' "pie: record 3: wrong number of fields\npie: the text is in $work/faulty.trace\n" '' run "$work/faulty.trace"
 expect 'an explained file' 0 "$header$lost" '' '' explain --csv --lost "$work/history"
 expect 'an explained file that differs' 2 "${header}$begins" "$differs" '' explain "$work/changed" --csv --event=1
 expect 'a migrated file' 0 "$two" '' '' migrate "$work/one"
@@ -69,9 +69,22 @@ cp "$work/faulty" "$long"
 expect 'a fault of a file with a long name' 1 "$work/none: clean,0\n" "pie: $long: record 3: unknown kind\n" '' audit "$long" "$work/none"
 rm "$long"
 expect 'no file of a long name' 1 "$work/none: clean,0\n" "pie: $long: No such file or directory (os error 2)\n" '' audit "$long" "$work/none"
-for name in run migrate 'explain --all'; do
+# A name that is not UTF-8 is reported, and the other files are audited.
+odd=$work/$(printf 'odd\377')
+cp "$work/history" "$odd"
+shown="$work/odd\357\277\275: the name is not valid UTF-8\n"
+expect 'audits of which one has a name that is not UTF-8' 1 "$work/history: clean,11\n$work/none: clean,0\n" "pie: $shown" '' \
+    audit "$work/history" "$odd" "$work/none"
+expect 'an audit of a file whose name is not UTF-8' 1 '' "pie: $shown" "$history" audit "$odd"
+expect 'a run of a file whose name is not UTF-8' 1 '' "pie: $shown" "$trace" run "$odd"
+expect 'a run to a file whose name is not UTF-8' 1 '' "pie: $shown" "$trace" run --force -o "$odd"
+printf -- "$history" | cmp - "$odd" || fail 'a file whose name is not UTF-8: it was changed'
+rm "$odd"
+printf 'dep\n' > "$work/unopened"
+for name in run migrate 'explain --all' 'cut --last 1'; do
     expect "$name of a missing file" 1 '' "pie: $missing\n" '' $name "$work/missing"
-    expect "$name of a folder" 1 '' 'pie: cannot read the input\n' '' $name "$work"
+    expect "$name of a folder" 1 '' "pie: $work: Is a directory (os error 21)\n" '' $name "$work"
+    expect "$name of a file with a fault" 1 '' "pie: the first record is not an open record\npie: the text is in $work/unopened\n" '' $name "$work/unopened"
 done
 # -o writes the output to a new file and leaves no other file in the folder.
 made=$work/folder/made
@@ -111,7 +124,7 @@ errors=$differs written 'explanations up to an event that differs, to a file' 2 
 # After a fault the partial output remains in FILE.partial, and an existing file is unchanged. The partial output of
 # an earlier fault remains too.
 until='this file has the incomplete output'
-fault='pie: record 3: wrong number of fields\n'
+fault="pie: record 3: wrong number of fields\npie: the text is in $work/faulty.trace\n"
 begun='open,0,4,16,100\ndepart,1,9,empty\n'
 expect 'a fault, to a file' 1 '' "${fault}pie: $made.partial: $until\n" '' run "$work/faulty.trace" -o "$made"
 printf older > "$made"
@@ -156,9 +169,19 @@ slowly 600 '' --force
 [ $status = 0 ] && [ "$(stat -c %a "$made")" = 600 ] || fail "a run in place of a private file: status $status, $(cat "$work/errors")"
 holds 'a run in place of a private file' "$history"
 rm "$made"
+# The new file has the permissions of the replaced one, also those that the umask would take away.
+umask 077
+for mode in 600 644 664 666; do
+    printf older > "$made"
+    chmod $mode "$made"
+    "$program" run --force -o "$made" "$work/trace" 2> "$work/errors" && [ "$(stat -c %a "$made")" = $mode ] ||
+        fail "a run in place of a file of mode $mode: $(stat -c %a "$made"), $(cat "$work/errors")"
+    holds "a run in place of a file of mode $mode" "$history"
+    rm "$made"
+done
 umask "$umask"
 slowly '' 'printf appeared > "$made"'
-[ $status = 1 ] && printf "pie: $made: File exists (os error 17)\npie: $made.partial: $until\n" | cmp -s - "$work/errors" ||
+[ $status = 1 ] && printf "pie: $made: File exists (os error 17)\npie: $made.partial: this file has the output\n" | cmp -s - "$work/errors" ||
     fail "a file that appears: status $status, $(cat "$work/errors")"
 [ "$(cat "$made")" = appeared ] && printf -- "$history" | cmp - "$made.partial" || fail 'a file that appears: it was replaced'
 rm -f "$made" "$made.partial"
@@ -185,6 +208,19 @@ for name in "$work/trace" "$work/./trace" "$work/other/../trace" "$work/hard" "$
     done
 done
 rm "$work/hard" "$work/symbolic"
+
+# Two files are one only if their devices are the same too: the first files of two new file systems have one number.
+if unshare -rm true 2> "$work/said"; then
+    printf -- "$trace" > "$work/other/trace"
+    unshare -rm bash -c '
+        mkdir "$0/one" "$0/two"
+        for it in one two; do mount -t tmpfs tmpfs "$0/$it" && cp "$0/trace" "$0/$it/it"; done
+        [ "$(stat -c %i "$0/one/it")" = "$(stat -c %i "$0/two/it")" ] || { echo "the two files have different numbers"; exit 1; }
+        "$1" run "$0/one/it" --force -o "$0/two/it" && "$1" audit < "$0/two/it"' "$work/other" "$program" > "$work/output" 2> "$work/errors"
+    [ "$(cat "$work/output")" = clean,11 ] || fail "a run to a file of the same number on another device: $(cat "$work/output" "$work/errors")"
+else
+    echo "NOT RUN: $script: no file systems can be mounted here, so no file has the same number on another device: $(cat "$work/said")"
+fi
 
 # A symbolic link to another file counts as an existing file, also if that file does not exist.
 # --force replaces the link itself.
@@ -215,7 +251,7 @@ rm "$work/folder/pipe"
 expect 'a run to no device' 0 '' '' "$trace" run -o /dev/null
 expect 'a run to -' 0 "$history" '' "$trace" run -o -
 [ ! -e - ] || fail 'a run to -: a file has that name'
-expect 'a run to a full device' 1 '' 'pie: cannot write the output\n' "$trace" run -o /dev/full
+expect 'a run to a full device' 1 '' 'pie: /dev/full: No space left on device (os error 28)\npie: cannot write the output\n' "$trace" run -o /dev/full
 holds 'pipes and devices'
 
 for name in run migrate 'explain --all'; do
@@ -224,5 +260,5 @@ for name in run migrate 'explain --all'; do
         "$one" $name --output "$work/no/made"
     expect "$name to no name" 1 '' 'pie: : No such file or directory (os error 2)\n' "$one" $name -o ''
 done
-expect 'an audit of a folder' 1 '' "pie: $work: cannot read the input\n" '' audit "$work"
+expect 'an audit of a folder' 1 '' "pie: $work: Is a directory (os error 21)\n" '' audit "$work"
 exit "$failed"

@@ -221,7 +221,7 @@ def hold_words(parts):
         check(errors == f"pie: {folder}/none: No such file or directory (os error 2)\n", f"a file that is not there: {errors}")
         with open("/dev/full", "wb") as full:
             ran = subprocess.run([PROGRAM, "audit", "--joined", *names[:2]], stdout=full, stderr=subprocess.PIPE, check=False)
-        check((ran.returncode, ran.stderr) == (1, b"pie: cannot write the output\n"), f"a full device: {ran}")
+        check((ran.returncode, ran.stderr) == (1, b"pie: No space left on device (os error 28)\npie: cannot write the output\n"), f"a full device: {ran}")
 
 
 def main():

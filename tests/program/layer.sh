@@ -11,20 +11,34 @@
 bound=600
 
 # send: sends UDP of each size, and prints, for each 64 sizes, the bytes and packets that the
-# device's qdisc counted
+# device's qdisc counted. After each 64 it waits until the link has read all packets that left the
+# qdisc: a TUN device counts a packet when it is read, and drops packets if too many are unread
 send() {
     ip netns exec "${names[0]}" python3 - "$far" <<'END'
-import json, socket, subprocess, sys
+import json, socket, subprocess, sys, time
 
-def counted():
-    return json.loads(subprocess.run(["tc", "-s", "-j", "qdisc", "show", "dev", "senders"], capture_output=True, check=True).stdout)[0]["bytes"]
+def shown(*words):
+    return json.loads(subprocess.run(words, capture_output=True, check=True).stdout)[0]
 
-sender, before = socket.socket(socket.AF_INET, socket.SOCK_DGRAM), counted()
+def read():
+    return shown("ip", "-s", "-j", "link", "show", "senders")["stats64"]["tx"]["packets"]
+
+def counted(packets):
+    """Waits, ten minutes at most, until so many packets were read. Returns the bytes that left the qdisc."""
+    for _ in range(60000):
+        if read() >= packets:
+            return shown("tc", "-s", "-j", "qdisc", "show", "dev", "senders")["bytes"]
+        time.sleep(0.01)
+    sys.exit(f"the link read {read()} packets, not {packets}")
+
+sender, packets = socket.socket(socket.AF_INET, socket.SOCK_DGRAM), read()
+before = counted(packets)
 for first in range(28, 1501, 64):
     sizes = range(first, min(first + 64, 1501))
     for size in sizes:
         sender.sendto(bytes(size - 28), (sys.argv[1], 9))
-    after = counted()
+    packets += len(sizes)
+    after = counted(packets)
     print(after - before, len(sizes))
     before = after
 END

@@ -51,10 +51,34 @@ done <<'END'
 --grant|5us|--grant: out of its range
 --queue|red|--queue red: not a value of this option
 END
+# no output is another output or replaces an existing file unasked: the link ends before it opens a device or a file
+printf kept > "$work/there"
+ln -s there "$work/link-to-there"
+while IFS='|' read -r options said; do
+    # shellcheck disable=SC2086
+    found=$(cd "$work" && "$link/out/link" --from senders --to receivers $options 2>&1)
+    if [ "$found" != "link: $said" ] || [ "$(cat "$work/there")" != kept ] || compgen -G "$work/new*" > /dev/null; then
+        echo "$script: link $options: $found"
+        exit 1
+    fi
+done <<'END'
+--history there|there: the file exists; --force replaces it
+--records there|there: the file exists; --force replaces it
+--flows link-to-there|link-to-there: the file exists; --force replaces it
+--metrics there|there: the file exists; --force replaces it
+--history there --records link-to-there --force|link-to-there: two outputs have this name
+--history new --records ./new|./new: two outputs have this name
+--flows new --metrics new|new: two outputs have this name
+--flight new --history new|new: two outputs have this name
+--flight new --history new.before|new.before: two outputs have this name
+--flight new --flows new.history|new.history: two outputs have this name
+--history - --records -|-: two outputs have this name
+END
+
 # the opening with these options must be the one of pie params with the same words, except for the
 # number of events in the log
 opened() {
-    ip netns add "${names[1]}" && (within "${names[1]}" "$link/out/link" --from senders --to receivers --for 1ms --history "$work/opened" "$@") \
+    ip netns add "${names[1]}" && (within "${names[1]}" "$link/out/link" --from senders --to receivers --for 1ms --force --history "$work/opened" "$@") \
         > /dev/null 2> "$work/warned"
     ip netns del "${names[1]}"
 }

@@ -43,7 +43,7 @@ def told():
     options = {}
     for name in ["", *names]:
         text = top if name == "" else output([PROGRAM, name, "--help"])
-        options[name] = {option: bool(value) for option, value in re.findall(r"--([\w-]+)( <[\w|]+>)?", section(text, "Options"))}
+        options[name] = {option: bool(value) for option, value in re.findall(r"^ +(?:-\w, +)?--([\w-]+)( <[\w|]+>)?", section(text, "Options"), re.M)}
     return names, options
 
 

@@ -16,26 +16,43 @@ params() {
     expect "a run of $name" 0 "$record\n" '' "$record\n" run
 }
 params 'the defaults of tc' "$usual,0,1000,1000,$events,15000000,15000000,150000000,125,1250,1024,262144,0,16384" ''
-params 'what tc shows' "$usual,0,1000,1000,$events,20000000,15000000,150000000,125,1250,1024,2500000,100000000000,16384" '' \
-    --rate 100mbit --target 20ms --limit 1000p --alpha 2 --beta 20 --tupdate 15ms --ecn
+params 'what tc shows' "$usual,0,2000,2000,$events,20000000,15000000,150000000,125,1250,1024,2500000,100000000000,16384" '' \
+    --rate 100mbit --target 20ms --limit 2000p --alpha 2 --beta 20 --tupdate 15ms --ecn
 stalls='pie: warning: dq_threshold (16384) is above half of rate x target: the departure rate may not be measured for a long time\n'
-params 'other units' "$usual,0,65536,65536,$events,500000,1000,150000000,0,2000,1024,262144,0,16384" "$stalls" \
-    --rate 9000kbit --target 500us --limit 65536 --alpha 0 --beta 32 --tupdate 1000ns
-# (the limits in bytes are those of the table of docs/LIBRARY.md, by pie_params_for)
-for row in 10mbit:262144:stalls 100mbit:2500000 1gbit:25000000 10gbit:250000000 40gbit:1000000000 100gbit:1073741824 41bit:262144:stalls \
-    2.5GBIT:62500000 0.1tbit:1073741824 12.5Mbps:2500000 100Mibit:2621440 1gibps:214748365 1000kbit:262144:stalls 125000kbps:25000000; do
-    IFS=: read -r rate limit warns <<< "$row"
-    params "a limit at $rate" "$usual,0,1000,1000,$events,15000000,15000000,150000000,125,1250,1024,$limit,0,16384" "${warns:+$stalls}" --rate "$rate"
+above='pie: warning: limit (900 packets) is above one second at the rate in packets of the MTU; limit_bytes (225000) limits the queue too\n'
+params 'other units' "$usual,0,900,900,$events,500000,1000,150000000,0,2000,1024,225000,0,16384" "$above$stalls" \
+    --rate 9000kbit --target 500us --limit 900 --alpha 0 --beta 32 --tupdate 1000ns
+# (the limits are those of the table of docs/PARAMETERS.md: bytes, and packets of 64 bytes)
+for row in 10mbit:250000:3906:stalls 100mbit:2500000:39062 1gbit:25000000:390625 10gbit:250000000:1048576 40gbit:1000000000:1048576 \
+    100gbit:1073741824:1048576 41bit:48448:757:stalls 2.5GBIT:62500000:976562 0.1tbit:1073741824:1048576 12.5Mbps:2500000:39062 \
+    100Mibit:2621440:40960 1gibps:214748365:1048576 1000kbit:48448:757:stalls 125000kbps:25000000:390625 1937920bit:48448:757:stalls \
+    1937961bit:48450:757:stalls; do
+    IFS=: read -r rate limit packets warns <<< "$row"
+    params "a limit at $rate" "$usual,0,$packets,$packets,$events,15000000,15000000,150000000,125,1250,1024,$limit,0,16384" "${warns:+$stalls}" --rate "$rate"
 done
+# A chosen limit in packets of 1514 bytes: at 100 Mbit/s, 1363 packets are 165.1 ms, and 8257 are 1.00005 s.
+below() { echo "pie: warning: limit ($1 packets) is below rate x (target + burst allowance) in packets of the MTU: bursts that the allowance admits fill the queue\n"; }
+above() { echo "pie: warning: limit ($1 packets) is above one second at the rate in packets of the MTU; limit_bytes ($2) limits the queue too\n"; }
+chosen_limit() {
+    params "a limit of $1 packets" "$usual,0,$1,$1,$events,15000000,15000000,150000000,125,1250,1024,$2,0,16384" "$3" --limit "$1" "${@:4}"
+}
+chosen_limit 1363 2500000 '' --rate 100mbit
+chosen_limit 1362 2500000 "$(below 1362)" --rate 100mbit
+chosen_limit 8256 2500000 '' --rate 100mbit
+chosen_limit 8257 2500000 "$(above 8257 2500000)" --rate 100mbit
+chosen_limit 1000 25000000 "$(below 1000)" --rate 1gbit
+chosen_limit 1000 25000000 "$(below 1000)" --rate 1gbit --mtu 9000
+chosen_limit 3000 25000000 '' --rate 1gbit --mtu 9000
+chosen_limit 1 262144 ''
 # Half of the bytes queued at the target is 16384 at 17.476266667 Mbit/s. With time stamps or without a rate there
 # is no warning.
-record="$usual,0,1000,1000,$events,15000000,15000000,150000000,125,1250,1024,436907,0,16384"
+record="$usual,0,6826,6826,$events,15000000,15000000,150000000,125,1250,1024,436907,0,16384"
 params 'a rate at which the estimator stalls' "$record" "$stalls" --rate 17476266bit
 params 'a rate at which it does not' "$record" '' --rate 17476267bit
-record="open3,1,stamp,derandomized,capped,unscaled,rolling,0,1000,1000,$events,$nine"
+record="open3,1,stamp,derandomized,capped,unscaled,rolling,0,757,757,$events,${nine/262144/48448}"
 expect 'a rate by time stamps' 0 "$record\n" '' '' params --rate 512kbit
 short='is below rate x target: the queue is full before the delay reaches the target, and all losses are tail drops\n'
-params 'a limit that is too small' "$usual,0,1000,1000,$events,1000000000,15000000,150000000,125,1250,1024,2500000,0,16384" \
+params 'a limit that is too small' "$usual,0,39062,39062,$events,1000000000,15000000,150000000,125,1250,1024,2500000,0,16384" \
     "pie: warning: limit_bytes (2500000) $short" --rate 100mbit --target 1s
 rounded="pie: warning: alpha is rounded down to a whole number of thousandths per second\npie: warning: beta is rounded down to a whole number of thousandths per second\n"
 params 'odd gains' "$usual,0,1000,1000,$events,15000000,15000000,150000000,187,1312,1024,262144,0,16384" \

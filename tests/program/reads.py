@@ -7,6 +7,7 @@ tests/shared, which read the whole text at once. The texts are:
 - short ones, each split at every byte: quotes, carriage returns, empty lines, NUL bytes, byte order marks, and ends without a line feed;
 - random traces and histories with random changes of that kind, long fields and odd numbers among them;
 - numbers at the ends of each range, and numbers with another byte among their digits, at each place of a number in short texts;
+- lines of about 2,048 bytes, and of about 64, 96 and 128 fields, in place of each record of short texts, with and without quotes;
 - long ones in which each byte of a line with quotes and carriage returns is once the first byte after a full buffer.
 
 usage: tests/program/reads.py [PROGRAM [FIRST_SEED [SEEDS]]]      PROGRAM: crates/pie/out/pie by default
@@ -230,6 +231,31 @@ def compare_numbers(library, text, name):
     return found, count
 
 
+def of_bytes(line, size):
+    """Returns the line with as many digits in its last field as make it this long, without its line feed."""
+    return line[:-1] + b"1" * (size - len(line) + 1) + b"\n"
+
+
+def of_fields(line, many):
+    """Returns the line with this number of fields."""
+    return line[:-1] + b",1" * (many - line.count(b",") - 1) + b"\n"
+
+
+def compare_lengths(library, text, name):
+    """Compares the text with one line of another length. None of these lines takes memory that grows with it."""
+    found, count = [], 0
+    kinds = dict((line.split(b",")[0], line) for line in lines_of(text))
+    for kind, line in kinds.items():
+        longer = [of_bytes(line, size) for size in (1023, 1024, 2046, 2047, 2048, 2049, 8191)]
+        longer += [of_fields(line, base + by) for base in (32, 64, 96, 128) for by in (-1, 0, 1, 2)]
+        for it in longer:
+            for it in (it, it.replace(kind, quoted(kind), 1)):
+                it = text.replace(line, it, 1)
+                found += differing("lengths", library, name, it, wanted(name, it))
+                count += 1
+    return found, count
+
+
 def compare_buffer(library, text, name, buffer):
     """Compares texts with additional lines after the first, such that each later byte is once the
     first one after a full buffer. The additional lines have the same history."""
@@ -260,6 +286,10 @@ def tasks(library):
                 yield compare_splits, library, it, names[place % len(names)]
     yield compare_numbers, library, SHORT[1], "run"
     yield compare_numbers, library, wanted("run", SHORT[1])[1], "audit"
+    for trace in SHORT:
+        yield compare_lengths, library, trace, "run"
+        for name in OF_A_HISTORY:
+            yield compare_lengths, library, wanted("run", trace)[1], name
     opened = b"open3,1,rate,derandomized,capped,unscaled,bounded,0,4,1048576,1048576\n"
     lines = SHORT[1].split(b"\n", 1)[1]
     history = wanted("run", opened + lines)[1]

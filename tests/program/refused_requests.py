@@ -2,12 +2,14 @@
 """Makes each allocation, each read and each write of the program fail in turn, once and from there on
 (tests/shared/refuse.c). The program must report its fault, and its output must be a beginning of the normal output.
 The inputs are a long text of many pages, and short texts read and written 7 bytes at a time, for each subcommand
-that reads or writes: a failed read must end the text after all earlier records. Then each call fails that creates,
-writes, renames and removes the file of -o: the old file must remain, or the new one must be complete.
+that reads or writes: a failed read must end the text after all earlier records, also within a quoted text. Then each
+call fails that creates, writes, renames and removes the file of -o, with and without hard links: the old file must
+remain, or the new one must be complete, and a file that remains beside it must be named.
 refused_storms.py does this for storms.
 
 usage: tests/program/refused_requests.py [PROGRAM]      PROGRAM: crates/pie/out/pie by default
 needs: program, an early start"""
+import errno
 import functools
 import os
 import sys
@@ -16,17 +18,21 @@ import tempfile
 sys.path.insert(0, f"{os.path.dirname(os.path.abspath(__file__))}/../shared")
 from checks import NAME, check, finish, refusing  # noqa: E402
 from refused import ONCE_AND_ON, STEP, in_turn  # noqa: E402
-from running import MEMORY, READ, READERS, TRACE, WRITE, run  # noqa: E402
+from running import MEMORY, READERS, TRACE, read_fault, run, write_fault  # noqa: E402
 
-FAULTS = {"REFUSE_MEMORY": MEMORY, "REFUSE_READ": READ, "REFUSE_WRITE": WRITE}
+FAULTS = {"REFUSE_MEMORY": MEMORY, "REFUSE_READ": read_fault(errno.EIO), "REFUSE_WRITE": write_fault(errno.EIO)}
 
 
 def told(words, says, errors):
-    """Returns true if each line on standard error reports this fault; the lines of an audit of files also name a
-    file."""
+    """Returns true if each line on standard error reports this fault. A fault of a file has a line with the file's name;
+    in an audit of files the line of the fault has it."""
     names = [word.encode() for word in words if word.startswith("/")]
-    lines = {says, *(says.replace(b"pie: ", b"pie: %s: " % name, 1) for name in names if words[0] == "audit")}
-    return errors == says or errors != b"" and set(errors.splitlines(keepends=True)) <= lines
+    *reason, line = says.splitlines(keepends=True)
+    if words[0] == "audit" and names:
+        lines = {*reason, *(line.replace(b"pie: ", b"pie: %s: " % name, 1) for name in names), line}
+        return errors != b"" and set(errors.splitlines(keepends=True)) <= lines
+    is_read = says == FAULTS["REFUSE_READ"]
+    return errors == says + b"".join(b"pie: the text is in %s\n" % name for name in names if is_read)
 
 
 def is_beginning(words, variable, output, want):
@@ -108,7 +114,7 @@ def short_texts(library, met):
         # (these also allocate memory in ways that a long text does not)
         moved, asked = ["REFUSE_READ", "REFUSE_WRITE"], list(FAULTS)
         commands = [
-            (["run"], trace, moved), (["run"], goes_on, asked), (["audit"], history, moved), (["audit"], part, asked),
+            (["run"], trace, moved), (["run"], trace.replace(b"ect0", b'"ect0"'), moved), (["run"], goes_on, asked), (["audit"], history, moved), (["audit"], part, asked),
             (["audit", "--joined", first, second], b"", asked), (["explain", "--all", "--csv"], history, asked),
             (["explain", "--all", "--from", "25"], history, moved), (["explain", "--event", "3"], part, asked),
             (["explain", "--summary"], history, moved), (["cut", "--event", "2"], history, moved),
@@ -117,6 +123,7 @@ def short_texts(library, met):
         ]
         for words, given, variables in commands:
             name = " ".join(words).replace(f"{folder}/", "") + (" of a text that goes on" if given in (part, goes_on) else "")
+            name += " of a quoted text" if b'"' in given else ""
             want, counts = refused(library, met, f"{STEP} bytes at a time: {name}", words, given, variables, REFUSE_STEP=str(STEP))
             read = len(given) + sum(len(text) * (2 if "--last" in words else 1) for file, text in files.items() if f"{folder}/{file}" in words)
             check(counts["REFUSE_READ"] >= read / STEP and counts["REFUSE_WRITE"] >= len(want) / STEP > 0, name, "read and wrote by", counts)
@@ -128,7 +135,7 @@ def faults_before(library, met, history):
     faulty = {"run": (["run"], TRACE + b"dep\n"), **{name: (words, history + b"dep\n") for name, words in READERS.items() if name != "audit"}}
     for name, (words, given) in faulty.items():
         got = run(words, given, LD_PRELOAD=library, REFUSE_MET=met, REFUSE_WRITE="1", REFUSE_ON="1")
-        check(got == (1, b"", WRITE), name, "a fault that cannot be flushed", got)
+        check(got == (1, b"", FAULTS["REFUSE_WRITE"]), name, "a fault that cannot be flushed", got)
 
 
 def outputs_refused(library, met, name, words, given):
@@ -136,9 +143,9 @@ def outputs_refused(library, met, name, words, given):
     No file that others may read may remain beside a private one, even if a request is refused right
     after it was created."""
     want = run(words, given)[1]
-    for older in (None, b"older\n"):
+    for older, without in ((None, {}), (None, {"REFUSE_LINK": "1"}), (b"older\n", {})):
         forced = ["--force"] if older else []
-        for on in ONCE_AND_ON:
+        for on in ({**it, **without} for it in ONCE_AND_ON):
             for place in range(1, 10_000):
                 if os.path.exists(met):
                     os.remove(met)
@@ -156,15 +163,33 @@ def outputs_refused(library, met, name, words, given):
                     check(got == (0, b"", b"") and left == {"made": want}, name, "-o", place, "with nothing refused", got, list(left))
                     break
                 is_whole = got[:2] == (0, b"") and left.pop("made", None) == want
-                is_kept = got[:2] == (1, b"") and left.pop("made", None) == older
+                # (without hard links an empty file takes the name first; it remains only if its removal fails too)
+                is_empty = on == {"REFUSE_LINK": "1", "REFUSE_ON": "1"} and left.get("made") == b""
+                is_kept = got[:2] == (1, b"") and (left.pop("made", None) == older or is_empty)
                 check(is_whole or is_kept, name, "-o", forced, place, on, "another file, or", got[0], got[2][:200])
                 # (a part of the output remains under the partial name, which is reported; after a hard link it may
                 # be the whole output)
-                is_told = f"pie: {made}.partial: this file has the incomplete output\n".encode() in got[2]
+                is_told = any(f"pie: {made}.partial: this file has {what}\n".encode() in got[2] for what in ("the output", "the incomplete output"))
                 check(all(want.startswith(text) for text in left.values()), name, "-o", place, on, "no beginning of the text is left")
-                check(set(left) <= {"made.partial"} and (is_whole or is_told or not any(left.values())), name, "-o", place, on, got[2], list(left))
+                # (a file whose permissions are refused is removed, unless that fails too)
+                is_unmade = "REFUSE_ON" in on and got[2] == f"pie: {made}: Operation not permitted (os error 1)\n".encode()
+                check(set(left) <= {"made.partial"} and (is_whole or is_told or is_unmade or not left), name, "-o", place, on, got[2], list(left))
             check(place > 4, name, "-o", forced, "met", place - 1, "requests alone")
-            print(f"{NAME}: {name} -o {''.join(forced)}: REFUSE_FILE at {place - 1} places{' and all after them' if on else ''}")
+            told = " ".join([*forced, *without, "and all after them" if "REFUSE_ON" in on else ""])
+            print(f"{NAME}: {name} -o: REFUSE_FILE at {place - 1} places {told}")
+
+
+def syncs_refused(library, words, given):
+    """Refuses each synchronization: the output has not reached its device, so the old file must remain."""
+    with tempfile.TemporaryDirectory() as folder:
+        made = f"{folder}/made"
+        for older in (None, b"older\n"):
+            if older:
+                with open(made, "wb") as file:
+                    file.write(older)
+            status, *_ = run([*words, "-o", made, *(["--force"] if older else [])], given, LD_PRELOAD=library, REFUSE_SYNC="1")
+            kept = open(made, "rb").read() if os.path.exists(made) else None
+            check((status, kept) == (1, older), "an output that cannot be synchronized", status, kept)
 
 
 def main():
@@ -176,6 +201,7 @@ def main():
             long_text(library, met)
             short_texts(library, met)
             faults_before(library, met, history)
+            syncs_refused(library, ["run"], TRACE)
     finish()
 
 

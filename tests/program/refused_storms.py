@@ -5,6 +5,7 @@ continue.
 
 usage: tests/program/refused_storms.py [PROGRAM]      PROGRAM: crates/pie/out/pie by default
 needs: program, an early start"""
+import errno
 import os
 import sys
 import tempfile
@@ -12,7 +13,7 @@ import tempfile
 sys.path.insert(0, f"{os.path.dirname(os.path.abspath(__file__))}/../shared")
 from checks import NAME, check, finish, refusing  # noqa: E402
 from refused import ONCE_AND_ON, STEP, in_turn  # noqa: E402
-from running import MEMORY, WRITE, run  # noqa: E402
+from running import MEMORY, run, write_fault  # noqa: E402
 
 THREAD = b"pie: a thread could not be started\n"
 
@@ -31,7 +32,7 @@ def storm_refused(library, met):
     few, many = ["storm", "--senders", "3", "--packets", "4"], ["storm", "--senders", "3", "--packets", "500"]
     rows = [("REFUSE_MEMORY", [MEMORY, THREAD], few, {}), ("REFUSE_THREAD", [THREAD], few, {}),
             # (long enough for several writes; and short, some bytes at a time)
-            ("REFUSE_WRITE", [WRITE], many, {}), ("REFUSE_WRITE", [WRITE], ["storm", "--senders", "2", "--packets", "1"], {"REFUSE_STEP": str(STEP)})]
+            ("REFUSE_WRITE", [write_fault(errno.EIO)], many, {}), ("REFUSE_WRITE", [write_fault(errno.EIO)], ["storm", "--senders", "2", "--packets", "1"], {"REFUSE_STEP": str(STEP)})]
     for variable, says, words, more in rows:
         for on in ONCE_AND_ON:
             for place, (status, output, errors), is_refused in in_turn(library, met, words, b"", variable, on, REFUSE_ALONE="1", **more):

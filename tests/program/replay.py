@@ -2,7 +2,8 @@
 """Replays captures that the script makes (examples/replay): pcap and pcapng, each link type, IPv4 and IPv6, VLAN
 tags, super-packets. Each history must be clean, its arrivals must be the packets of the capture, and the capture
 with comments must have the same frames. A broken capture must end with one line, after the output of the frames
-before it. Prints a line NOT RUN if libpcap or a C compiler is missing.
+before it. No output may be the capture or another output, or replace an existing file unasked. Prints a line NOT RUN
+if libpcap or a C compiler is missing.
 
 usage: tests/program/replay.py [PIE]      PIE: crates/pie/out/pie by default
 needs: program, library"""
@@ -14,6 +15,7 @@ import struct
 import subprocess
 import sys
 import tempfile
+import time
 from collections import Counter
 from pathlib import Path
 
@@ -233,7 +235,7 @@ def flows(tool):
     order = [*range(len(made)), *(random_of.randrange(len(made)) for _ in range(300))]
     frames = [(i * 10**6, frame(ETHERNET, made[it][0], i % 2)) for i, it in enumerate(order)]
     told = tool.work / "flows"
-    _, lines, found, _, said = tool.run(pcap(ETHERNET, frames), "--flows", told)
+    _, lines, found, _, said = tool.run(pcap(ETHERNET, frames), "--flows", told, "--force")
     expect(is_clean(lines, found), f"flows: {found}, {said}")
     tags = [int(it[3]) for it in arrivals(lines)]
     expect(tags == [made[it][1] << 32 | i for i, it in enumerate(order, 1)], f"flows: other tags than {[hex(it) for it in tags[:20]]}")
@@ -241,10 +243,10 @@ def flows(tool):
     expect(len(wanted) == len(made) - 4 and told.read_text().splitlines() == ["flow,protocol,source,source_port,destination,destination_port", *wanted],
            f"flows: the file has {told.read_text()}")
     # cut before the ports: flows by addresses and protocol only, with one line for each
-    _, lines, _, _, _ = tool.run(pcap(ETHERNET, frames[:1], snap=35), "--flows", told)
+    _, lines, _, _, _ = tool.run(pcap(ETHERNET, frames[:1], snap=35), "--flows", told, "--force")
     expect(int(arrivals(lines)[0][3]) >> 32 == flow_number(17, made[0][0][12:16], made[0][0][16:20]), "flows: of a packet that is cut before its ports")
     flood = [(i * 10**5, frame(ETHERNET, made[0 if i % 4 else 2][0])) for i in range(400)]
-    tool.run(pcap(ETHERNET, flood), "--flows", told, "--rate", "10mbit")
+    tool.run(pcap(ETHERNET, flood), "--flows", told, "--force", "--rate", "10mbit")
     words = subprocess.run([PIE, "explain", "--summary", "--flows", "1", tool.work / "history"], capture_output=True, text=True, check=False).stdout
     top = words.splitlines()[2]
     expect(top.startswith(f"  flow 0x{made[0][1]:08x}: 300 arrivals, 60000 bytes, 75.0000 % of all; "), f"flows: of a flood {words}")
@@ -325,6 +327,68 @@ def random_bytes(tool, rounds=150):
         expect(status in (0, 1) and (lines == [] or is_clean(lines, found)), f"changed bytes {number}: status {status}, {found}, {said}")
 
 
+def outputs(tool):
+    """Checks the rule about outputs: none is the capture or another output, under whatever name; an existing file is
+    replaced with --force only, and keeps its mode; a file has its name when it is complete."""
+    folder = tool.work / "outputs"
+    folder.mkdir()
+    data = pcap(ETHERNET, [(m, frame(ETHERNET, p)) for m, p, _, _ in traffic(200)])
+    capture = folder / "capture"
+    capture.write_bytes(data)
+    (folder / "link").symlink_to(capture)
+    (folder / "other").hardlink_to(capture)
+    (folder / "there").write_text("kept")
+    os.chmod(folder / "there", 0o640)
+    (folder / "nowhere").symlink_to("missing")
+    before = sorted(os.listdir(folder))
+
+    def run(*words, source=None):
+        return subprocess.run([tool.work / "out/replay", *words], cwd=folder, stdin=source, capture_output=True, text=True, check=False)
+
+    def refused(why, *words, source=None):
+        done = run(*words, source=source)
+        expect(done.returncode == 1 and done.stderr.count("\n") == 1 and why in done.stderr, f"outputs {words}: {done.returncode}, {done.stderr}")
+        expect(capture.read_bytes() == data and sorted(os.listdir(folder)) == before and (folder / "there").read_text() == "kept",
+               f"outputs {words}: a file was changed")
+
+    for name in ("capture", "./capture", capture, "link", "other", "../outputs/capture"):
+        for option in ("-w", "-o", "--flows"):
+            refused("also an input", option, name, "--force", "capture")
+    with open(capture, "rb") as source:
+        refused("also an input", "-w", "capture", "--force", "-", source=source)
+    for one, other in (("-o", "-w"), ("-o", "--flows"), ("-w", "--flows")):
+        refused("two outputs", one, "new", other, "./new", "capture")
+        refused("two outputs", one, "there", other, "there", "--force", "capture")
+    for option in ("-o", "-w", "--flows"):
+        refused("exists", option, "there", "capture")
+        refused("exists", option, "nowhere", "capture")
+        refused("No such file", option, "no/folder", "capture")
+    done = run("-o", "/dev/null", "-w", "/dev/null", "--flows", "/dev/null", "capture")
+    expect(done.returncode == 0 and sorted(os.listdir(folder)) == before, f"outputs to a device: {done.stderr}")
+    done = run("-o", "there", "--force", "capture")
+    expect(done.returncode == 0 and (folder / "there").read_text().startswith("open") and sorted(os.listdir(folder)) == before,
+           f"outputs: an existing file with --force: {done.stderr}")
+    expect((folder / "there").stat().st_mode & 0o777 == 0o640, "outputs: a replaced file has another mode")
+    with open("/dev/full", "w", encoding="utf-8") as full:
+        done = subprocess.run([tool.work / "out/replay", "capture"], cwd=folder, stdout=full, stderr=subprocess.PIPE, text=True, check=False)
+    expect(done.returncode == 1 and "No space left" in done.stderr, f"outputs: a full device: {done.stderr}")
+    # while the capture is read, the outputs have other names
+    names = ("new", "new.pcapng", "new.flows")
+    line = [tool.work / "out/replay", "-o", names[0], "-w", names[1], "--flows", names[2], "-"]
+    with subprocess.Popen(line, cwd=folder, stdin=subprocess.PIPE, stderr=subprocess.PIPE) as process:
+        process.stdin.write(data[:-1])
+        process.stdin.flush()
+        while not all((folder / f"{name}.partial").exists() for name in names) and process.poll() is None:
+            time.sleep(0.01)
+        expect(not any((folder / name).exists() for name in names), "outputs: an incomplete file has its name")
+        (folder / names[1]).write_text("mine")
+        process.stdin.write(data[-1:])
+        process.stdin.close()
+        said = process.stderr.read().decode()
+        expect(process.wait() == 1 and "File exists; the incomplete output is in new.pcapng.partial" in said, f"outputs: a name that appeared: {said}")
+    expect((folder / names[1]).read_text() == "mine" and (folder / names[0]).exists() and (folder / names[2]).exists(), "outputs: other names")
+
+
 def main():
     if not shutil.which(os.environ.get("CC", "cc")) or not shutil.which("make") or not Path("/usr/include/pcap/pcap.h").exists():
         print(f"NOT RUN: {ME}: no C compiler, make and libpcap here (examples/replay/install.sh)")
@@ -338,6 +402,7 @@ def main():
         super_packets(tool)
         broken(tool)
         random_bytes(tool)
+        outputs(tool)
     print(f"{ME}: histories of replayed captures are clean ({records} records each, of 7 kinds of capture), and broken captures end with one line")
 
 

@@ -52,7 +52,7 @@ full 'a migration' migrate < <(printf "$one")
 # An input that cannot be read.
 "$program" audit < / > "$work/output" 2> "$work/errors"
 got=$?
-if [ "$got" != 1 ] || [ -s "$work/output" ] || [ "$(cat "$work/errors")" != 'pie: cannot read the input' ]; then
+if [ "$got" != 1 ] || [ -s "$work/output" ] || [ "$(cat "$work/errors")" != $'pie: Is a directory (os error 21)\npie: cannot read the input' ]; then
     echo "$script: an audit of a directory: status $got, $(cat "$work/errors")"
     failed=1
 fi

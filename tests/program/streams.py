@@ -4,6 +4,7 @@ reader, at a terminal, with interrupts, and with arguments that are not UTF-8.
 
 usage: tests/program/streams.py [PROGRAM]      PROGRAM: crates/pie/out/pie by default
 needs: program"""
+import errno
 import os
 import pty
 import re
@@ -15,7 +16,7 @@ import time
 
 sys.path.insert(0, f"{os.path.dirname(os.path.abspath(__file__))}/../shared")
 from checks import check, finish  # noqa: E402
-from running import PATIENCE, PROGRAM, READ, READERS, TRACE, WRITE, hold_readers, run, shell  # noqa: E402
+from running import PATIENCE, PROGRAM, READERS, TRACE, hold_readers, read_fault, run, shell, write_fault  # noqa: E402
 
 
 def streams():
@@ -24,19 +25,19 @@ def streams():
     for words in [["run"], *READERS.values()]:
         name = " ".join(words)
         good = "printf 'open,0,4,16,100\\n%s' | " % ("" if name == "run" else "depart,1,1,empty\\n")
-        check(shell(f'"$1" {name} <&-') == (1, b"", READ), name, "without standard input")
-        check(shell(f'{good} "$1" {name} >&-') == (1, b"", WRITE), name, "without standard output")
-        check(shell(f'{good} "$1" {name} >/dev/full') == (1, b"", WRITE), name, "on a full device")
+        check(shell(f'"$1" {name} <&-') == (1, b"", read_fault(errno.EBADF)), name, "without standard input")
+        check(shell(f'{good} "$1" {name} >&-') == (1, b"", write_fault(errno.EBADF)), name, "without standard output")
+        check(shell(f'{good} "$1" {name} >/dev/full') == (1, b"", write_fault(errno.ENOSPC)), name, "on a full device")
         check(shell(f'printf "dep" | "$1" {name} 2>&-') == (1, b"", b""), name, "with a fault, without standard error")
         check(shell(f'printf "dep" | "$1" {name} 2>/dev/full') == (1, b"", b""), name, "with a fault, standard error full")
         check(shell(f'{good} "$1" {name} 2>&-')[0] == 0, name, "without a fault, without standard error")
         check(shell(f'"$1" {name} <&- >&- 2>&-') == (1, b"", b""), name, "without any stream")
-        check(shell(f'"$1" {name} </') == (1, b"", READ), name, "with a folder as input")
+        check(shell(f'"$1" {name} </') == (1, b"", read_fault(errno.EISDIR)), name, "with a folder as input")
     check(shell('"$1" storm --packets 1 <&- 2>&-')[0] == 0, "a storm without standard input and error")
-    for line in ['"$1" storm --packets 1 >&-', '"$1" storm --packets 1 >/dev/full']:
-        check(shell(line) == (1, b"", WRITE), line)
-    check(shell('"$1" run --help >/dev/full') == (1, b"", WRITE), "help on a full device")
-    check(shell('"$1" --help >&-') == (1, b"", WRITE), "help without standard output")
+    for line, number in [('"$1" storm --packets 1 >&-', errno.EBADF), ('"$1" storm --packets 1 >/dev/full', errno.ENOSPC)]:
+        check(shell(line) == (1, b"", write_fault(number)), line)
+    check(shell('"$1" run --help >/dev/full') == (1, b"", write_fault(errno.ENOSPC)), "help on a full device")
+    check(shell('"$1" --help >&-') == (1, b"", write_fault(errno.EBADF)), "help without standard output")
     check(shell('"$1" <&- >&- 2>&-')[0] == 1, "no subcommand and no stream")
 
 
@@ -50,7 +51,7 @@ def closed():
     for name, (words, given) in texts.items():
         check(unread(words, given) == (141, b""), name, "to a pipe that nobody reads", unread(words, given))
     check(unread(["audit", "-", "-"], history) == (141, b""), "audits of files to a pipe that nobody reads")
-    check(unread(["run", "-o", "/dev/full"], TRACE) == (1, WRITE), "a full device, where nobody reads standard output")
+    check(unread(["run", "-o", "/dev/full"], TRACE) == (1, write_fault(errno.ENOSPC, "/dev/full")), "a full device, where nobody reads standard output")
     check(unread(["audit"], b"dep\n")[0] == 1, "a fault, where nobody reads standard output")
     early = '| head -n 1 >/dev/null; exit ${PIPESTATUS[%d]}'
     check(shell('"$1" storm --packets 2000 ' + early % 0) == (141, b"", b""), "a storm whose reader ends early")
@@ -125,9 +126,9 @@ def interrupted():
 
 
 def words():
-    for line in ['"$1" $(printf "r\\377n")', '"$1" run $(printf "\\377")']:
-        check(shell(line + " </dev/null") == (1, b"", b"pie: an argument is not valid UTF-8\n"), line)
-    for line in ['"$1"', '"$1" runs', '"$1" run more', '"$1" run one more', '"$1" run --wrong', '"$1" ""']:
+    line = '"$1" run $(printf "\\377") </dev/null'
+    check(shell(line) == (1, b"", b"pie: \xef\xbf\xbd: the name is not valid UTF-8\n"), line)
+    for line in ['"$1"', '"$1" $(printf "r\\377n")', '"$1" runs', '"$1" run more', '"$1" run one more', '"$1" run --wrong', '"$1" ""']:
         status, output, errors = shell(line + " </dev/null")
         check(status == 1 and not output and errors, line)
 

@@ -120,7 +120,7 @@ def in_words(n):
     lines += [f"    99 of 100 had waited at most {millis(n['wait_99'])}", f"    they carried {n['carried_bytes']} bytes"]
     lines += [f"  {n['updates']} updates; the greatest delay was {millis(n['greatest_delay'])},", f"    and the last {millis(n['last_delay'])}"]
     lines += [f"  the greatest probability was {percent(n['greatest_probability'])}, and the last {percent(n['last_probability'])}"]
-    lines += [f"  delays were above the target for {millis(n['time_above_target'])};", f"    at the end it was {millis(n['last_target'])},"]
+    lines += [f"  delays were above the target for {millis(n['time_above_target'])};", f"    at the end the target was {millis(n['last_target'])},"]
     lines += [f"    and the burst allowance {millis(n['last_burst_allowance'])}"]
     above, late = n["time_above_target"], n["time_waited_above_target"]
     longer = share(n["waited_above_target"], n["left"]).replace(", ", " packets, ")
@@ -211,9 +211,21 @@ def of_nothing():
                 expect(f"{words} {which} of nothing, in words", pie(history, *words, *which), (0, "", ""))
 
 
+def many_intervals():
+    """Checks 3,000 intervals of one event each."""
+    history = "open2,1,rolling,0,4,16,1099511627776\n" + "".join(f"depart,1,{moment},empty\n" for moment in range(3000))
+    _, rows, _ = records("3,000 intervals", history)
+    with_targets(history, rows)
+    each = [numbers([row]) for row in rows]
+    for words in (["--every=1ns"], ["--every=1ns", "--digest"]):
+        expect(f"3,000 intervals: {words}", pie(history, *words), (0, "".join(map(in_words, each)), ""))
+        expect(f"3,000 intervals: --csv {words}", pie(history, "--csv", *words), (0, in_csv(each), ""))
+
+
 def main():
     of_nothing()
     lengths()
+    many_intervals()
     hold_each(hold, "they are summed up as they have to be")
 
 

@@ -102,7 +102,7 @@ mistake "error: unexpected argument '--fast' found" storm --senders 3 --packets 
 mistake "error: unexpected argument 'more' found" storm --senders 3 --packets 10 --seed 7 more
 mistake "error: the argument '--seed <N>' cannot be used multiple times" storm --senders 3 --packets 10 --seed 7 --seed 8
 mistake "error: a value is required for '--tag <N>' but none was supplied" explain --csv --lost --all --event 1 --tag
-mistake 'pie: explain needs one of --event N, --tag T, --lost, --marked and --all, or --summary, --every, --flows or --digest; see pie explain --help' \
+mistake 'pie: explain takes only one of --event N, --tag T, --lost, --marked and --all; see pie explain --help' \
     explain --csv --lost --all --event 1 --tag 2
 mistake "error: unexpected argument 'eleven' found" explain --csv --lost --all --event 1 --tag 2 ten eleven
 mistake "error: unexpected argument '--twelve' found" explain --csv --lost --all --event 1 --tag 2 --twelve

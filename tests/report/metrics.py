@@ -38,6 +38,7 @@ COUNTERS = {"arrived_packets": "arrivals", "arrived_bytes": "arrived_bytes", "en
 GAUGES = {"probability_ratio": ("last_probability", 1e12), "delay_seconds": ("last_delay", 1e9), "target_seconds": ("last_target", 1e9),
           "burst_allowance_seconds": ("last_burst_allowance", 1e9), "period_wait_99_seconds": ("wait_99", 1e9)}
 HOSTS = ("10.99.0.1", "10.99.0.2")
+OLD = "# HELP pie_arrived_packets_total Arrived packets.\n"  # the beginning of an older file of metrics
 PATIENCE = 600  # seconds after which what does not come about is a failure, on however slow a machine
 linted = []
 
@@ -141,7 +142,7 @@ class Watched:
             if name.endswith(("_total", "_sum", "_count")) or "_bucket" in name:
                 check(value >= self.before.get(name, 0), f"{self.name}: {name} falls from {self.before.get(name)} to {value}")
         self.before = samples
-        check(not Path(f"{self.output}.new").exists() and not Path(f"{self.state}.new").exists(), f"{self.name}: a file is left beside it")
+        check(not list(self.records.parent.glob("*.partial*")), f"{self.name}: a file is left beside it")
         return samples
 
 
@@ -208,18 +209,18 @@ def ends(folder):
                                      ("a header alone with one name", "events,\n1,2\n", 1, "their header has no arrivals"),
                                      ("a record of bytes", head + "\udcff\n", 1, "no record of a period"),
                                      ("a text that resumes from nothing", "resume\n", 1, ""), ("numbers too long", head + "9" * 5000 + "\n", 1, "")):
-        watched.output.write_text("old")
+        watched.output.write_text(OLD)
         watched.records.write_bytes(text.encode(errors="surrogateescape"))
         is_gone(what, watched, status, said)
     watched.records.unlink()
-    watched.output.write_text("old")
+    watched.output.write_text(OLD)
     is_gone("no file", watched, 3, "No such file")
     watched.records.write_text(head + rows[0])
     for state in ("{", "[]", '{"base": {}, "known": {"records": {}}}', '{"base": 5, "known": {}}'):
         watched.state.write_text(state)
         is_gone(f"a state {state}", watched, 1, "no state of this program", "--state", watched.state)
     for option in ("--again=-1", "--again=0", "--again=nan", "--again=inf", "--again=soon", "--again=", "--stale=nan", "--stale=-1", "--stale=long"):
-        watched.output.write_text("old")
+        watched.output.write_text(OLD)
         is_gone(option, watched, 1, f"{option.replace('=', ' ', 1)}: out of its range", option)
     check(metrics(watched.records, "--stale", "inf")[0] == 0, "--stale inf: refused")
     for number in (signal.SIGTERM, signal.SIGINT, signal.SIGHUP):
@@ -233,7 +234,7 @@ def ends(folder):
             process.send_signal(number)
             errors = process.communicate(timeout=PATIENCE)[1]
         check(process.returncode == 0 and errors.count("\n") == 1, f"--again: {process.returncode}, {errors}")
-        check(not watched.output.exists() and not Path(f"{watched.output}.new").exists(), f"--again: its file is left at {number.name}")
+        check(not list(Path(folder).glob(f"{watched.output.name}*")), f"--again: its file is left at {number.name}")
     hostile = 'a"b\\c\nd'
     text = metrics(watched.records, "--link", hostile, "--queue", hostile)[1]
     check(text.count('{link="a\\"b\\\\c\\nd",queue="a\\"b\\\\c\\nd"') == len(read(text)), "hostile labels")
@@ -245,6 +246,87 @@ def ends(folder):
     shutil.copy(watched.records, odd)
     status, text, errors = metrics(odd)
     check((status, errors) == (0, "") and '{link="caf\ufffd",' in text, f"a name that is no text: {status}, {errors}")
+
+
+def keeps_files(folder):
+    """Checks that no file is lost: an output that is the input, another output or a file without metrics is refused and left, also if the records are
+    stale. A file has its name once all of it is written."""
+    place = Path(folder, "kept")
+    place.mkdir()
+    records, other, state, output = (place / name for name in ("n.csv", "other", "n.state", "n.prom"))
+    head, rows = periods_of(ROOT / "examples/overload.history")
+    text = "".join([head, *rows])
+    records.write_text(text)
+    os.link(records, place / "link.csv")
+    (place / "symbolic.csv").symlink_to(records)
+    other.write_text("kept")
+    cases = [(("-o", it), "input file cannot be the output") for it in (records, place / "link.csv", place / "symbolic.csv", f"{place}/./n.csv")]
+    cases += [(("-o", it, "--force"), "input file cannot be the output") for it in (records, place / "link.csv")]
+    cases += [(("--state", records), "input file cannot be the output"), (("-o", output, "--state", output), "two outputs cannot be one"),
+              (("-o", other), "--force"), (("-o", place), "folder"),
+              (("-o", place / "none" / "n.prom"), "No such file")]
+    for age in (0, 3600):
+        os.utime(records, (time.time() - age,) * 2)
+        for words, told in cases:
+            status, printed, errors = metrics(records, *words)
+            check(status == 1 and told in errors and not printed, f"{words}: {status}, {errors}")
+            left = {it.name: it.read_text() for it in place.iterdir()}
+            check(left == {"n.csv": text, "link.csv": text, "symbolic.csv": text, "other": "kept"}, f"{words}: files {left.keys()}, or another content")
+    check(metrics(records, "-o", other, "--force")[0] == 3 and other.read_text() == "kept", "a file without metrics was removed")
+    check(metrics(records, "-o", other, "--force", "--stale", "inf")[0] == 0 and other.read_text().startswith(OLD), "--force: not replaced")
+    other.chmod(0o600)
+    check(metrics(records, "-o", other, "--stale", "inf")[0] == 0 and other.stat().st_mode & 0o777 == 0o600, "metrics: not replaced, or another mode")
+    limited = ["bash", "-c", 'ulimit -f 1; exec "$@"', "bash", METRICS, "--stale", "inf", "-o", output, "--state", state, records]
+    check(subprocess.run(limited, capture_output=True, check=False).returncode == 1, "a file that cannot be written: status 0")
+    check(not list(place.glob("n.prom*")) and not list(place.glob("n.state?*")), f"an incomplete file is left: {list(place.iterdir())}")
+
+
+def prints(folder):
+    """Checks the messages for a standard output that is full, closed or read no longer, and the version."""
+    records = Path(folder, "prints.csv")
+    head, rows = periods_of(ROOT / "examples/overload.history")
+    records.write_text("".join([head, *rows]))
+    for line, wanted in ((f"'{METRICS}' '{records}' > /dev/full", (1, "pie-metrics: standard output: No space left on device\n")),
+                         (f"'{METRICS}' '{records}' >&-", (1, "pie-metrics: standard output: it is closed\n")),
+                         (f"'{METRICS}' --help > /dev/full", (1, "pie-metrics: standard output: No space left on device\n"))):
+        done = subprocess.run(["bash", "-c", line], capture_output=True, text=True, check=False)
+        check((done.returncode, done.stderr) == wanted, f"{line}: {done.returncode}, {done.stderr}")
+    reader, writer = os.pipe()
+    os.close(reader)
+    done = subprocess.run([METRICS, records], stdout=writer, stderr=subprocess.PIPE, text=True, check=False)
+    os.close(writer)
+    check((done.returncode, done.stderr) == (141, ""), f"a reader that has ended: {done.returncode}, {done.stderr}")
+    version = re.search(r'^#define PIE_VERSION "(.*)"$', (ROOT / "include/pie.h").read_text(), re.M)[1]
+    for word in ("--version", "-V"):
+        check(metrics(records, word) == (0, f"pie-metrics {version}\n", ""), f"{word}: {metrics(records, word)}")
+
+
+def is_bounded(folder):
+    """Checks that neither a program that writes without end nor a line without end fills the memory."""
+    memory, endless = Path(folder, "damaged.flight"), Path(folder, "endless")
+    memory.write_bytes(b"PIEFLGT1" + bytes(1 << 16))
+    endless.write_text("#!/bin/sh\nexec yes 'arrive,1,0,1,1024,not,0,enqueue'\n")
+    endless.chmod(0o755)
+    limited = ["bash", "-c", 'ulimit -v 600000; exec "$@"', "bash", METRICS, "--flight-text", endless]
+    done = subprocess.run([*limited, memory], capture_output=True, text=True, check=False, timeout=PATIENCE)
+    check(done.returncode == 1 and "the memory is damaged: its text is longer than" in done.stderr, f"a text without end: {done.returncode}, {done.stderr}")
+    long = Path(folder, "long.csv")
+    for beginning in (explain(ROOT / "examples/overload.history", "--every=1s"), "resume,"):
+        with long.open("w") as out:
+            out.write(beginning)
+            out.truncate(1 << 32)  # (bytes without a line feed, which take no room on the disk)
+        if beginning == "resume,":
+            long.write_text(beginning + "1" * (1 << 20))
+        done = subprocess.run([*limited, long], capture_output=True, text=True, check=False, timeout=PATIENCE)
+        check(done.returncode == 1 and "a line is longer than" in done.stderr, f"a line without end: {done.returncode}, {done.stderr}")
+    # a long text needs no more memory than a short one
+    peaks = []
+    for events in (100, 100000):
+        text, _ = recorded(folder, f"long {events}", 0, events, 2 * events)
+        words = [sys.executable, "-c", "import resource, subprocess, sys; subprocess.run(sys.argv[1:], stdout=subprocess.DEVNULL, check=True); "
+                 "print(resource.getrusage(resource.RUSAGE_CHILDREN).ru_maxrss)", METRICS, "--pie", PROGRAM, text]
+        peaks.append(int(subprocess.run(words, capture_output=True, text=True, check=True).stdout))
+    check(peaks[1] < peaks[0] + 8192, f"200 events take {peaks[0]} KiB at most, and 200000 {peaks[1]}")
 
 
 def without(name):
@@ -507,6 +589,9 @@ def main():
             of_records(folder)
             goes_on(folder)
             ends(folder)
+            keeps_files(folder)
+            prints(folder)
+            is_bounded(folder)
             of_flights(folder)
         link(folder)
         lint()

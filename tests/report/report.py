@@ -74,12 +74,15 @@ def hold_data(name, page, path, *words):
     check([str(data["target"])] == (opening[place : place + 1] or ["15000000"]), f"{name}: the target")
     periods = table(explain(path, f"--every={data['period']}", "--csv", *words)[1])
     check([dict(zip(data["fields"], map(str, row))) for row in data["periods"]] == periods, f"{name}: the periods")
+    walls = [row["wall"] for row in table(explain(path, f"--every={data['period']}", "--csv", "--wall", *words)[1])]
+    known = [row["effective_moment"] for row in table(explain(path, "--all", "--csv", "--wall")[1]) if row["wall"]]
+    check(data["walls"] == (walls if known else []) and data["known"] == (known or [""])[0], f"{name}: wall-clock times {data['walls']}, {data['known']}")
     lost, marked = (table(explain(path, which, "--csv", *words)[1]) for which in ("--lost", "--marked"))
     both = sorted(lost + marked, key=lambda it: int(it["number"]))
     wanted = [[row[field] for field in ("number", "effective_moment", "tag", "size")] for row in both]
     check([list(map(str, row[:4])) for row in data["packets"]] == wanted, f"{name}: the lost and marked packets")
     check(data["lost"] == [len(lost)] * 2 and data["marked"] == [len(marked)] * 2, f"{name}: how many are listed")
-    texts = {which: explain(path, which, *words)[1] for which in ("--lost", "--marked")}
+    texts = {which: explain(path, which, "--wall", *words)[1] for which in ("--lost", "--marked")}
     both = sorted(re.findall(r"^event .*\n(?:  .*\n)*", texts["--lost"] + texts["--marked"], re.M), key=lambda it: int(it.split()[1][:-1]))
     check([row[6] for row in data["packets"]] == both, f"{name}: the words of the packets")
 
@@ -107,6 +110,11 @@ def unusual(folder):
     last, tag = 2**60 - 1, 2**64 - 1
     texts = {
         "clock": "clock,0,1795550400000000000\n" + "".join(f"arrive,1,{at},1,1250,not,0\ndepart,2,{at + 1}\n" for at in range(0, 3 * 10**9, 10**7)),
+        # (the clock is set before the first event that has a time, an hour ahead, and back; the first time is not of the moment 0)
+        "clocks": "".join(f"arrive,1,{at * 10**8},{at},1250,not,0\n" + {9: "clock,5,1795550400000000005\n", 29: "clock,0,1795554000000000000\n",
+                          49: "clock,7000000000,1795550407000000000\n"}.get(at, "") for at in range(60)),
+        "no clock before the end": "arrive,1,5,1,1250,not,0\nclock,0,1795550400000000000\n",
+        "no room": "".join(f"arrive,1,{at * 10**7},{at},1250,not,0\n" for at in range(200)),
         "large": "".join(f"arrive,65535,{at},{tag - at % 7},65535,ect1,{tag}\n" * 4 for at in (0, last - 1)) + f"depart,2,{last}\n",
         "one event": "arrive,1,0,1,1250,not,0\n",
     }
@@ -250,9 +258,35 @@ def files(folder):
     check(len(calls) == 2, f"a history is read {len(calls)} times: {calls}")
     data = inside(report(ROOT / "examples/overload.history", "--list", "5")[1])[0]
     check(data["lost"][0] == 5 == len(data["packets"]) and data["lost"][1] > 5, "--list: more or fewer")
+    version = re.search(r'^#define PIE_VERSION "(.*)"$', (ROOT / "include/pie.h").read_text(), re.M)[1]
+    for word in ("--version", "-V"):
+        check(report(word) == (0, f"pie-report {version}\n", ""), f"{word}: {report(word)}")
+    hold_messages(folder, history)
     odd = os.fsencode(folder) + b"/\xff\xfe.history"
     shutil.copy(history, odd)
     check(report(odd)[0] == 0, "a name that is no text")
+
+
+def hold_messages(folder, history):
+    """Checks that each message is one line of pie-report, without a warning of Perl, and that an installed pie-report runs `pie` beside itself."""
+    for words in (("--pie", f"{folder}/none", history), ("--list", "x", history), ("--points", "99999999999999999999", history), ("--unknown", history),
+                  (), (history, history), ("-o", f"{folder}/no/page", history)):
+        done = subprocess.run([REPORT, *words], capture_output=True, encoding="utf-8", check=False)
+        told = done.stderr
+        check(done.returncode == 1 and told.startswith("pie-report: ") and told.count("\n") == 1 and " line " not in told, f"{words}: {told!r}")
+    done = subprocess.run([REPORT, "--pie", PROGRAM, history], capture_output=True, encoding="utf-8", check=False, env={"PATH": folder})
+    check(done.stderr == "pie-report: cannot run sha256sum: No such file or directory\n", f"without sha256sum: {done.stderr!r}")
+    installed = Path(folder, "prefix/bin")
+    installed.mkdir(parents=True)
+    Path(folder, "prefix/share").mkdir()
+    Path(folder, "prefix/share/pie").symlink_to(ROOT / "report")
+    shutil.copy(REPORT, installed)
+    for name in ("none", "pie"):
+        if name == "pie":
+            (installed / name).symlink_to(PROGRAM)
+        done = subprocess.run([installed / "pie-report", history], capture_output=True, encoding="utf-8", check=False, env={"PATH": "/usr/bin:/bin"})
+        wanted = (0, "") if name == "pie" or shutil.which("pie", path="/usr/bin:/bin") else (1, "pie-report: cannot run pie: No such file or directory\n")
+        check((done.returncode, done.stderr) == wanted, f"{name} beside an installed pie-report: {done.returncode}, {done.stderr!r}")
 
 
 # ----- In the browser
@@ -342,7 +376,7 @@ class Page:
         for field, wanted in (("lost", str(lost)), ("dropped", share(lost, count["arrivals"])), ("marked", share(count["mark"], count["arrivals"]))):
             self.says(number(seen[field]) == wanted, f"{field}: {seen[field]}, and not {wanted}")
         for field in ("mean_wait", "greatest_wait", "greatest_delay", "last_delay", "wait_99", "last_target", "last_burst_allowance"):
-            seen.setdefault("last_target", seen["target"])
+            seen.setdefault("last_target", seen["target"] if count["events"] else "0 ms")
             self.says(field not in row or close(seen[field], row[field]), f"{field}: {seen.get(field)}, and not {row.get(field)}")
         for field in ("greatest_probability", "last_probability"):
             self.says(abs(float(seen[field].strip("<% ")) - count[field] / 1e10) < 0.0051 or seen[field] == "< 0.01 %", f"{field}: {seen[field]}")
@@ -371,7 +405,12 @@ def hold_pages(driver, made):
         told = page.text("#fault")
         first = page.run("const it = document.querySelector('#fault'); return !it.hidden && it.getBoundingClientRect().top < 200")
         page.says(bool(told) == bool(status) == first, f"what is said of its fault: {told!r}")
-        page.numbers(table(explain(path, "--summary", "--csv", *words)[1])[0])
+        summary = table(explain(path, "--summary", "--csv", *words)[1])[0]
+        page.numbers(summary)
+        events = int(summary["events"])
+        page.says(page.text("#span").startswith(f"{events:,} event{'' if events == 1 else 's'} in "), f"its events: {page.text('#span')}")
+        if events == 0:
+            page.says(page.text("[data-field=target]") == "15.000 ms", f"the target: {page.text('[data-field=target]')}")
         page.picture("wide")
 
 
@@ -447,7 +486,7 @@ def hold_axes(driver, pages_of):
         found = page.run(labels)
         page.says(len(found) > 2 and all(re.fullmatch(each, it) for it in found), f"times {found}")
         page.says(set(page.run(unit)) == {wanted}, f"unit {page.run(unit)}")
-        page.says(re.search(rf" events in ({took}),", page.text("#span")), f"its time: {page.text('#span')}")
+        page.says(re.search(rf" events? in ({took}),", page.text("#span")), f"its time: {page.text('#span')}")
     page = Page(driver, "axes of clock", pages_of["clock"])
     for view, each in (((0, 2e6), r"20:00:00\.00[0-2]\d*"), ((1e9, 1e9 + 2000), r"20:00:01\.00000\d*")):
         page.run("view = arguments[0]; redraw()", list(view))
@@ -459,15 +498,55 @@ def hold_axes(driver, pages_of):
     page.says(all(abs(round(1000 * float(text[6:])) - at) <= 1 for text, at in places), f"places {places}")
 
 
+def hold_clocks(driver, place, path):
+    """Checks the wall-clock time at each event, also after the clock was set, and that of each mark of the axis."""
+    page = Page(driver, "clocks", place)
+    for row in table(explain(path, "--all", "--csv", "--wall")[1]):
+        page.run("read(Number(BigInt(arguments[0]) - FIRST))", row["effective_moment"])
+        told = re.search(r" ms( \(([\d-]+) ([\d:.]+) UTC\))?", page.text("#read"))
+        wanted = f"{row['wall'][:10]}T{row['wall'][11:23]}" if row["wall"] else ""
+        page.says((f"{told[2]}T{told[3]}" if told[1] else "") == wanted, f"event {row['number']}: {told[0]}, and not {wanted}")
+    page.says("UTC" not in page.text("#span").split(" to ")[0] and page.text("#span").split(" to ")[1].count("UTC") == 1, page.text("#span"))
+    marks = page.run("return [...document.querySelector('svg').querySelectorAll('text.time')].map((it) => [it.textContent,"
+                     " iso(unix(moment(timeAt(Number(it.getAttribute('x'))))) ?? 0n), Number(it.getAttribute('x'))])")
+    page.says({text[:3] for text, _, _ in marks} == {"20:", "21:"}, f"marks {marks}")
+    page.says(all(abs(float(time[17:23]) - float(text[6:])) < 0.02 and time[11:16] == text[:5] for text, time, _ in marks), f"marks {marks}")
+    page.says(all(after[2] - one[2] > 50 for one, after in zip(marks, marks[1:])), f"marks over one another: {marks}")
+    page.quiet()
+
+
+def hold_colors(driver, place):
+    """Checks the lines of listed packets: each has the colour of its outcome."""
+    page = Page(driver, "colours", place)
+    chart = "CHARTS.find((it) => it.kind === 'bars').svg"
+    found = page.run(f"return [...{chart}.querySelectorAll('path.tick')].map((it) => it.getAttribute('class'))")
+    wanted = page.run("return FATES.filter(([field]) => total(field) > 0).map(([, color]) => `tick c-${color}`)")
+    page.says(sorted(found) == sorted(wanted) and found, f"{found}, and not {wanted}")
+
+
+BROKEN = """
+const lines = (it) => { const range = document.createRange(); range.selectNodeContents(it); return new Set([...range.getClientRects()].map((r) => Math.round(r.top))).size; };
+const whole = [...document.querySelectorAll('.card dt, #list td button, #list td:not(:first-child):not(:last-child), #causes td[data-cause]')].filter((it) => lines(it) > 1);
+const digits = [...document.querySelectorAll('.card dd, .card .big')].filter((it) => [...it.childNodes].some((part) => part.nodeType === 3 && (() => {
+    const range = document.createRange(); range.selectNode(part); return /^\\S+$/.test(part.textContent) && range.getClientRects().length > 1; })()));
+return [...whole, ...digits].map((it) => it.textContent);
+"""
+
+
 def hold_widths(driver, place):
-    """Windows of any width: nothing is beyond its card, and no number of the list is cut."""
+    """Windows of any width: nothing is beyond its card, no label of a card and no number breaks, and the list is as wide as its box, unless its numbers
+    are too long."""
     for width in (1700, 1500, 1366, 1300, 1200, 1100, 1000, 800, 600, 390):
         page = Page(driver, f"{place.stem} {width}", place, width)
         page.says(page.run("return document.documentElement.scrollWidth <= innerWidth"), "it is wider than the window")
         over = page.run("return [...document.querySelectorAll('.card, .card *')].filter((it) => it.getBoundingClientRect().right >"
                         " it.closest('.card').getBoundingClientRect().right || it.scrollWidth > it.clientWidth + 1).map((it) => it.textContent)")
         page.says(not over, f"numbers beyond their card: {over}")
-        page.says(page.run("const it = document.querySelector('#scroll'); return it.scrollWidth <= it.clientWidth"), "the list is cut")
+        page.says(not page.run(BROKEN), f"labels and numbers of two lines: {page.run(BROKEN)}")
+        fits = "const it = document.querySelector('#scroll'); return it.scrollWidth <= it.clientWidth || getComputedStyle(it).overflowX === 'auto'"
+        page.says(page.run(fits), "the list is cut")
+        fits = "const it = document.querySelector('#scroll'); return it.scrollWidth <= it.clientWidth"
+        page.says(place.stem == "large" or page.run(fits), "the list is wider than its box")
     tag = driver.find_element("css selector", "#tag")
     tag.send_keys(str(2**64 - 1))
     page.says(page.run("const it = document.querySelector('#tag'); return it.scrollWidth <= it.clientWidth"), "a tag of 20 digits is cut in its field")
@@ -507,6 +586,9 @@ def main():
                 for name in ("overload", "large", "clock"):
                     hold_widths(driver, pages_of[name])
                 hold_axes(driver, pages_of)
+                hold_clocks(driver, pages_of["clocks"], Path(folder, "clocks.history"))
+                for name in ("no room", "overload", "marks"):
+                    hold_colors(driver, pages_of[name])
                 hold_flows(driver, *by_flow)
                 Page(driver, "hostile words of a program", lies).quiet()
             finally:

@@ -25,7 +25,7 @@ full() {
     shift
     "$program" "$@" > /dev/full 2> "$work/errors"
     local got=$?
-    if [ "$got" != 1 ] || [ "$(cat "$work/errors")" != 'pie: cannot write the output' ]; then
+    if [ "$got" != 1 ] || [ "$(cat "$work/errors")" != $'pie: No space left on device (os error 28)\npie: cannot write the output' ]; then
         echo "$script: $name on a full device: status $got, $(cat "$work/errors")"
         failed=1
     fi

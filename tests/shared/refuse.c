@@ -1,8 +1,10 @@
 /* A library for LD_PRELOAD that makes one request of a program fail: the n-th allocation (REFUSE_MEMORY=n), the
  * n-th read of standard input or of a file (REFUSE_READ=n), the n-th write of standard output (REFUSE_WRITE=n), the
  * n-th start of a thread (REFUSE_THREAD=n), or the n-th request that creates, writes, renames or removes a file
- * (REFUSE_FILE=n). With REFUSE_ON=1 all later requests of that kind fail too. REFUSE_OVER=n makes each allocation
- * of more than n bytes fail. With REFUSE_STEP=n each read and each write transfers at most n bytes, and with
+ * (REFUSE_FILE=n). With REFUSE_HOLD=n and REFUSE_THREADS=m the n-th of m threads runs only after all m have started and
+ * all others except the first have ended. With REFUSE_ON=1 all later requests of that kind fail too. REFUSE_OVER=n makes each allocation of more than n bytes fail.
+ * REFUSE_LINK makes each hard link fail, and REFUSE_SYNC each synchronization. With REFUSE_STEP=n each read and each
+ * write transfers at most n bytes, and with
  * REFUSE_FIRST=n the first read of standard input does. A failed request creates the file REFUSE_MET. If
  * REFUSE_AFTER is a line that the program writes, only the requests from that line to the next one are counted.
  * With REFUSE_ALONE standard error reports whether another thread is still running when the program writes. */
@@ -156,10 +158,14 @@ int fchmod(int file, mode_t mode) {
 }
 
 int fsync(int file) {
+    if (getenv("REFUSE_SYNC"))
+        return errno = EIO, -1;
     return UNLESS_REFUSED(EIO, syscall(SYS_fsync, file));
 }
 
 int link(const char *from, const char *to) {
+    if (getenv("REFUSE_LINK"))
+        return errno = EPERM, -1;
     return UNLESS_REFUSED(EPERM, syscall(SYS_linkat, AT_FDCWD, from, AT_FDCWD, to, 0));
 }
 
@@ -171,10 +177,37 @@ int unlink(const char *name) {
     return UNLESS_REFUSED(EACCES, syscall(SYS_unlinkat, AT_FDCWD, name, 0));
 }
 
+/* A thread that is held. */
+static struct {
+    void *(*run)(void *);
+    void *with;
+} held;
+
+/* The number of threads that have started. */
+static atomic_int started;
+
+/* Runs the held thread after all threads have started and all have ended, except it and the first one. */
+static void *run_held(void *unused) {
+    const char *threads = getenv("REFUSE_THREADS");
+    struct stat tasks;
+    while (atomic_load(&started) < atoi(threads ? threads : "0") || (stat("/proc/self/task", &tasks) == 0 && tasks.st_nlink > 4))
+        usleep(1000);
+    return held.run(held.with ? held.with : unused);
+}
+
 int pthread_create(pthread_t *thread, const pthread_attr_t *attributes, void *(*run)(void *), void *with) {
+    static atomic_int asked_for;
+    const char *hold = getenv("REFUSE_HOLD");
     if (is_refused(3, "REFUSE_THREAD"))
         return EAGAIN;
+    if (hold && atomic_fetch_add(&asked_for, 1) + 1 == atoi(hold)) {
+        held.run = run;
+        held.with = with;
+        run = run_held;
+    }
     int (*create)(pthread_t *, const pthread_attr_t *, void *(*)(void *), void *) =
         (int (*)(pthread_t *, const pthread_attr_t *, void *(*)(void *), void *))dlsym(RTLD_NEXT, "pthread_create");
-    return create(thread, attributes, run, with);
+    int refusal = create(thread, attributes, run, with);
+    atomic_fetch_add(&started, !refusal);
+    return refusal;
 }

@@ -13,7 +13,7 @@ PATIENCE = 600  # seconds after which a program hangs, on however slow a machine
 # according to its help but is not listed here is a failure.
 READERS = {"audit": ["audit"], "explain": ["explain", "--all"], "summary": ["explain", "--summary", "--every", "100us"], "cut": ["cut", "--from", "0"],
            "migrate": ["migrate"]}
-READ, WRITE, MEMORY = b"pie: cannot read the input\n", b"pie: cannot write the output\n", b"pie: out of memory\n"
+MEMORY = b"pie: out of memory\n"
 
 # Every kind of record and nearly every answer.
 TRACE = b"""open,0,8,32,100,2,1,0,850000,0,1,100000,1000000000000,1024
@@ -41,6 +41,21 @@ fold,40
 fold,4
 params,5,1001004,1,1,50,850000,0,1,100000,1000000000000,1024
 """
+
+
+def reason(number, name=""):
+    """Returns the line with the system's reason for a failed read, or a failed write to the file of this name."""
+    return f"pie: {f'{name}: ' if name else ''}{os.strerror(number)} (os error {number})\n".encode()
+
+
+def read_fault(number):
+    """Returns the lines after a read that failed for this reason."""
+    return reason(number) + b"pie: cannot read the input\n"
+
+
+def write_fault(number, name=""):
+    """Returns the lines after a write to standard output, or to the file of this name, that failed for this reason."""
+    return reason(number, name) + b"pie: cannot write the output\n"
 
 
 def hold_readers():

@@ -15,18 +15,20 @@ import sys
 import textwrap
 from pathlib import Path
 from statistics import fmean, median, stdev
+from types import SimpleNamespace
 
 ROOT = Path(__file__).resolve().parents[1]
 sys.path[:0] = [str(ROOT / "bench"), str(ROOT / "bench/uml")]
 sys.dont_write_bytecode = True
 from equivalence import compare, compare_pairs, power  # noqa: E402
+import beside  # noqa: E402
 from rfc7928 import estimate  # noqa: E402
 from scenarios import FIVE, SAME_BLOCKS, SCENARIOS, TWICE, queues_of  # noqa: E402
 
 # numbers of RESULTS.in that are settings of a scenario, a test, or RFC 8033: decimal numbers, and numbers with a unit
-SETTINGS = {"0.5", "0.85", "1.85", "1.5", "3.37", "4.4", "6.1", "12.5", "17.5", *(f"{it} ms" for it in (5, 10, 12.5, 15, 17.5, 20, 30, 40, 100, 200)),
+SETTINGS = {"0.5", "0.85", "1.85", "1.5", "3.37", "4.4", "6.1", "12.5", "17.5", *(f"{it} ms" for it in (5, 10, 12.5, 15, 17.5, 20, 30, 40, 100, 200, 500)),
             *(f"{it} s" for it in (1.5, 2, 4, 8, 10, 14, 40, 60)), *(f"{it} Mbit/s" for it in (0.5, 2, 10, 12)), *(f"{it} bytes" for it in (64, 1500, 1514, 16384)),
-            "4 µs", *(f"{it} %" for it in (1, 5, 10, 80, 84, 90, 100))}
+            "4 µs", "200 packets", *(f"{it} %" for it in (1, 5, 10, 80, 84, 90, 100))}
 UNITS = {"goodput": "Mbit/s"}
 DIGITS = {"goodput": 2, "jain": 2, "early": 0, "tail": 0, "marks": 0, "lost": 0, "probes": 0}
 NAMES = {"tail": "tail drop, here", "stamp": "PIE, here", "wide": "PIE, here, target 20 ms", "half": "PIE, here, `--decay half`",
@@ -76,9 +78,27 @@ class Runs:
     def values(self, scenario, queue, field, part="after"):
         return {block: float(row[field]) for block, row in sorted(self.blocks(scenario, queue, part).items()) if row[field]}
 
+    def common_blocks(self, scenario):
+        """Returns the blocks that every queue of a scenario ran. Means are over these, so that figures of two queues are of the same blocks."""
+        whole = [self.blocks(scenario, queue, "whole").keys() for queue in SCENARIOS[scenario]["queues"] if (scenario, queue) in self.rows]
+        return set.intersection(*map(set, whole)) if whole else set()
 
-ROWS = read("bench/uml/results.csv")
+    def common(self, scenario, queue, part="after", blocks=None):
+        """Returns the rows of the common blocks, or of `blocks`."""
+        chosen = self.common_blocks(scenario) if blocks is None else blocks
+        return {block: row for block, row in sorted(self.blocks(scenario, queue, part).items()) if block in chosen}
+
+    def common_values(self, scenario, queue, field, part="after", blocks=None):
+        return [float(row[field]) for row in self.common(scenario, queue, part, blocks).values() if row[field]]
+
+
+# scenarios whose table has runs of a version of its own, and those with the same traffic
+LIMITS = {"limits": "four", "farlimits": "far", "twolimits": "two", "slowlimits": "slow"}
+STORED = read("bench/uml/results.csv")
+ROWS = [row for row in STORED if row["scenario"] not in LIMITS]
 RUNS = Runs(ROWS)
+LIMIT_ROWS = [row for row in STORED if row["scenario"] in LIMITS]
+LIMIT_RUNS = Runs(LIMIT_ROWS)
 SHORT = read("bench/uml/short.csv")
 NS3 = read("bindings/ns3/results.csv")
 
@@ -88,20 +108,20 @@ def shown(number, field="probe", digits=None):
     return text[1:] if re.fullmatch(r"-0\.?0*", text) else text
 
 
-def value(scenario, queue, field, part="after", digits=None):
-    """Returns the mean over blocks."""
-    found = list(RUNS.values(scenario, queue, field, part).values())
+def value(scenario, queue, field, part="after", digits=None, blocks=None, runs=RUNS):
+    """Returns the mean over the common blocks."""
+    found = runs.common_values(scenario, queue, field, part, blocks)
     return shown(fmean(found), field, digits) if found else ""
 
 
-def spread(scenario, queue, field, part="after", digits=None):
-    """Returns the mean over blocks, and in brackets the least and the greatest."""
-    found = list(RUNS.values(scenario, queue, field, part).values())
+def spread(scenario, queue, field, part="after", digits=None, blocks=None):
+    """Returns the mean over the common blocks, and in brackets the least and the greatest."""
+    found = RUNS.common_values(scenario, queue, field, part, blocks)
     return f"{shown(fmean(found), field, digits)} ({shown(min(found), field, digits)} to {shown(max(found), field, digits)})" if found else ""
 
 
 def percent(scenario, queue, field, part="after", digits=1):
-    found = RUNS.values(scenario, queue, field, part).values()
+    found = RUNS.common_values(scenario, queue, field, part)
     return f"{100 * fmean(found):.{digits}f}" if found else ""
 
 
@@ -111,15 +131,15 @@ def share(scenario):
     return f"{100 * fmean(value for part in parts for value in part.values()):.1f}"
 
 
-def lost(scenario, queue, part="after"):
-    """Probes that were dropped, in per cent of those that were sent."""
-    found, sent = (sum(RUNS.values(scenario, queue, field, part).values()) for field in ("lost", "probes"))
-    return f"{100 * found / sent:.0f}"
+def lost(scenario, queue, part="after", blocks=None):
+    """Returns the probes that were dropped, in per cent of those that were sent."""
+    found, sent = (sum(RUNS.common_values(scenario, queue, field, part, blocks)) for field in ("lost", "probes"))
+    return f"{100 * found / sent:.1f}" if sent else ""
 
 
 def group(scenario, queue, place, part="after", digits=2):
     """Returns the goodput of one group of flows."""
-    rows = RUNS.blocks(scenario, queue, part).values()
+    rows = RUNS.common(scenario, queue, part).values()
     return f"{fmean(float(row['groups'].split('/')[place]) for row in rows):.{digits}f}" if rows else ""
 
 
@@ -213,29 +233,77 @@ def interval(found, field, digits=None):
     return f"{shown(found[0], field, digits)} ({shown(found[1], field, digits)} to {shown(found[2], field, digits)})"
 
 
-def plus_minus(found, field, digits=None):
-    """Returns the difference, half the width of its 90 % interval, and the verdict, for a table. If there is only one block, returns an empty text."""
+def significant(number):
+    """Returns a number with two significant digits."""
+    return f"{number:.{max(0, 1 - math.floor(math.log10(number)))}f}" if number else "0"
+
+
+def margin_text(scenario, one, other, field, part, other_scenario=None):
+    """Returns the margin of a comparison in per cent of the other queue's mean."""
+    theirs = difference_of(scenario, one, other, field, part, other_scenario)[1]
+    return f"{significant(100 * margin_of(scenario, one, other, field, part, theirs) / fmean(theirs))} %"
+
+
+def plus_minus(found, field, digits=None, margin=""):
+    """Returns the difference, half the width of its 90 % interval, and the verdict with its margin, for a table. If there is only one block, returns an
+    empty text."""
     if not found:
         return ""
     digits = digits if digits is not None else DIGITS.get(field, 1)
-    return f"{shown(found[0], field, digits)}±{shown((found[2] - found[1]) / 2, field, digits)} {found[3]}"
+    return f"{shown(found[0], field, digits)}±{shown((found[2] - found[1]) / 2, field, digits)} {found[3]}{f' ({margin})' if margin else ''}"
 
 
 def difference(scenario, one, other, field, part="after", other_scenario=None, digits=None):
-    """Returns the difference, its interval and the verdict, in words."""
+    """Returns the difference, its interval and the verdict, in words; of `same` also the margin."""
     found = test(scenario, one, other, field, part, other_scenario)
-    return f"{interval(found, field, digits)} {UNITS.get(field, 'ms')}, `{found[3]}`"
+    margin = f" (margin {margin_text(scenario, one, other, field, part, other_scenario)})" if found[3] == "same" else ""
+    return f"{interval(found, field, digits)} {UNITS.get(field, 'ms')}, `{found[3]}`{margin}"
 
 
-def add(scenario, queue, *fields):
+def change(scenario, one, other, part="whole"):
+    """Returns the paired difference of the goodput in per cent of the other queue's."""
+    ours, theirs = difference_of(scenario, one, other, "goodput", part)
+    return f"{shown(100 * (fmean(ours) / fmean(theirs) - 1), digits=1)} %"
+
+
+def add(scenario, queue, *fields, part="after"):
     """Returns the sum of the means of several counts."""
-    return shown(sum(fmean(RUNS.values(scenario, queue, field).values()) for field in fields), "early")
+    return shown(sum(fmean(RUNS.common_values(scenario, queue, field, part)) for field in fields), "early")
+
+
+def limits_text():
+    """Returns the sentence about limits between 10 and 200 ms."""
+    if not LIMIT_ROWS:
+        return "Limits between 10 and 200 ms were not run, and no limit below 200 ms above 10 Mbit/s."
+    def most(part):
+        goodputs = [fmean(LIMIT_RUNS.common_values("limits", queue, "goodput", part)) for queue in ("limit30", "limit50", "limit100", "limit200")]
+        return max(goodput - goodputs[-1] for goodput in goodputs), max(abs(goodput - goodputs[-1]) for goodput in goodputs)
+
+    return (f"Limits of 30 to 100 ms change the later goodput by at most {shown(most('after')[1], digits=3)} Mbit/s. In the start they carry up to "
+            f"{shown(most('start')[0], digits=3)} Mbit/s more, with shorter waits and tail drops ([table](#limits)).")
+
+
+def limits_section():
+    """Returns the section of PIE here with other limits, whose runs have one version; nothing if there are none."""
+    if not LIMIT_ROWS:
+        return ""
+    lines = []
+    for name, base in LIMITS.items():
+        for queue in SCENARIOS[name]["queues"]:
+            if LIMIT_RUNS.blocks(name, queue):
+                cells = [value(name, queue, field, part, digits=digits, runs=LIMIT_RUNS) for part in ("start", "after")
+                         for field, digits in (("goodput", 3), ("probe", 1), ("early", 0), ("tail", 0))]
+                lines.append([f"`{base}`", queue.removeprefix("limit"), str(len(LIMIT_RUNS.common_blocks(name))), *cells])
+    heads = [f"{head}, {part}" for part in ("start", "later") for head in ("goodput", "wait", "early drops", "tail drops")]
+    made = ", ".join(f"{name} ({version})" for name, version in zip(("network.py", "traffic.c", "examples/link", "dist"), version_of(LIMIT_ROWS, 4)))
+    return ("## Limits\n\nPIE here with other limits in ms, in the blocks of the scenario that is named. All of these runs have one version: "
+            f"{made}.\n\n" + table(["traffic of", "limit", "blocks", *heads], lines))
 
 
 def verdict_sentence(scenario):
     goodput, wait = test(scenario, "stamp", "pie", "goodput", "whole"), test(scenario, "stamp", "pie", "probe")
-    return (f"the goodput differs by {interval(goodput, 'goodput')} Mbit/s, `{goodput[3]}`, and the wait after the start by "
-            f"{interval(wait, 'probe')} ms, `{wait[3]}`")
+    return (f"the goodput differs by {interval(goodput, 'goodput')} Mbit/s, `{goodput[3]}` (margin {margin_text(scenario, 'stamp', 'pie', 'goodput', 'whole')}), "
+            f"and the wait after the start by {interval(wait, 'probe')} ms, `{wait[3]}` (margin {margin_text(scenario, 'stamp', 'pie', 'probe', 'after')})")
 
 
 def table(heads, lines):
@@ -251,10 +319,11 @@ def was_run(scenario):
 
 
 def cell(scenario, queue):
-    """Returns goodput, wait and blocks of a queue after the start."""
-    rows = RUNS.blocks(scenario, queue)
-    wait, goodput = value(scenario, queue, "probe"), fmean(RUNS.values(scenario, queue, "goodput").values()) if rows else 0
-    return f"{shown(goodput, 'goodput', 3 if goodput < 3 else 1 if goodput > 100 else 2)}/{wait or '-'} ({len(rows)})" if rows else ""
+    """Returns goodput, wait and lost probes of a queue after the start."""
+    found = RUNS.common_values(scenario, queue, "goodput")
+    goodput = fmean(found) if found else 0
+    digits = 3 if goodput < 3 else 1 if goodput > 100 else 2
+    return f"{shown(goodput, 'goodput', digits)}/{value(scenario, queue, 'probe') or '-'}/{lost(scenario, queue)}" if found else ""
 
 
 def scenarios_table():
@@ -263,8 +332,10 @@ def scenarios_table():
     for name, it in SCENARIOS.items():
         if was_run(name):
             others = [f"{queue} {cell(name, queue)}" for queue in it["queues"] if queue not in FIVE_NAMES and cell(name, queue)]
-            lines.append([f"`{name}`", it["words"], it["section"], share(name), *(cell(name, queue) for queue in FIVE_NAMES), "; ".join(others)])
-    return table(["name", "traffic", "RFC 7928", "probes, %", "PIE, here", *(NAMES[queue] for queue in FIVE_NAMES[1:]), "other queues"], lines)
+            lines.append([f"`{name}`", it["words"], it["section"], share(name), str(len(RUNS.common_blocks(name))),
+                          *(cell(name, queue) for queue in FIVE_NAMES), "; ".join(others)])
+    heads = ["name", "traffic", "RFC 7928", "probes, %", "blocks", "PIE, here", *(NAMES[queue] for queue in FIVE_NAMES[1:]), "other queues"]
+    return table(heads, lines)
 
 
 def suite():
@@ -273,23 +344,26 @@ def suite():
     return f"{runs} runs, {'all' if stored == runs else stored} of them in results.csv, which take {hours:.1f} processor hours together"
 
 
-def version_of(row):
-    """Returns the versions of network.py and traffic.c that made a row."""
-    return tuple(row["version"].split(".")[:2])
+def version_of(rows, count):
+    """Returns the first `count` hashes of the version of rows: of network.py, traffic.c, examples/link and dist. A table has rows of one version."""
+    found = {tuple(row["version"].split(".")[:count]) for row in rows}
+    if len(found) != 1:
+        sys.exit(f"docs/results.py: runs of one table have several versions: {sorted(found)}")
+    return found.pop()
 
 
 def versions():
-    """Returns the number of runs, and the version of network.py and traffic.c that made them, in words."""
-    made = {(row["scenario"], row["queue"], row["block"]): version_of(row) for row in ROWS}
-    if len(set(made.values())) != 1:
-        sys.exit(f"docs/results.py: the runs have several versions: {sorted(set(made.values()))}")
-    network, traffic = next(iter(made.values()))
-    return f"All {len(made)} runs have one version of network.py ({network}) and traffic.c ({traffic})."
+    """Returns the number of runs, and the version of network.py and traffic.c that made them, in words. The table of limits may have another."""
+    network, traffic = version_of(ROWS, 2)
+    made = {(row["scenario"], row["queue"], row["block"]) for row in ROWS}
+    but = ", without those of [Limits](#limits)," if LIMIT_ROWS else ""
+    return f"All {len(made)} runs{but} have one version of network.py ({network}) and traffic.c ({traffic})."
 
 
 def not_run():
     """Names the scenarios that have no stored run."""
-    found = [f"{it['words']} (`{name}`)" for name, it in SCENARIOS.items() if not was_run(name)]
+    found = [f"{it['words']} (`{name}`)" for name, it in SCENARIOS.items()
+             if not (was_run(name) or any(row["scenario"] == name for row in LIMIT_ROWS))]
     return f"The following scenarios are defined, but have no stored run: {'; '.join(found)}." if found else ""
 
 
@@ -313,13 +387,14 @@ def same_table(one="stamp", other="pie"):
     lines = {}
     for name, field, part, bounds in pairs_of(one, other):
         if found := test(name, one, other, field, part):
-            cells = lines.setdefault(name, [f"`{name}`", "", ""])
+            cells = lines.setdefault(name, [f"`{name}`", str(len(difference_of(name, one, other, field, part)[0])), "", ""])
+            margin = margin_text(name, one, other, field, part)
             if field == "goodput":
                 is_slow = fmean(difference_of(name, one, other, field, part)[0]) < 3
-                cells[1] = plus_minus(found, field, 3 if is_slow else None)
+                cells[2] = plus_minus(found, field, 3 if is_slow else None, margin)
             else:
-                cells[2] += f"{'; ' * bool(cells[2])}{name_of_part(bounds)} s: {plus_minus(found, field)}"
-    return table(["scenario", "goodput", "wait"], lines.values())
+                cells[3] += f"{'; ' * bool(cells[3])}{name_of_part(bounds)} s: {plus_minus(found, field, margin=margin)}"
+    return table(["scenario", "blocks", "goodput", "wait"], lines.values())
 
 
 def verdicts(field, one="stamp", other="pie"):
@@ -337,18 +412,32 @@ def differing(one="stamp", other="pie"):
     return f"Of all {len(found)} comparisons, {sum(it[1] == 'different' for it in found)} are `different`: {', '.join(names)}."
 
 
-def later_waits():
-    """Returns the scenario and the result of each comparison of waits after a start."""
-    return [(name, test(name, "stamp", "pie", field, part)) for name, field, part, bounds in pairs_of() if field == "probe" and bounds[0] > 0]
+def excluding(which):
+    """Returns the number of intervals of PIE here beside `pie` that are above 0, the number of those below 0, and the number of all, of the comparisons
+    that `which` selects by measure and part."""
+    found = [(name, test(name, "stamp", "pie", field, part)) for name, field, part, bounds in pairs_of() if which(name, field, bounds)]
+    found = [it for it in found if it[1]]
+    return [it for it in found if it[1][1] > 0], [it for it in found if it[1][2] < 0], found
+
+
+def coverage():
+    """Returns the number of intervals of PIE here beside `pie` that exclude 0, of all comparisons and by measure, in words."""
+    above, below, every = excluding(lambda name, field, bounds: True)
+    kinds = {"goodputs": lambda name, field, bounds: field == "goodput",
+             "waits in a start": lambda name, field, bounds: field == "probe" and is_start(name, bounds),
+             "later waits": lambda name, field, bounds: field == "probe" and not is_start(name, bounds)}
+    parts = []
+    for words, which in kinds.items():
+        greater, less, found = excluding(which)
+        parts.append(f"of {len(found)} {words} {len(greater)} are greater here and {len(less)} are less")
+    return (f"{len(above) + len(below)} of {len(every)} intervals of 90 % exclude 0. About {0.1 * len(every):.0f} would if the queues were equal: "
+            f"{'; '.join(parts)}. So the queues differ; `same` says that the difference is within the margin.")
 
 
 def longer():
-    """Returns the number of parts after a start in which a probe waits longer here, and in which it waits shorter, in words: the whole interval of
-    the difference is above or below 0."""
-    above, below = ([name for name, it in later_waits() if side(it)] for side in (lambda it: it[1] > 0, lambda it: it[2] < 0))
-    names = ", ".join(f"`{name}`" for name in dict.fromkeys(below))
-    return (f"In {len(above)} of {len(later_waits())} parts after a start, the whole interval of the difference of the waits is above 0 (longer here), and in "
-            f"{len(below)} below 0 ({names}). The median of the differences is {shown(median(it[0] for _, it in later_waits()))} ms.")
+    """Returns the median of the differences of the later waits, in words."""
+    found = excluding(lambda name, field, bounds: field == "probe" and not is_start(name, bounds))[2]
+    return f"The median of the differences of the later waits is {shown(median(it[0] for _, it in found))} ms (longer here)."
 
 
 def blocks_needed(scenario, one, other, field, part, most=512):
@@ -381,7 +470,8 @@ def same_calibration_table():
     for name, field, part, bounds in pairs_of("tail", "pfifo"):
         ours, theirs = difference_of(name, "tail", "pfifo", field, part)
         lines.append([f"`{name}`", name_of_part(bounds), "wait" if field == "probe" else field, str(len(ours)), shown(fmean(ours), field, 3),
-                      shown(fmean(theirs), field, 3), plus_minus(test(name, "tail", "pfifo", field, part), field, 3)])
+                      shown(fmean(theirs), field, 3),
+                      plus_minus(test(name, "tail", "pfifo", field, part), field, 3, margin_text(name, "tail", "pfifo", field, part))])
     return table(["scenario", "seconds", "measure", "blocks", "tail drop, here", "`pfifo`", "difference"], lines)
 
 
@@ -421,15 +511,15 @@ def equal_queues(*pairs):
 
 
 def is_start(scenario, part):
-    return part == RUNS.part(scenario, "start") and len(RUNS.parts(scenario)) > 1
+    return tuple(part) == RUNS.part(scenario, "start") and len(RUNS.parts(scenario)) > 1
 
 
 def repeats_count():
     """Returns the number of comparisons of equal queues, of verdicts, and of 90 % intervals that contain 0, in words."""
     verdicts_of = [it[-1][3] for it in equal_queues()]
     inside = [it[-1][1] <= 0 <= it[-1][2] for it in equal_queues()]
-    return (f"{verdicts_of.count('same')} of {len(verdicts_of)} comparisons are `same`, and the 90 % interval contains 0 in "
-            f"{100 * sum(inside) / len(inside):.0f} % of them.")
+    return (f"Of {len(verdicts_of)} intervals of 90 %, {100 * sum(inside) / len(inside):.0f} % contain 0. Blocks were added until each verdict was `same`, so "
+            f"that the verdicts alone say little.")
 
 
 @functools.cache
@@ -498,34 +588,38 @@ def base_text():
 
 
 def queues_table(scenario, queues, more=()):
-    """Returns goodput, waits and losses of queues, each as (scenario, queue)."""
+    """Returns goodput, waits and losses of queues, in the blocks that all of them ran. A queue of `more` has its runs in another scenario, with the same
+    blocks."""
+    names = {queue: more[queue] if queue in more else scenario for queue in queues}
+    names = {queue: name for queue, name in names.items() if RUNS.blocks(name, queue)}
+    blocks = set.intersection(*(set(RUNS.blocks(name, queue)) for queue, name in names.items()))
     lines = []
-    for queue in queues:
-        it = more[queue] if queue in more else scenario
-        if RUNS.blocks(it, queue):
-            start = [value(it, queue, field, "start") for field in ("goodput", "probe")]
-            lines.append([NAMES[queue], *start, value(it, queue, "goodput"), value(it, queue, "wait"), spread(it, queue, "probe"),
-                          value(it, queue, "probe99", digits=0), value(it, queue, "early"), value(it, queue, "tail")])
-    heads = ["queue", "goodput, start", "wait, start", "goodput, later", "packets' wait, later", "wait, later", "wait, 99th percentile",
-             "early drops, later"]
-    return table([*heads, "tail drops, later"], lines)
+    for queue, it in names.items():
+        start = [value(it, queue, field, "start", blocks=blocks) for field in ("goodput", "probe")]
+        waits = [value(it, queue, "wait", blocks=blocks), value(it, queue, "wait99", digits=0, blocks=blocks), spread(it, queue, "probe", blocks=blocks),
+                 value(it, queue, "probe95", digits=0, blocks=blocks)]
+        lines.append([NAMES[queue], *start, lost(it, queue, "start", blocks), value(it, queue, "goodput", blocks=blocks), *waits,
+                      lost(it, queue, blocks=blocks), *(value(it, queue, field, blocks=blocks) for field in ("early", "tail"))])
+    heads = ["queue", "goodput, start", "wait, start", "probes lost, start, %", "goodput, later", "packets' wait, later", "packets' wait, 99th percentile",
+             "wait, later", "wait, 95th percentile", "probes lost, later, %", "early drops, later", "tail drops, later"]
+    return table(heads, lines) + f"\n\nEach row has the same {len(blocks)} blocks."
 
 
 def probes_table():
     lines = []
     for queue in ("stamp", "fq_codel"):
         for name in ("four", "hundred"):
-            cells = [NAMES[queue], SCENARIOS[name]["words"]]
-            for scenario in (f"{name}20", name, f"{name}200") if name == "hundred" else ("probe20", name, "probe200"):
-                found = value(scenario, queue, "probe") if was_run(scenario) else ""
-                cells.append(f"{found} ({share(scenario)} %)" if found else "")
-            lines.append(cells)
-    return table(["queue", "traffic", "a probe every 20 ms", "every 100 ms", "every 200 ms"], lines)
+            scenarios = [it for it in ((f"{name}20", name, f"{name}200") if name == "hundred" else ("probe20", name, "probe200")) if was_run(it)]
+            blocks = set.intersection(*(set(RUNS.blocks(scenario, queue)) for scenario in scenarios))
+            cells = [f"{value(scenario, queue, 'probe', blocks=blocks)} ({share(scenario)} %)" for scenario in scenarios]
+            lines.append([NAMES[queue], SCENARIOS[name]["words"], str(len(blocks)), *cells])
+    return table(["queue", "traffic", "blocks", "a probe every 20 ms", "every 100 ms", "every 200 ms"], lines)
 
 
 def took(scenario, queue, size):
     """Returns the times of all short flows of this size, in ms; one that did not end counts as a minute."""
-    rows = (row for row in SHORT if (row["scenario"], row["queue"], row["bytes"]) == (scenario, queue, str(size)))
+    blocks = RUNS.common_blocks(scenario)
+    rows = (row for row in SHORT if (row["scenario"], row["queue"], row["bytes"]) == (scenario, queue, str(size)) and int(row["block"]) in blocks)
     return sorted(6e4 if row["took"] == "" else float(row["took"]) for row in rows)
 
 
@@ -547,10 +641,12 @@ def step_table():
     lines = []
     for queue in SCENARIOS["step"]["queues"]:
         if RUNS.blocks("step", queue, "whole"):
-            cells = [value("step", queue, "goodput", "8-18"), spread("step", queue, "probe", "8-18"), value("step", queue, "goodput", "18-32"),
-                     value("step", queue, "wait", "18-32"), spread("step", queue, "probe", "18-32"), percent("step", queue, "prob", "18-32")]
+            cells = [value("step", queue, "goodput", "8-18"), spread("step", queue, "probe", "8-18"), lost("step", queue, "8-18"),
+                     value("step", queue, "goodput", "18-32"), value("step", queue, "wait", "18-32"), spread("step", queue, "probe", "18-32"),
+                     lost("step", queue, "18-32"), percent("step", queue, "prob", "18-32")]
             lines.append([NAMES[queue], *cells])
-    return table(["queue", "at 2 Mbit/s: goodput", "wait", "at 10 Mbit/s again: goodput", "packets' wait", "wait", "probability, %"], lines)
+    return table(["queue", "at 2 Mbit/s: goodput", "wait", "probes lost, %", "at 10 Mbit/s again: goodput", "packets' wait", "wait", "probes lost, %",
+                  "probability, %"], lines)
 
 
 def shares_table():
@@ -562,18 +658,28 @@ def shares_table():
             if rows:
                 count = len(next(iter(rows.values()))["groups"].split("/"))
                 lines.append([f"`{name}`", NAMES[queue], "/".join(group(name, queue, it) for it in range(count)), value(name, queue, "jain"),
-                              value(name, queue, "probe"), value(name, queue, "probe99", digits=0)])
-    return table(["scenario", "queue", "goodput of each group", "Jain's index of TCP", "wait", "wait, 99th percentile"], lines)
+                              value(name, queue, "probe"), value(name, queue, "probe95", digits=0), value(name, queue, "wait99", digits=0), lost(name, queue)])
+    return table(["scenario", "queue", "goodput of each group", "Jain's index of TCP", "wait", "wait, 95th percentile", "packets' wait, 99th percentile",
+                  "probes lost, %"], lines)
+
+
+def voice_lost(queue):
+    """Returns the packets of voice that were dropped, in per cent of those that the senders' plan has."""
+    begin, end = RUNS.part("mixed", "after")
+    blocks = sorted(RUNS.common_blocks("mixed"))
+    plan = beside.scenario_of("mixed", beside.options(SCENARIOS["mixed"]["options"]), {"stamp": 1}, blocks)["blocks"]
+    sent = sum(beside.Found.planned(SimpleNamespace(block=plan[str(block)]), beside.VOICE, begin, end) for block in blocks)
+    return f"{100 * sum(RUNS.common_values('mixed', queue, 'voice_lost')) / sent:.1f}"
 
 
 def mixed_table():
     lines = []
     for queue in SCENARIOS["mixed"]["queues"]:
         if RUNS.blocks("mixed", queue):
-            voice = [value("mixed", queue, "voice"), value("mixed", queue, "voice99", digits=0), value("mixed", queue, "voice_lost")]
+            voice = [value("mixed", queue, "voice"), value("mixed", queue, "voice99", digits=0), voice_lost(queue)]
             web = [f"{median(took('mixed', queue, size)):.0f}" for size in (14600, 146000)]
             lines.append([NAMES[queue], group("mixed", queue, 0), *voice, value("mixed", queue, "dns"), *web])
-    heads = ["voice: wait", "voice: 99th percentile", "voice: packets lost", "DNS: wait", "web, 14,600 bytes", "web, 146,000 bytes"]
+    heads = ["voice: wait", "voice: 99th percentile", "voice: packets lost, %", "DNS: wait", "web, 14,600 bytes", "web, 146,000 bytes"]
     return table(["queue", "goodput of 2 CUBIC", *heads], lines)
 
 
@@ -608,22 +714,85 @@ def ns3_difference(mbit, flows, ecn, queue):
     return f"{interval(found, 'goodput')} Mbit/s, `{found[3]}`"
 
 
-def ns3_table():
-    others = {"pie-stamp": "`PieQueueDisc`", "pie-mark-stamp": "`PieQueueDisc`, marks changed",
+NS3_OTHERS = {"pie-stamp": "`PieQueueDisc`", "pie-mark-stamp": "`PieQueueDisc`, marks changed",
               "pie-mark-burst-stamp": "`PieQueueDisc`, marks and bursts changed"}
+
+
+def ns3_table():
     lines = []
     for mbit, flows, ecn in sorted({(row["mbit"], row["flows"], row["ecn"]) for row in NS3}, key=lambda it: (int(it[0]), int(it[1]), it[2])):
-        for queue, name in others.items():
+        for queue, name in NS3_OTHERS.items():
             if not ns3_compare(mbit, flows, ecn, queue, "link_mbit"):
                 continue
             cells = [f"{mbit} Mbit/s, {flows} flows{', ECN' * (ecn == '1')}", name]
             for field in ("link_mbit", "wait_mean_ms"):
                 one, other, found = ns3_compare(mbit, flows, ecn, queue, field)
                 cells += [f"{len(one)}, {len(other)}"] * (len(cells) == 2)
-                cells += [f"{fmean(one):.1f}, {fmean(other):.1f}", plus_minus(found, field, 2 if field == "link_mbit" else 1)]
+                cells += [f"{fmean(one):.1f}, {fmean(other):.1f}", plus_minus(found, field, 2 if field == "link_mbit" else 1,
+                                                                                        f"{significant(100 * (NS3_MARGIN if field == 'link_mbit' else wait_share()))} %")]
             lines.append(cells)
     heads = ["traffic", "other queue", "seeds, here and other", "link's rate, here and other", "difference", "wait, here and other", "difference"]
     return table(heads, lines)
+
+
+BURSTS = read("bindings/ns3/bursts.csv")
+
+
+def ns3_open():
+    """Returns the number of comparisons of the table with each verdict, in words."""
+    keys = sorted({(row["mbit"], row["flows"], row["ecn"]) for row in NS3})
+    found = [it[2][3] for key in keys for queue in NS3_OTHERS for field in ("link_mbit", "wait_mean_ms") if (it := ns3_compare(*key, queue, field))]
+    return (f"Of {len(found)} comparisons, {found.count('same')} are `same`, {found.count('different')} are `different`, and {found.count('open')} are `open`, "
+            f"because there are only 5 or 8 seeds.")
+
+
+def settle_sentence():
+    """Names the runs here whose mean wait is above 20 ms, with their bursts, beside the others."""
+    rows = ns3_four("recorded-stamp")
+    wrong = [row for row in rows.values() if float(row["wait_mean_ms"]) > 20]
+    names = " and ".join(f"seed {row['seed']} at {row['mbit']} Mbit/s (mean wait {float(row['wait_mean_ms']):.0f} ms, {float(row['link_mbit']):.1f} Mbit/s on "
+                         f"the link)" for row in wrong)
+    return f"Here {len(wrong)} of {len(rows)} runs of four flows without ECN do not settle: {names}."
+
+
+BOUNDED = "recorded-stamp+bounded"
+
+
+def ns3_four(queue):
+    """Returns the runs of four flows without ECN, by rate and seed."""
+    return {(row["mbit"], row["seed"]): row for row in NS3 if (row["queue"], row["flows"], row["ecn"]) == (queue, "4", "0")}
+
+
+def bursts_table():
+    """Returns the bursts of each run of four flows without ECN here, beside its link's rate and mean wait, and those of the same run with a slow start
+    that ends at the threshold."""
+    found, others = ns3_four("recorded-stamp"), ns3_four(BOUNDED)
+    bounded = {(row["mbit"], row["seed"]): row["bursts"] for row in BURSTS if row["queue"] == BOUNDED}
+    lines = []
+    for row in BURSTS:
+        if row["queue"] == "recorded-stamp":
+            key = (row["mbit"], row["seed"])
+            run, other = found[key], others[key]
+            lines.append([row["mbit"], row["seed"], f"{float(run['link_mbit']):.1f}", f"{float(run['wait_mean_ms']):.0f}", row["bursts"], row["opened"],
+                          row["greatest"], row["greatest_opening"], row["empty"],
+                          f"{float(other['link_mbit']):.1f}", f"{float(other['wait_mean_ms']):.0f}", bounded[key]])
+    heads = ["Mbit/s", "seed", "link's rate", "wait", "bursts", "of these with an opening", "greatest burst, packets", "greatest opening, segments",
+             "queue empty, s", "link's rate, bounded", "wait, bounded", "bursts, bounded"]
+    return table(heads, lines)
+
+
+def openings():
+    """Returns the number of bursts with an opening of a window, and the greatest one, in words."""
+    rows = [row for row in BURSTS if row["queue"] == "recorded-stamp"]
+    opened, every = (sum(int(row[field]) for row in rows) for field in ("opened", "bursts"))
+    return f"{opened} of {every} bursts have such an opening, of up to {max(int(row['greatest_opening']) for row in rows)} segments"
+
+
+def bounded_sentence():
+    """Returns how many runs settle if slow start ends at the threshold, in words."""
+    rows = list(ns3_four(BOUNDED).values())
+    return (f"{sum(float(row['wait_mean_ms']) > 20 for row in rows)} of {len(rows)} runs have a mean wait above 20 ms, and the link carries at least "
+            f"{min(float(row['link_mbit']) / float(row['mbit']) for row in rows) * 100:.1f} % of its rate")
 
 
 def burst_sentence():

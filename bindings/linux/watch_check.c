@@ -21,7 +21,7 @@
 #define LAST_CODE 512     /* bytes of the last function of a module */
 #define MOST_SYMBOLS 1024 /* with `pie` in their names */
 
-/* What was found. `is_impossible`: nothing can be recorded; `is_unknown`: --anyway records. */
+/* The findings of the checks. `is_impossible`: nothing can be recorded; `is_unknown`: only --anyway records. */
 struct findings {
     bool is_impossible, is_unknown, is_anyway;
 };

@@ -2,10 +2,10 @@
 pub use Rattle.pie_aqm.specs.Places.{Place, after}
 pub use Rattle.pie_audit.specs.{All, Answer, Appends, AreLegal, AuditorView, Audits, AuditsFrom, Beginning, Begins, BeginsAtCore, BeginsBy, BegunBy, Continues}
 pub use Rattle.pie_audit.specs.{CanBeMade, Clean, Command, CoreSnapshot, CoreView, Differs, Err, Event, EventFits, Finds, FindsAfter}
-pub use Rattle.pie_audit.specs.{Replays, ReplaysFrom, Going, HasField, IfErr, IfOk, IfSome, Invalid, IsAccepted, IsTextAfter, IsFirstWrong, IsFound}
-pub use Rattle.pie_audit.specs.{IsHistoryText, IsLegal, IsLegalAt, IsSetterAfter, IsWriteOrMemory, IsWrong, Line, LinePlace, LinesAt, LinesRead, LinesView}
+pub use Rattle.pie_audit.specs.{Replays, ReplaysFrom, ReplaysText, Going, HasField, IfErr, IfOk, IfSome, Invalid, IsAccepted, IsTextAfter, IsFirstWrong, IsFound}
+pub use Rattle.pie_audit.specs.{IsHistoryText, IsLegal, IsLegalAt, IsSetterAfter, IsWriteOrMemory, IsWrong, Line, LinePlace, LinesRead, LinesView, Reads, ReadsOn, ReadsWith, Remains, AuditsMore}
 pub use Rattle.pie_audit.specs.{NoIoOrMemoryFailedBy, None, Note, Ok, OnOk, Opening, Option, ParamsFit, ProcessedBy, RemainingLines, Represents}
-pub use Rattle.pie_audit.specs.{RepresentsAfter, Result, Row, Setter, Some, TakesRow, TextProcessedBy, Three, TraceFault, Valid, Version, VisitedFrom}
+pub use Rattle.pie_audit.specs.{RepresentsAfter, Result, Row, Setter, Some, TakesRow, TextProcessedBy, Three, TraceFault, Valid, Version}
 pub use Rattle.pie_audit.specs.{active_after, after_line, agrees_after, at_core, at_opening, count_after, counted_with, decision, differs, differs_at}
 pub use Rattle.pie_audit.specs.{differs_from, event_in, event_row, fault_after, filter_map, find, finding, finding_after, finding_at}
 pub use Rattle.pie_audit.specs.{finding_by, finding_from, first_difference, first_setter, from_opening, is_active_after, is_active_at, is_io_or_memory}

@@ -12,7 +12,7 @@ pub use Rattle.pie_excerpt.specs.Written.{IsWritten, excerpt_rows, rows_from}
 pub use Rattle.pie_params.specs.Range.{first_bad}
 pub use Rattle.pie_record.specs.{Fault.IsOfInput, Fault.IsWriteOrMemory, Fault.is_io_or_memory, ReadBack.EventFits, ReadBack.IsHistoryText, Text.HasField, Text.Row}
 pub use Rattle.pie_record.specs.{Text.TakesRow, Text.records_of, Write.event_row, Write.written_rows}
-pub use Rattle.pie_record.specs.HistoryLines.{IsRecordOf, LinesView, RemainingLines, remaining_after_opening, remaining_from}
+pub use Rattle.pie_record.specs.HistoryLines.{IsRecordOf, LinesView, RemainingLines, reader_state_after_record, remaining_after_opening, remaining_from, repeated_record}
 pub use Rattle.pie_record.specs.declared.{fault.TraceFault.TraceFault, history_record.Line.Line, version.Version.TheVariants.Three, version.Version.Version}
 pub use Rattle.pie_record.specs.declared.history_reader.ReaderState.TheVariants.{Faulted, Going}
 pub use Rattle.pie_record.specs.declared.history_record.Line.TheVariants.{Invalid, Note, Valid}

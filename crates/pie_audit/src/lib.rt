@@ -15,18 +15,18 @@
 mod auditor;
 mod law;
 mod opened_text;
-mod processor;
 mod replay;
+mod replayed_text;
 mod text_audit;
-mod visitor;
+mod text_lines;
 
 pub use auditor::{Auditor, Finding};
 pub use law::{
     clean_is_legal, clean_texts_are_legal, events_are_lines, findings_look_back,
     histories_are_found, recorded_calls_are_clean, written_excerpts_are_read,
 };
-pub use opened_text::{OpenedText, begin};
-pub use processor::{TextProcessor, beginnings_determine, process_text};
+pub use opened_text::{OpenedText, begin, beginnings_determine};
 pub use replay::{LineKind, Replay, kind_of};
-pub use text_audit::{audit, write_finding};
-pub use visitor::{Auditing, LineVisitor, visit_lines};
+pub use replayed_text::{ReplayedText, begin_replay};
+pub use text_audit::{audit, audit_lines, write_finding};
+pub use text_lines::TextLines;

@@ -23,7 +23,7 @@ pub use Rattle.pie_commands.specs.FileAudits.{is_broken, is_unfound, lines_of, o
 pub use Rattle.pie_commands.specs.Files.{Name, ReadsNamed, file_of, text_given, Held, IsEmpty, Keeps, Places, Settles, EndsAt, EndsIn, is_whole}
 pub use Rattle.pie_commands.specs.Files.{after_output}
 pub use Rattle.pie_commands.specs.StormEnds.{EndsStorm, elements_in, numbers_in, storm_ends}
-pub use Rattle.pie_commands.specs.Subcommands.{Answers, BeginsNothing, EndsAs, EndsTask, EndsTo, FindsMatches, may_differ, output_for}
+pub use Rattle.pie_commands.specs.Subcommands.{Answers, BeginsNothing, EndsAs, EndsTo, FindsMatches, may_differ, output_for}
 pub use Rattle.pie_commands.specs.Words.{file_in, files_in, is_forced, is_joined, options_in, pie_app, subcommand_in, rule_for, Wants, Asks, adds}
 pub use Rattle.pie_commands.specs.Words.{app_for, number_of, number_or, output_in, pie_alone, with_rules, with_subcommands}
 pub use Rattle.pie_commands.specs.declared.cut.Pieces.TheVariants.{Every, Part}

@@ -4,10 +4,10 @@ use Rattle.std.proofs.lemmas.Bool.Decides.{nat_tests}
 use Rattle.pie_commands.proofs.Names.{◌≡◌, ◌∙◌, ℕ, List, [], ◌∷◌, Option, Some, Bool, true, subst, sym, IfErr, IfOk, Result, Ok, Err, option_map, App}
 use Rattle.pie_commands.proofs.Names.{HasMatchesOf, Text, kind_of, subcommand_name_of, subcommand_rows_of, takes, End, CannotStart, Failed, Audit, file_in, get_or, inl, inr, None, take}
 use Rattle.pie_commands.proofs.Names.{files_in, is_forced, is_joined, options_in, pie_app, subcommand_in, Joined, EndView, text_given, Held, Keeps}
-use Rattle.pie_commands.proofs.Names.{AuditsFiles, HaveOutcomes, FileOutcome, HasFileOutcome, EndsBy, EndsRead, EndsAuditing, EndsFiles, LacksFinding, Answers, EndsAs, EndsTo, FindsMatches}
+use Rattle.pie_commands.proofs.Names.{AuditsFiles, HaveOutcomes, FileOutcome, HasFileOutcome, EndsAuditing, EndsFiles, LacksFinding, Answers, EndsAs, EndsTo, FindsMatches}
 use Rattle.pie_commands.proofs.Names.{may_differ, output_for, Finds, JoinsText, records_of, ◌++◌, false}
 use Rattle.pie_commands.proofs.Names.{IfSome}
-use Rattle.pie_commands.specs.Files.{CanRead, Opens, opens_after}
+use Rattle.pie_commands.specs.Files.{Opens, opens_after}
 use Rattle.pie_commands.specs.declared.audit.Unaudited.{Unaudited}
 use Rattle.pie_commands.specs.declared.audit.Unaudited.TheVariants.{Unopened, Faulty}
 use Rattle.clap.specs.Words.{Row}

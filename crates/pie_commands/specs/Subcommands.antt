@@ -1,6 +1,6 @@
 -- The promise of each subcommand: its end and its output; and the promise of the program that selects one from the
 -- command line.
-use Rattle.std.specs.Prelude.{ℕ, ◌≡◌, ◌⊎◌, Bool, true, false, List, Option, Some, None, Result, Ok, Err, ⊤}
+use Rattle.std.specs.Prelude.{ℕ, ◌≡◌, ◌⊎◌, Bool, true, false, List, Option, Some, None, Result, Ok, Err}
 use Rattle.clap.specs.Words.{HasMatchesOf, Row, Text, kind_of, takes}
 use Rattle.clap.specs.declared.error.Error.{Error}
 use Rattle.clap.specs.declared.error.kind.ErrorKind.TheVariants.{OutOfMemory}
@@ -12,29 +12,14 @@ use Rattle.pie_commands.specs.Words.{Asks, file_in, files_in, is_forced, is_join
 use Rattle.pie_commands.specs.Files.{Opens, text_given}
 use Rattle.pie_commands.specs.Files.{Held, Keeps}
 use Rattle.pie_commands.specs.declared.end.End.{End}
-use Rattle.pie_commands.specs.declared.perform.Task.{Task}
-use Rattle.pie_commands.specs.declared.perform.Task.TheVariants as task
 use Rattle.pie_commands.specs.declared.end.End.TheVariants.{CannotStart, Differs}
-use Rattle.pie_commands.specs.CutEnds.{CutsInto, EndsCut, HasSome, end_of_cut}
-use Rattle.pie_commands.specs.Ends.{EndsAudit, EndsBy, EndsMigrate, EndsRead, EndsRun, status_of}
+use Rattle.pie_commands.specs.CutEnds.{EndsCut}
+use Rattle.pie_commands.specs.Ends.{EndsMigrate, EndsRead, EndsRun, status_of}
 use Rattle.pie_commands.specs.Explanations.{EndsExplain}
 use Rattle.pie_commands.specs.FileAudits.{EndsAuditing}
 use Rattle.pie_commands.specs.Files.{EndsIn}
 use Rattle.pie_commands.specs.StormEnds.{EndsStorm}
 use Rattle.pie_commands.specs.Tuning.{EndsParams}
-
--- the end of a task over a text, with its output
-abbrev pub EndsTask : Task → List Row → Option (List ℕ) → End → Option (List ℕ) → Option (List ℕ) → Type 0
-EndsTask task.Run options = EndsRun
-EndsTask task.Audit options = EndsAudit
-EndsTask task.Explain options = EndsExplain options
-EndsTask (task.Cut pieces) options = EndsBy end_of_cut (CutsInto pieces)
-EndsTask task.Migrate options = EndsMigrate
-
--- if the task cuts segments, their number of events is above 0
-abbrev pub CanDo : Task → Type 0
-CanDo (task.Cut pieces) = HasSome pieces
-CanDo _ = ⊤
 
 -- the end of a subcommand with these options, with its output. `input` is the known text of the reader and `files`
 -- the known text of each file. If `works`, a known file can always be opened. A storm alone can lack memory or a thread

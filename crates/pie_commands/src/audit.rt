@@ -3,17 +3,19 @@ ghost use Rattle.std.specs.Prelude.{◌≡◌, ◌<◌, ◌||◌, [], Err, IfErr
 ghost use Rattle.std.specs.Io.KnownBytes.{Appends};
 ghost use Rattle.clap.specs.Words.{found_of, rows_of};
 ghost use Rattle.pie_audit.specs.Text.{Finds};
-ghost use Rattle.pie_commands.specs.Ends.{WritesFinding, end_found};
-ghost use Rattle.pie_commands.specs.FileAudits.{EndsAuditing, EndsFiles, HasReadOutcome, HasTextOutcome, is_broken, line_of_joint, lines_of, named_line, worst};
+ghost use Rattle.pie_commands.specs.Ends.{EndsAudit, WritesFinding, end_found};
+ghost use Rattle.pie_commands.specs.FileAudits.{EndsFiles, HasReadOutcome, HasTextOutcome, is_broken, line_of_joint, lines_of, named_line, worst};
 ghost use Rattle.pie_commands.specs.Files.{CanOpen, ReadsNamed, left_for};
-ghost use Rattle.pie_commands.specs.Words.{files_in, is_joined};
+ghost use Rattle.pie_commands.specs.Subcommands.{EndsAs};
+ghost use Rattle.pie_commands.specs.declared.options.subcommand.Subcommand.{Subcommand};
 ghost use Rattle.pie_cut.specs.declared.joint_audit.Joined.{Joined};
 ghost use Rattle.pie_record.specs.Text.{records_of};
 
+use crate::difference::report_difference;
 use crate::end::{End, end_with_fault, named_fault};
+use crate::fault_cause::{AUDIT, describe};
 use crate::files::{NamedFiles, reader_named};
 use crate::options::flag;
-use crate::perform::{Task, run_task};
 use crate::progress::{ProgressReader, Screen, shows_progress};
 use clap::ArgMatches;
 use either::{Either, Left};
@@ -37,7 +39,7 @@ fn end_of(found: Finding) -> End
 
 /// Returns the end of an audit with the result `found`. Writes the line of a finding to `output`, or the line of a
 /// fault to `errors`.
-pub(crate) fn report_end<W: Write, E: Write>(
+fn report_end<W: Write, E: Write>(
     found: Result<Finding, TraceFault>,
     output: &mut W,
     errors: &mut E,
@@ -86,8 +88,9 @@ fn found_in<R: Read + Drop>(
     }
 }
 
-/// Audits the file of this name. Returns the reason why it was not audited, with a line on `errors`, if it can't be opened or read, or has a fault.
-fn outcome_of_named<H: NamedFiles + Clock, R: Read + Drop, E: Write>(
+/// Audits the file of this name. If `are_joined`, also compares its beginning with `end`, the end of the file before it.
+/// If it can't be opened or read, or has a fault, returns the reason, and writes a line to `errors`.
+fn audit_named<H: NamedFiles + Clock, R: Read + Drop, E: Write>(
     rt: &H,
     alloc: Global,
     is_shown: bool,
@@ -110,6 +113,9 @@ fn outcome_of_named<H: NamedFiles + Clock, R: Read + Drop, E: Write>(
         Ok(joined) => Ok(joined),
         Err(why) => {
             named_fault(errors, name, why);
+            if name != "-" {
+                describe(rt, alloc, AUDIT, why, name, errors);
+            }
             Err(Unaudited::Faulty(why))
         }
     }
@@ -146,31 +152,33 @@ fn write_joined<W: Write>(name: &str, joined: Joined, output: &mut W) -> io::Res
     output.flush()
 }
 
-/// Audits the file `name` after a file that ended with `end`, and writes the lines of the result.
-fn audit_named<H: NamedFiles + Clock, R: Read + Drop, W: Write, E: Write>(
+/// Writes the lines of a file's result: none if the file was not audited.
+fn write_outcome<W: Write>(
+    name: &str,
+    outcome: Result<Joined, Unaudited>,
+    output: &mut W,
+) -> io::Result<()>
+    ensures written { OnOk result (Appends (W.contents output.old) (W.contents output.new) (lines_of name.now outcome)) }
+    ensures audited { IfErr result (λ _. (joined : Joined) × (outcome ≡ Ok joined)) }
+{
+    match outcome {
+        Ok(joined) => write_joined(name, joined, output),
+        Err(_) => Ok(()),
+    }
+}
+
+/// Writes the lines about the event of a file that differs, if there is one.
+fn report_outcome<H: NamedFiles, E: Write>(
     rt: &H,
     alloc: Global,
-    is_shown: bool,
-    are_joined: bool,
     name: &str,
-    input: &mut Option<R>,
-    end: &mut Option<TextEnd>,
-    output: &mut W,
+    outcome: Result<Joined, Unaudited>,
     errors: &mut E,
-) -> io::Result<Result<Joined, Unaudited>>
-    ensures writes_line { IfOk result (λ outcome. HasReadOutcome are_joined ((H.works ≡ true) × CanOpen input.old (H.holds rt.now name.now) name.now)
-        (ReadsNamed R.remaining input.old (H.holds rt.now) name.now) end.old outcome end.new) }
-    ensures written { IfOk result (λ outcome. Appends (W.contents output.old) (W.contents output.new) (lines_of name.now outcome)) }
-    ensures unwritten { IfErr result (λ _. (found : Joined) × HasReadOutcome are_joined ((H.works ≡ true) × CanOpen input.old (H.holds rt.now name.now) name.now)
-        (ReadsNamed R.remaining input.old (H.holds rt.now) name.now) end.old (Ok found) end.new) }
-    ensures input { input.new ≡ left_for name.now input.old }
-{
-    match outcome_of_named(rt, alloc, is_shown, are_joined, name, input, end, errors) {
-        Ok(joined) => {
-            write_joined(name, joined, output)?;
-            Ok(Ok(joined))
+) {
+    if let Ok(joined) = outcome {
+        if let Finding::Differs { event } = joined.finding {
+            report_difference(rt, alloc, name, event, false, errors);
         }
-        Err(why) => Ok(Err(why)),
     }
 }
 
@@ -209,11 +217,11 @@ fn name_at<'a>(names: &[&'a str], place: usize) -> &'a str
     names[place]
 }
 
-/// `pie audit FILE..`: audits each file in turn and writes its finding. With `--joined` also writes the joint
-/// of the file with the file before it, if that file was clean. If a file has a fault or can't be read, a line is written to
-/// `errors`. Returns the worst end of all files; a gap or a difference at a joint counts as a difference. If a line
-/// can't be written, returns the writer's fault.
-pub(crate) fn audit_files<H: NamedFiles + Clock, R: Read + Drop, W: Write, E: Write>(
+/// Audits each file in turn and writes its finding. If they `are_joined`, also writes the joint of the file with the file
+/// before it, if that file was clean. If a file has a fault or can't be read, a line is written to `errors`. Returns the
+/// worst end of all files; a gap or a difference at a joint counts as a difference. If a line can't be written, returns
+/// the writer's fault.
+fn audit_files<H: NamedFiles + Clock, R: Read + Drop, W: Write, E: Write>(
     rt: &H,
     alloc: Global,
     is_shown: bool,
@@ -232,15 +240,17 @@ pub(crate) fn audit_files<H: NamedFiles + Clock, R: Read + Drop, W: Write, E: Wr
     let mut broken = false;
     for place in 0..names.len() {
         let name = name_at(names, place);
-        let outcome = match audit_named(
-            rt, alloc, is_shown, are_joined, name, &mut stdin, &mut end, output, errors,
-        ) {
-            Ok(outcome) => outcome,
+        let outcome = audit_named(
+            rt, alloc, is_shown, are_joined, name, &mut stdin, &mut end, errors,
+        );
+        match write_outcome(name, outcome, output) {
+            Ok(()) => {}
             Err(_) => {
                 drop(end);
                 return end_with_fault(errors, TraceFault::Write);
             }
-        };
+        }
+        report_outcome(rt, alloc, name, outcome, errors);
         unfound |= outcome.is_err();
         broken |= is_broken(outcome);
     }
@@ -248,34 +258,26 @@ pub(crate) fn audit_files<H: NamedFiles + Clock, R: Read + Drop, W: Write, E: Wr
     worst(unfound, broken)
 }
 
-/// Audits the files `names`. With `--joined` they are the files of one history. If `names` is empty, audits
-/// `input`.
-fn audit_any<H: NamedFiles + Screen, R: Read + Drop, W: Write, E: Write>(
+/// Audits `input` and writes its finding.
+fn audit_input<H: NamedFiles + Clock, R: Read + Drop, W: Write, E: Write>(
     rt: &H,
     alloc: Global,
-    options: &ArgMatches<'_>,
-    names: &[&str],
+    is_shown: bool,
     input: R,
     output: &mut W,
     errors: &mut E,
 ) -> End
-    ensures { EndsAuditing H.works (is_joined (rows_of (found_of options.now))) (R.remaining input) (H.holds rt.now) (map (λ name. name.now) names.now) result
-        (W.contents output.old) (W.contents output.new) }
+    ensures { EndsAudit (R.remaining input) result (W.contents output.old) (W.contents output.new) }
 {
-    let is_shown = shows_progress(rt, options, false);
-    if names.is_empty() {
-        // The type equals the type of a file's reader, so an audit is compiled once.
-        let source: Either<R, H::File> = Left(input);
-        let task = Task::Audit;
-        return run_task(rt, alloc, task, options, is_shown, source, output, errors);
-    }
-    let are_joined = flag(options, "joined");
-    audit_files(
-        rt, alloc, is_shown, are_joined, names, input, output, errors,
-    )
+    // The type equals the type of a file's reader, so an audit is compiled once.
+    let reader: Either<R, H::File> = Left(input);
+    let watched = ProgressReader::new(reader, &mut *errors, rt, is_shown);
+    let found = pie_audit::audit(alloc, watched);
+    report_end(found, output, errors)
 }
 
-/// `pie audit`: audits the files that the options name, or `input` if they name none.
+/// `pie audit`: audits the files that the options name, or `input` if they name none. With `--joined` they are the files
+/// of one history, in its order.
 pub(crate) fn audit<H: NamedFiles + Screen, R: Read + Drop, W: Write, E: Write>(
     rt: &H,
     alloc: Global,
@@ -284,11 +286,18 @@ pub(crate) fn audit<H: NamedFiles + Screen, R: Read + Drop, W: Write, E: Write>(
     output: &mut W,
     errors: &mut E,
 ) -> End
-    ensures { EndsAuditing H.works (is_joined (rows_of (found_of options.now))) (R.remaining input) (H.holds rt.now)
-        (files_in (rows_of (found_of options.now))) result (W.contents output.old) (W.contents output.new) }
+    ensures { EndsAs Subcommand.Audit (rows_of (found_of options.now)) H.works (R.remaining input) (H.holds rt.now) result (W.contents output.old)
+        (W.contents output.new) }
 {
-    match options.get_strs("file") {
-        Some(names) => audit_any(rt, alloc, options, names, input, output, errors),
-        None => audit_any(rt, alloc, options, &[], input, output, errors),
+    let is_shown = shows_progress(rt, options, false);
+    let Some(names) = options.get_strs("file") else {
+        return audit_input(rt, alloc, is_shown, input, output, errors);
+    };
+    if names.is_empty() {
+        return audit_input(rt, alloc, is_shown, input, output, errors);
     }
+    let are_joined = flag(options, "joined");
+    audit_files(
+        rt, alloc, is_shown, are_joined, names, input, output, errors,
+    )
 }

@@ -1,27 +1,25 @@
 //! `pie cut`: the selection by its options, and its end.
-ghost use Rattle.std.specs.Prelude.{◌≡◌, false, true, Some, IfSome, IsSome, codes};
+ghost use Rattle.std.specs.Prelude.{◌≡◌, false, Some, IfSome, codes};
 ghost use Rattle.std.specs.Str.{bytes_eq};
 ghost use Rattle.clap.specs.Words.{found_of, rows_of};
 ghost use Rattle.pie_record.specs.Text.{records_of};
-ghost use Rattle.pie_cut.specs.Last.{HasLast};
 ghost use Rattle.pie_commands.specs.Files.{Opens, text_given};
 ghost use Rattle.pie_commands.specs.Words.{file_in};
-ghost use Rattle.pie_commands.specs.CutEnds.{CutsInto, CutsLast, EndsCut, HasSome, WantsSome, chosen, end_of_cut, cut_request_of, within};
+ghost use Rattle.pie_commands.specs.CutEnds.{CutsInto, CutsLast, HasSome, WantsSome, chosen, end_of_cut, cut_request_of, within};
 ghost use Rattle.pie_commands.specs.Ends.{EndsBy, EndsRead};
+ghost use Rattle.pie_commands.specs.Subcommands.{EndsAs};
+ghost use Rattle.pie_commands.specs.declared.options.subcommand.Subcommand.{Subcommand};
 
-use crate::end::{End, end_failed, end_with_fault, end_with_fault_in, fault, named_fault};
-use crate::files::NamedFiles;
+use crate::end::{End, end_failed, fault};
+use crate::fault_cause::{CUT, end_with_fault_in};
+use crate::files::{NamedFiles, open_input, reader_named};
 use crate::options::{NO_ORDER, bound, file, in_order, number, parsed};
-use crate::perform::{Task, perform_task};
 use crate::progress::{ProgressReader, Screen, shows_progress};
 use clap::ArgMatches;
-use either::{Either, Right};
 use pie_cut::{CutFault, Span, cut_every, last_number};
-use pie_trace::TraceFault;
 use pie_units::When;
 use std::alloc::Global;
 use std::io::{Read, Write};
-use std::time::Clock;
 
 /// The pieces to cut out of a text in one pass.
 #[derive(Clone, Copy)]
@@ -105,13 +103,20 @@ fn cut_request_of<E: Write>(options: &ArgMatches<'_>, errors: &mut E) -> Option<
     wanted
 }
 
-/// Returns the end of a cut with this result. Unless it is `Ok`, writes a line to `errors`.
-pub(crate) fn report_end<E: Write>(errors: &mut E, outcome: Result<u64, CutFault>) -> End
+/// Returns the end of a cut with this result. `name` is the file of the text, if it has one. Unless the result is `Ok`,
+/// writes its lines to `errors`.
+fn report_end<H: NamedFiles, E: Write>(
+    rt: &H,
+    alloc: Global,
+    errors: &mut E,
+    name: Option<&str>,
+    outcome: Result<u64, CutFault>,
+) -> End
     ensures { result ≡ end_of_cut outcome }
 {
     match outcome {
         Ok(_) => End::Done,
-        Err(CutFault::Trace(why)) => end_with_fault(errors, why),
+        Err(CutFault::Trace(why)) => end_with_fault_in(rt, alloc, CUT, errors, name, why),
         Err(CutFault::Differs { event }) => {
             fault(errors, CutFault::Differs { event });
             End::Differs
@@ -121,7 +126,7 @@ pub(crate) fn report_end<E: Write>(errors: &mut E, outcome: Result<u64, CutFault
 }
 
 /// Cuts these pieces out of a text.
-pub(crate) fn cut_out<R: Read + Drop, W: Write>(
+fn cut_out<R: Read + Drop, W: Write>(
     alloc: Global,
     reader: R,
     output: &mut W,
@@ -136,30 +141,27 @@ pub(crate) fn cut_out<R: Read + Drop, W: Write>(
     }
 }
 
-/// Returns the number of the last event of the text in the file of this name, or its fault. If the file can't be opened, writes a line to `errors`
-/// and returns `None`.
-fn last_named<H: NamedFiles + Clock, R: Read + Drop, E: Write>(
+/// Cuts these pieces out of the text in the file that the options name, or in `input`.
+fn cut_pieces<H: NamedFiles + Screen, R: Read + Drop, W: Write, E: Write>(
     rt: &H,
     alloc: Global,
-    is_shown: bool,
-    name: &str,
+    options: &ArgMatches<'_>,
+    pieces: Pieces,
+    input: R,
+    output: &mut W,
     errors: &mut E,
-) -> Option<Result<u64, TraceFault>>
-    ensures last { IfSome result (λ last. IfSome (H.holds rt.now name.now) (λ text. HasLast (records_of text) last)) }
-    ensures opens { H.works ≡ true → IsSome (H.holds rt.now name.now) → IsSome result }
+) -> End
+    requires { HasSome pieces }
+    ensures { EndsRead (Opens H.works (H.holds rt.now) (file_in (rows_of (found_of options.now)))) (EndsBy end_of_cut (CutsInto pieces)
+        (text_given (R.remaining input) (H.holds rt.now) (file_in (rows_of (found_of options.now))))) result (W.contents output.old)
+        (W.contents output.new) }
 {
-    match rt.open_named(name) {
-        Ok(file) => {
-            // The type equals the type of the cut's reader, so reading is compiled once.
-            let reader: Either<R, H::File> = Right(file);
-            let watched = ProgressReader::new(reader, &mut *errors, rt, is_shown);
-            Some(last_number(alloc, watched))
-        }
-        Err(why) => {
-            named_fault(errors, name, why);
-            None
-        }
-    }
+    let Some(reader) = open_input(rt, options, input, errors) else {
+        return End::Unopened;
+    };
+    let watched = ProgressReader::new(reader, &mut *errors, rt, shows_progress(rt, options, true));
+    let outcome = cut_out(alloc, watched, output, pieces);
+    report_end(rt, alloc, errors, file(options), outcome)
 }
 
 /// Cuts the last `many` events out of the file `name`, which the options name. The file is read twice.
@@ -177,14 +179,18 @@ fn cut_last<H: NamedFiles + Screen, R: Read + Drop, W: Write, E: Write>(
         → EndsRead (Opens H.works (H.holds rt.now) (file_in (rows_of (found_of options.now)))) (EndsBy end_of_cut (CutsLast many) (H.holds rt.now name.now)) result
         (W.contents output.old) (W.contents output.new) }
 {
-    let is_shown = shows_progress(rt, options, true);
-    match last_named::<H, R, E>(rt, alloc, is_shown, name, errors) {
-        None => End::Unopened,
-        Some(Err(why)) => end_with_fault_in(errors, name, why),
-        Some(Ok(number)) => {
+    // The type equals the type of the cut's reader, so reading is compiled once.
+    let mut no_input: Option<R> = None;
+    let Some(reader) = reader_named(rt, name, &mut no_input, errors) else {
+        return End::Unopened;
+    };
+    let watched = ProgressReader::new(reader, &mut *errors, rt, shows_progress(rt, options, true));
+    match last_number(alloc, watched) {
+        Ok(number) => {
             let pieces = Pieces::Part(Span::last(number, many));
-            perform_task(rt, alloc, Task::Cut(pieces), options, input, output, errors)
+            cut_pieces(rt, alloc, options, pieces, input, output, errors)
         }
+        Err(why) => end_with_fault_in(rt, alloc, CUT, errors, Some(name), why),
     }
 }
 
@@ -197,13 +203,12 @@ pub(crate) fn cut<H: NamedFiles + Screen, R: Read + Drop, W: Write, E: Write>(
     output: &mut W,
     errors: &mut E,
 ) -> End
-    ensures { EndsCut (Opens H.works (H.holds rt.now) (file_in (rows_of (found_of options.now)))) (rows_of (found_of options.now)) (file_in (rows_of (found_of options.now)))
-        (text_given (R.remaining input) (H.holds rt.now) (file_in (rows_of (found_of options.now)))) result (W.contents output.old)
+    ensures { EndsAs Subcommand.Cut (rows_of (found_of options.now)) H.works (R.remaining input) (H.holds rt.now) result (W.contents output.old)
         (W.contents output.new) }
 {
     match cut_request_of(options, errors) {
         Some(CutRequest::Once(pieces)) => {
-            perform_task(rt, alloc, Task::Cut(pieces), options, input, output, errors)
+            cut_pieces(rt, alloc, options, pieces, input, output, errors)
         }
         Some(CutRequest::Last(many)) => match file(options) {
             Some("-") => end_failed(errors, NO_NAME),

@@ -1,7 +1,7 @@
 //! The end of the program, its exit status, and the lines on the error stream.
 ghost use Rattle.std.specs.Prelude.{◌≡◌, [], OnOk};
 ghost use Rattle.std.specs.Io.KnownBytes.{Appends};
-ghost use Rattle.pie_commands.specs.Ends.{end_of, end_report, end_status, is_unwritten};
+ghost use Rattle.pie_commands.specs.Ends.{end_report, end_status, is_unwritten};
 ghost use Rattle.pie_commands.specs.Files.{is_whole, after_output};
 
 use pie_trace::TraceFault;
@@ -84,16 +84,6 @@ impl End {
     }
 }
 
-/// Returns the end of a run or a migration with this result, and writes the line of a fault to `errors`.
-pub(crate) fn report_end<T: Copy, E: Write>(errors: &mut E, outcome: Result<T, TraceFault>) -> End
-    ensures { result ≡ end_of outcome }
-{
-    match outcome {
-        Ok(_) => End::Done,
-        Err(why) => end_with_fault(errors, why),
-    }
-}
-
 /// Returns the end for a fault and writes its line to `errors`. A writer's fault has no line here: `End::report`
 /// writes it later.
 pub(crate) fn end_with_fault<E: Write>(errors: &mut E, why: TraceFault) -> End
@@ -120,24 +110,6 @@ pub(crate) fn end_failed<E: Write, D: Display + Drop>(errors: &mut E, text: D) -
 {
     fault(errors, text);
     End::Failed
-}
-
-/// Returns the end for a fault of the text in the file `name`, and writes its lines to `errors`.
-pub(crate) fn end_with_fault_in<E: Write>(errors: &mut E, name: &str, why: TraceFault) -> End
-    ensures { result ≡ End.Fault why }
-{
-    let end = end_with_fault(errors, why);
-    name_text(errors, end, Some(name));
-    end
-}
-
-/// After a fault of the text or of its reader, writes the name of the file that has the text, if there is one.
-pub(crate) fn name_text<E: Write>(errors: &mut E, end: End, name: Option<&str>) {
-    if let (End::Fault(why), Some(name)) = (end, name) {
-        if !matches!(why, TraceFault::Write | TraceFault::Memory) {
-            let _ = writeln!(errors, "pie: the text is in {name}");
-        }
-    }
 }
 
 /// Writes the line of a fault. A line that can't be written is passed over.

@@ -3,17 +3,21 @@ ghost use Rattle.std.specs.Prelude.{◌≡◌, IfSome};
 ghost use Rattle.clap.specs.Words.{found_of, rows_of};
 ghost use Rattle.pie_record.specs.Text.{records_of};
 ghost use Rattle.pie_explain.specs.TextAnswer.{ExplainsText};
-ghost use Rattle.pie_commands.specs.Explanations.{selection_of, chosen_events, every_of, is_summary, output_kind_of, output_text, EndsExplain, end_of_explain};
+ghost use Rattle.pie_commands.specs.Subcommands.{EndsAs};
+ghost use Rattle.pie_commands.specs.declared.options.subcommand.Subcommand.{Subcommand};
+ghost use Rattle.pie_commands.specs.Explanations.{selection_of, chosen_events, every_of, is_summary, output_kind_of, output_text, end_of_explain};
 
-use crate::end::{End, end_failed, end_with_fault, fault};
-use crate::options::{NO_ORDER, bound, flag, in_order, moment, number, parsed};
-use crate::progress::ProgressReader;
+use crate::difference::report_difference;
+use crate::end::{End, end_failed, fault};
+use crate::fault_cause::{EXPLAIN, end_with_fault_in};
+use crate::files::{NamedFiles, open_input};
+use crate::options::{NO_ORDER, bound, file, flag, in_order, moment, number, parsed};
+use crate::progress::{ProgressReader, Screen, shows_progress};
 use clap::ArgMatches;
 use pie_explain::{EventChoice, ExplainFault, Form, Records, Selection, Words};
 use pie_summary::{ByFlow, Summaries, SummariesOnly};
 use std::alloc::Global;
 use std::io::{Read, Write};
-use std::time::Clock;
 
 /// The message for options that choose no events.
 const NO_CHOICE: &str =
@@ -169,43 +173,55 @@ fn explain_with<R: Read + Drop, W: Write>(
     }
 }
 
-/// Returns the end of an explanation with this result. Unless it is `Ok`, writes a line to `errors`.
-fn report_end<E: Write>(errors: &mut E, outcome: Result<u64, ExplainFault>) -> End
+/// Returns the end of an explanation with this result. `name` is the file of the text, if it has one. Unless the result
+/// is `Ok`, writes its lines to `errors`.
+fn report_end<H: NamedFiles, E: Write>(
+    rt: &H,
+    alloc: Global,
+    errors: &mut E,
+    name: Option<&str>,
+    outcome: Result<u64, ExplainFault>,
+) -> End
     ensures { result ≡ end_of_explain outcome }
 {
     match outcome {
         Ok(_) => End::Done,
-        Err(ExplainFault::Trace(why)) => end_with_fault(errors, why),
+        Err(ExplainFault::Trace(why)) => {
+            end_with_fault_in(rt, alloc, EXPLAIN, errors, name, why)
+        }
         Err(ExplainFault::Differs { event }) => {
             fault(errors, ExplainFault::Differs { event });
+            if let Some(name) = name {
+                report_difference(rt, alloc, name, event, true, errors);
+            }
             End::Differs
         }
         Err(why) => end_failed(errors, why),
     }
 }
 
-/// `pie explain`: explains the chosen events of a history or an excerpt, up to its first fault or the first event
-/// that differs. Returns a difference as `End::Differs`. If the text has a fault, the options choose no event, no
-/// event matches, or the reader, the writer or memory fails, the end is an error. Each error has a line on
-/// `errors`; a writer's fault is reported later (`End::report`). If it `is_shown`, progress is reported on `errors`
-/// too.
-pub(crate) fn explain<H: Clock, R: Read + Drop, W: Write, E: Write>(
+/// `pie explain`: explains the chosen events of the history or excerpt in the file that the options name, or in `input`,
+/// up to its first fault or the first event that differs. Returns a difference as `End::Differs`. If the text has a
+/// fault, the options choose no event, no event matches, or the reader, the writer or memory fails, the end is an error.
+/// Each error has a line on `errors`; a writer's fault is reported later (`End::report`).
+pub(crate) fn explain<H: NamedFiles + Screen, R: Read + Drop, W: Write, E: Write>(
     rt: &H,
     alloc: Global,
     options: &ArgMatches<'_>,
-    is_shown: bool,
     input: R,
     output: &mut W,
     errors: &mut E,
 ) -> End
-    ensures { EndsExplain (rows_of (found_of options.now)) (R.remaining input) result (W.contents output.old) (W.contents output.new) }
+    ensures { EndsAs Subcommand.Explain (rows_of (found_of options.now)) H.works (R.remaining input) (H.holds rt.now) result (W.contents output.old)
+        (W.contents output.new) }
 {
-    match selection_of(options, errors) {
-        Some(selection) => {
-            let watched = ProgressReader::new(input, &mut *errors, rt, is_shown);
-            let outcome = explain_with(alloc, watched, output, selection, output_kind_of(options));
-            report_end(errors, outcome)
-        }
-        None => End::Failed,
-    }
+    let Some(reader) = open_input(rt, options, input, errors) else {
+        return End::Unopened;
+    };
+    let Some(selection) = selection_of(options, errors) else {
+        return End::Failed;
+    };
+    let watched = ProgressReader::new(reader, &mut *errors, rt, shows_progress(rt, options, true));
+    let outcome = explain_with(alloc, watched, output, selection, output_kind_of(options));
+    report_end(rt, alloc, errors, file(options), outcome)
 }

@@ -1,11 +1,14 @@
 //! Files by their names: the interface that opens, creates and moves them, the files that are read, and an output file
 //! that is created, and then moved onto its name or left.
 ghost use Rattle.std.specs.Prelude.{◌≡◌, ℕ, false, true, Bool, List, Option, IfErr, IfOk, IfSome, IsOk, IsSome, None, Some, option_map};
+ghost use Rattle.clap.specs.Words.{found_of, rows_of};
 ghost use Rattle.either.specs.Either.{either};
-ghost use Rattle.pie_commands.specs.Files.{CanOpen, CanRead, IsEmpty, IsHindered, Keeps, KeepsBut, MayHave, ReadsNamed, Settles, file_of, left_for, text_given};
+ghost use Rattle.pie_commands.specs.Files.{CanOpen, IsEmpty, IsHindered, Keeps, KeepsBut, MayHave, Opens, ReadsNamed, Settles, file_of, left_for, text_given};
+ghost use Rattle.pie_commands.specs.Words.{file_in};
 
 use crate::end::{fault, named_fault};
-use crate::options::file_of;
+use crate::options::{file, file_of};
+use clap::ArgMatches;
 use either::{Either, Left, Right};
 use std::io;
 use std::io::{Read, Write};
@@ -33,6 +36,10 @@ pub trait NamedFiles {
     fn open_named(&self, name: &str) -> io::Result<Self::File>
         ensures opened { IfOk result (λ file. Self.File.remaining file ≡ holds self.now name.now) }
         ensures works { works ≡ true → IsSome (holds self.now name.now) → IsOk result };
+
+    /// Opens the file of this name to read it once more. `None` if it can't be opened, or if a second reading does not
+    /// return the same bytes, as with a pipe.
+    fn open_again(&self, name: &str) -> Option<Self::File>;
 
     /// Returns true if `name` leads to the file `other`, under any name, or to standard input if `other` is `None`.
     fn is_same_file(&self, name: &str, other: Option<&str>) -> bool
@@ -107,18 +114,19 @@ pub(crate) fn reader_named<H: NamedFiles, R: Read + Drop, E: Write>(
     }
 }
 
-/// Returns the reader of a subcommand that reads one text: the named `file`, or `input` if no file is named.
-pub(crate) fn reader_of<H: NamedFiles, R: Read + Drop, E: Write>(
+/// Opens the input of a subcommand that reads one text: the file that the options name, or `input` if they name none. If
+/// it can't be opened, a line is written to `errors` and the result is `None`.
+pub(crate) fn open_input<H: NamedFiles, R: Read + Drop, E: Write>(
     rt: &H,
-    file: Option<&str>,
+    options: &ArgMatches<'_>,
     input: R,
     errors: &mut E,
 ) -> Option<Either<R, H::File>>
     ensures reads { IfSome result (λ reader. either R.remaining H.File.remaining reader
-        ≡ text_given (R.remaining input) (H.holds rt.now) (option_map (λ name. name.now) file.entry)) }
-    ensures opens { H.works ≡ true → CanRead (H.holds rt.now) (option_map (λ name. name.now) file.entry) → IsSome result }
+        ≡ text_given (R.remaining input) (H.holds rt.now) (file_in (rows_of (found_of options.now)))) }
+    ensures opens { Opens H.works (H.holds rt.now) (file_in (rows_of (found_of options.now))) → IsSome result }
 {
-    match file {
+    match file(options) {
         Some(name) => {
             let mut stdin = Some(input);
             reader_named(rt, name, &mut stdin, errors)

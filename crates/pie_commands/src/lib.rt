@@ -1,8 +1,9 @@
-//! The command line of `pie`. `options` parses the arguments, `files` opens and creates the named files, and `perform`
-//! runs a subcommand. `command` runs the whole program.
+//! The command line of `pie`. `command` runs the whole program: it parses the arguments, and `dispatch` calls the function
+//! of the subcommand. Each subcommand has a file and a function of its name. `options` has the parser of the arguments,
+//! and `files` opens and creates the named files.
 //!
 //! Each subcommand returns an `End`. Contracts relate the end to the text that was read, the text that was written
-//! and the exit status. The output goes to the caller's writer, or to a file that `perform_to_file` creates. This file
+//! and the exit status. The output goes to the caller's writer, or to a file that `dispatch_to_file` creates. This file
 //! moves to the name given by `-o` once the output is complete.
 //!
 //! `NamedFiles` opens, creates and moves files; `HostRuntime` implements it for the system's files. `create_output`
@@ -17,14 +18,18 @@
 
 mod audit;
 mod cut;
+mod difference;
+mod dispatch;
 mod end;
 mod explain;
+mod fault_cause;
 mod files;
+mod migrate;
 mod options;
 mod params;
-mod perform;
 mod program;
 mod progress;
+mod run;
 mod storm;
 mod system_files;
 

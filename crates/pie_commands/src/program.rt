@@ -10,10 +10,10 @@ ghost use Rattle.pie_commands.specs.declared.end.End.{End};
 ghost use Rattle.pie_commands.specs.Ends.{status_of};
 ghost use Rattle.pie_commands.specs.Subcommands.{Answers, BeginsNothing, EndsTo, FindsMatches, may_differ};
 
+use crate::dispatch::{dispatch, dispatch_to_file, output_for};
 use crate::end::{End, end_failed, end_unable, end_with_fault};
 use crate::files::NamedFiles;
 use crate::options::{Subcommand, options};
-use crate::perform::perform_subcommand;
 use crate::progress::Screen;
 use clap::error::ErrorKind;
 use clap::{ArgMatches, Error};
@@ -66,7 +66,7 @@ pub fn command<H: Threads + Wait + Sync + NamedFiles + Screen, R: Read + Drop, W
         (W.contents output.old) (W.contents output.new) }
 {
     let found = matches_of(alloc, words);
-    let end = perform_matches(rt, alloc, &found, input, output, errors);
+    let end = perform(rt, alloc, &found, input, output, errors);
     drop(found);
     end
 }
@@ -78,13 +78,9 @@ fn matches_of<'a>(alloc: Global, words: &'a [String]) -> Result<ArgMatches<'a>, 
     options(alloc)?.try_get_matches_from(words)
 }
 
-/// Performs the subcommand of the command line, or writes the help or the message of `clap`.
-fn perform_matches<
-    H: Threads + Wait + Sync + NamedFiles + Screen,
-    R: Read + Drop,
-    W: Write,
-    E: Write,
->(
+/// Performs the subcommand of the command line, whose output goes to `output` or to the file that its options name. Without
+/// a subcommand, writes the help or the message of `clap`.
+fn perform<H: Threads + Wait + Sync + NamedFiles + Screen, R: Read + Drop, W: Write, E: Write>(
     rt: &mut H,
     alloc: Global,
     found: &Result<ArgMatches<'_>, Error>,
@@ -95,14 +91,16 @@ fn perform_matches<
     ensures { (words : List Text) → FindsMatches words found.now
         → Answers words H.works (R.remaining input) H.fresh (H.holds rt.old) (H.holds rt.new) result (W.contents output.old) (W.contents output.new) }
 {
-    match found {
-        Ok(matches) => match chosen_subcommand(matches) {
-            Some((subcommand, options)) => {
-                perform_subcommand(rt, alloc, subcommand, options, input, output, errors)
-            }
-            None => end_failed(errors, "no subcommand"),
-        },
-        Err(why) => mistake(why, output, errors),
+    let matches = match found {
+        Ok(matches) => matches,
+        Err(why) => return mistake(why, output, errors),
+    };
+    let Some((subcommand, options)) = chosen_subcommand(matches) else {
+        return end_failed(errors, "no subcommand");
+    };
+    match output_for(subcommand, options) {
+        None => dispatch(&*rt, alloc, subcommand, options, input, output, errors),
+        Some(name) => dispatch_to_file(rt, alloc, subcommand, options, name, input, errors),
     }
 }
 

@@ -94,7 +94,7 @@ fn numbers_of(options: &ArgMatches<'_>, elements: Elements) -> StormNumbers
 /// `pie storm`: runs the storm of these options, audits its events and writes their history. If a text names no
 /// choice, the end is `Failed`; if memory or a thread is missing, `CannotStart`; if the writer fails or memory is short
 /// meanwhile, a fault; otherwise `Done`.
-pub(crate) fn run_storm<H: Threads + Wait + Clock + Sync, W: Write, E: Write>(
+pub(crate) fn storm<H: Threads + Wait + Clock + Sync, W: Write, E: Write>(
     rt: &H,
     alloc: Global,
     options: &ArgMatches<'_>,

@@ -1,4 +1,5 @@
 mod Names
+pub mod LoopFacts
 pub mod TextFacts
 mod PartFacts
 mod Examples

@@ -2,7 +2,7 @@
 pub use Rattle.pie_audit.proofs.AuditorFacts.{Audits-finding, IsAmong, count-push, event_count-append, few_lines, made-count, named-within, stands-count}
 pub use Rattle.pie_audit.proofs.LegalFacts.{all-made, difference-push, difference_here, event_count-push, events_of-none, first_difference-push}
 pub use Rattle.pie_audit.proofs.LegalFacts.{legal-clean, legal-of-clean, line_places-push, made-events, none_of}
-pub use Rattle.pie_audit.proofs.ProcessorFacts.{begins-goes, begun-found, begun-of, one-value, processed-found, text-past}
+pub use Rattle.pie_audit.proofs.ProcessorFacts.{begins-goes, begun-fails, begun-found, begun-of, one-value, processed-fault, processed-found, processed-text, processed-visited, text-past}
 pub use Rattle.pie_audit.specs.{Finding.agrees, Finding.event_in, Finding.finding_by, Origin.agrees_after}
 pub use Rattle.pie_audit.specs.Text.{FindsAfter, IsTextAfter, lines_after}
 pub use Rattle.pie_book.specs.Snapshot.{core_of}

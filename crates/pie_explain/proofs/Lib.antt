@@ -2,3 +2,4 @@ mod Names
 mod Examples
 pub mod WordFacts
 pub mod ExplainFacts
+pub mod DecidedFacts

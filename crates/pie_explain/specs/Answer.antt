@@ -1,6 +1,6 @@
 -- The result of an explanation: as the audit's, or an error if no event was explained.
 use Rattle.std.specs.Prelude.{◌≡◌, ◌==◌, ◌≤◌, nat_le, ◌&&◌, Ok, if◌then◌else◌}
-use Rattle.pie_explain.specs.Names.{ℕ, nat_lt, List, length, Bool, true, false, Option, Some, None, Result, Err, Appends, TraceFault, Line}
+use Rattle.pie_explain.specs.Names.{ℕ, nat_lt, List, length, Bool, true, false, Option, Some, None, Result, Err, Appends, append_known, TraceFault, Line}
 use Rattle.pie_explain.specs.Names.{Finding, AuditsFrom, AuditorView, count_after, Explained, Setter, Selection, is_whole, Start, Origin}
 use Rattle.pie_record.specs.Fault.{is_io_or_memory}
 use Rattle.pie_audit.specs.declared.auditor.Finding.TheVariants.{Clean}
@@ -35,6 +35,10 @@ abbrev pub answered : Selection → ℕ → ℕ → Finding → Result ℕ Expla
 answered selection before explained (finding.Differs event) = Err (Differs event)
 answered selection before explained (Clean events) = if explained == 0 then none_picked (is_whole selection) selection.which before events else Ok explained
 
+-- the result for a fault
+abbrev pub traced : TraceFault → Result ℕ ExplainFault
+traced why = Err (Trace why)
+
 -- the result for these lines after `origin` and the fault after them. `start` gives the number of events before the
 -- text
 abbrev pub answer_since : Selection → Start → Origin → List Line → Option TraceFault → Result ℕ ExplainFault
@@ -60,6 +64,13 @@ pub record Explains (start : Start) (origin : Origin) (selection : Selection) (t
   pub few : explained ≤ count_after origin lines
   pub shown : shows (explanations_since start origin selection lines)
   pub written : Appends before now (tale (explanations_since start origin selection lines))
+
+-- the state after these lines: of a replay, the number of explained events, and the page, of which the writer's contents
+-- grew from `before` to `now`
+abbrev pub IsExplaining : Selection → (List Explained → List ℕ) → (List Explained → Type 0) → Start → Origin → List Line → Replay → ℕ → List ℕ
+    → Option (List ℕ) → Option (List ℕ) → Type 0
+IsExplaining selection tale shows start origin lines replay explained page before now = (start.events ≡ replay.before)
+    × Explains start origin selection tale shows lines replay.auditor replay.set_by explained before (append_known now page)
 
 -- the output: the whole text for the chosen events of the text
 abbrev pub IsExplanationText : Selection → (List Explained → List ℕ) → Start → Origin → List Line → List ℕ → Type 0

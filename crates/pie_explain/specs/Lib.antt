@@ -7,6 +7,7 @@ pub mod Report
 pub mod Output
 pub mod Names
 pub mod Explanations
+pub mod DecidedEvent
 pub mod Answer
 pub mod TextAnswer
 unfoldable pub use Names.*

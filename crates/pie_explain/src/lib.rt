@@ -13,6 +13,7 @@
 #![tactic(auto)]
 
 mod choice;
+mod decided_event;
 mod explainer;
 mod explanation;
 mod fault;
@@ -26,6 +27,7 @@ mod text_cache;
 mod units;
 
 pub use choice::EventChoice;
+pub use decided_event::{DecidedEvent, EventDecision, decide_event};
 pub use explainer::{explain, increase};
 pub use explanation::{Explained, Explanation, moment_of};
 pub use fault::ExplainFault;

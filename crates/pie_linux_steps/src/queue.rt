@@ -1,5 +1,6 @@
 //! A queue whose steps are decided again.
 use crate::difference::{Difference, first_difference, state_difference, stats_difference};
+use crate::loss::{Loss, Why};
 use crate::row::{Column, Kind, Row};
 use pie_linux::{
     LinuxArrival, LinuxCause, LinuxDeparture, LinuxParams, LinuxState, LinuxStats, MarkLimit,
@@ -159,15 +160,20 @@ impl Queue {
         })
     }
 
-    /// Decides a step again. Returns the first number that differs from the recorded one.
-    pub fn step(&mut self, row: &Row) -> Result<Option<Difference>, AllocError> {
+    /// Decides a step again. Returns the first number that differs from the recorded one. Adds the packets that the step
+    /// dropped to `losses`.
+    pub fn step(
+        &mut self,
+        row: &Row,
+        losses: &mut Vec<Loss>,
+    ) -> Result<Option<Difference>, AllocError> {
         match row.kind {
-            Kind::Enqueue => self.arrive(row),
+            Kind::Enqueue => self.arrive(row, losses),
             Kind::Dequeue => Ok(self.depart(row)),
             Kind::Update => Ok(self.update(row)),
             Kind::Timer => Ok(self.begin_round(row)),
-            Kind::Change => Ok(self.change(row)),
-            Kind::Reset => Ok(self.reset(row)),
+            Kind::Change => self.change(row, losses),
+            Kind::Reset => self.reset(row, losses),
             Kind::Flow => Ok(self.resume_flow(row)),
             Kind::Wait => self.resume_packet(row),
             Kind::Init | Kind::Resume | Kind::Destroy | Kind::Other => Ok(None),
@@ -224,7 +230,11 @@ impl Queue {
     }
 
     /// Decides an arrival again.
-    fn arrive(&mut self, row: &Row) -> Result<Option<Difference>, AllocError> {
+    fn arrive(
+        &mut self,
+        row: &Row,
+        losses: &mut Vec<Loss>,
+    ) -> Result<Option<Difference>, AllocError> {
         let (length, bytes) = self.counted(row.number(Column::BytesBefore));
         let place = self.flow(row);
         let has_flows = row.has_flows;
@@ -235,10 +245,15 @@ impl Queue {
             }));
         };
         let backlog = if has_flows { flow.backlog } else { bytes };
+        let before = flow.state;
         let cause = flow
             .state
             .enqueue(&self.params, arrival_of(row, length, backlog));
         let state = flow.state;
+        if !cause.is_queued() {
+            let size = row.number_32(Column::PacketLength);
+            losses.push(loss(row, size, Why::Decided(cause), &before, (length, bytes)))?;
+        }
         let truesize = row.number_32(Column::TrueSize);
         let memory = self.memory;
         if has_flows
@@ -382,16 +397,33 @@ impl Queue {
     }
 
     /// Changes the parameters. pie drops the packets above a lower limit here; fq_pie's drops are departures.
-    fn change(&mut self, row: &Row) -> Option<Difference> {
+    fn change(
+        &mut self,
+        row: &Row,
+        losses: &mut Vec<Loss>,
+    ) -> Result<Option<Difference>, AllocError> {
         self.params = params_of(row);
         if row.has_flows {
             self.memory_limit = row.number_32(Column::TrueSize);
-            return None;
+            return Ok(None);
         }
         let count = excess(self.length, self.params.limit);
         for _ in 0..count {
-            let _ = self.remove(0);
+            let waiting = (self.length, self.bytes);
+            if let (Some(packet), Some(state)) = (self.remove(0), self.state()) {
+                losses.push(loss(row, packet.length, Why::Change, &state, waiting))?;
+            }
         }
+        Ok(self.change_difference(row, count))
+    }
+
+    /// Returns the state of the first flow, which is pie's.
+    fn state(&self) -> Option<LinuxState> {
+        self.flows.first().map(|flow| flow.state)
+    }
+
+    /// Compares pie's numbers after a change, which dropped `count` packets.
+    fn change_difference(&self, row: &Row, count: u32) -> Option<Difference> {
         first_difference(
             row,
             &[
@@ -400,16 +432,20 @@ impl Queue {
             ],
         )
         .or(stats_difference(row, &self.stats))
-        .or(
-            self.flows
-                .first()
-                .and_then(|flow| state_difference(row, &flow.state)),
-        )
+        .or(self.state().and_then(|state| state_difference(row, &state)))
     }
 
     /// Resets the queue: all packets are dropped, and the flows keep the numbers that a reset does not change.
-    fn reset(&mut self, row: &Row) -> Option<Difference> {
+    fn reset(
+        &mut self,
+        row: &Row,
+        losses: &mut Vec<Loss>,
+    ) -> Result<Option<Difference>, AllocError> {
+        let waiting = (self.length, self.bytes);
         for flow in self.flows.iter_mut() {
+            for packet in flow.waiting.iter() {
+                losses.push(loss(row, packet.length, Why::Reset, &flow.state, waiting))?;
+            }
             flow.waiting.clear();
             flow.state.restart();
             flow.listed = false;
@@ -421,13 +457,25 @@ impl Queue {
         self.bytes = 0;
         self.peeked = None;
         if row.has_flows {
-            return None;
+            return Ok(None);
         }
-        stats_difference(row, &self.stats).or(
-            self.flows
-                .first()
-                .and_then(|flow| state_difference(row, &flow.state)),
-        )
+        Ok(stats_difference(row, &self.stats).or(
+            self.state().and_then(|state| state_difference(row, &state)),
+        ))
+    }
+}
+
+/// Returns the loss of a packet in a step, from its bytes, the cause, the state before it, and the packets and bytes that
+/// waited.
+fn loss(row: &Row, bytes: u32, why: Why, state: &LinuxState, waiting: (u32, u32)) -> Loss {
+    Loss {
+        step: row.number(Column::Number),
+        moment: row.number(Column::Moment),
+        bytes,
+        why,
+        state: *state,
+        length: waiting.0,
+        backlog: waiting.1,
     }
 }
 

@@ -5,7 +5,7 @@ use std::alloc::{AllocError, Global};
 /// A column with numbers.
 #[derive(Clone, Copy, PartialEq, Eq)]
 pub enum Column {
-    Queue,
+    Moment,
     Flow,
     Backlog,
     Size,
@@ -62,7 +62,7 @@ const COUNT: usize = 50;
 
 /// The names of the columns, in the order of [`Column`].
 const NAMES: [&str; COUNT] = [
-    "qid",
+    "ns",
     "flow",
     "backlog",
     "size",
@@ -168,21 +168,20 @@ fn kind_of(word: &str) -> Kind {
     }
 }
 
-/// Returns the field's number: hexadecimal in the columns of identifiers and headers, otherwise decimal. An empty field
+/// Returns the field's number: hexadecimal in the columns of headers, otherwise decimal. An empty field
 /// is 0. A field that is no number, as -1 for no flow, has the greatest one.
 fn number_of(column: usize, field: &str) -> u64 {
     if field.is_empty() {
         return 0;
     }
-    let is_hexadecimal = column == Column::Queue as usize
-        || column == Column::Protocol as usize
-        || column == Column::Header as usize;
+    let is_hexadecimal = column == Column::Protocol as usize || column == Column::Header as usize;
     u64::from_str_radix(field, if is_hexadecimal { 16 } else { 10 }).unwrap_or(u64::MAX)
 }
 
 /// The places of the columns in a row.
 #[derive(Drop)]
 pub struct Columns {
+    queue: usize,
     kind: usize,
     family: usize,
     numbers: Vec<usize>,
@@ -206,14 +205,33 @@ impl Columns {
             };
             numbers.push(place)?;
         }
+        let Some(queue) = place_of(names, "qid") else {
+            return Ok(Err("qid"));
+        };
         let (Some(family), Some(kind)) = (place_of(names, "kind"), place_of(names, "type")) else {
             return Ok(Err("kind or type"));
         };
         Ok(Ok(Columns {
+            queue,
             kind,
             family,
             numbers,
         }))
+    }
+
+    /// Returns the queue and the number of its steps that were lost, if the row has these.
+    pub fn lost<'f>(&self, fields: &'f StringRecord) -> Option<(&'f str, u64)> {
+        match (fields.get(0), fields.get(1), fields.get(2)) {
+            (Some("lost"), Some(number), Some(queue)) => {
+                Some((queue, number.parse().unwrap_or(u64::MAX)))
+            }
+            _ => None,
+        }
+    }
+
+    /// Returns the name of the queue of a row.
+    pub fn queue<'f>(&self, fields: &'f StringRecord) -> &'f str {
+        fields.get(self.queue).unwrap_or("")
     }
 
     /// Reads a row.

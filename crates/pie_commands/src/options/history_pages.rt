@@ -19,6 +19,8 @@ The output is one line:
                    the last event. Status 0.
   differs,<event>  The number of the first event that is not: its command would be refused there,
                    its answer is another one, or it sets parameters out of range. Status 2.
+                   For a named file, standard error then has the event's record, the record
+                   that the rules give there, and the command that explains it.
 
 A full event log is no reason to refuse a command in an audit, because a fold can make room at any
 time. A history that begins with open2 or open3 is decided with the profile and the elements of that
@@ -116,10 +118,11 @@ Times are in nanoseconds, and probabilities in units of 10^-12. A field that an 
 is empty.
 
 If an event is not the one that the rules give at its place, the selected events before it are
-explained, standard error names the event, and the status is 2. If a record cannot be read, the
-status is 1. It is also 1 if the event of --event or each packet of --tag is missing, or lies
-outside --from and --to. With -o FILE the output is moved to FILE when it is complete, also with
-status 2. pie run --help describes -o.
+explained, standard error names the event, and the status is 2. For a named file, standard error
+then has the event's record, the record that the rules give there, and the explanation of that
+event. If a record cannot be read, the status is 1. It is also 1 if the event of --event or each
+packet of --tag is missing, or lies outside --from and --to. With -o FILE the output is moved to
+FILE when it is complete, also with status 2. pie run --help describes -o.
 
 Example: why was a packet lost? The file trace has the trace of the example of pie run --help:
 

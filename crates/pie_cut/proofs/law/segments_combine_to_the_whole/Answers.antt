@@ -1,5 +1,5 @@
-use Rattle.pie_cut.proofs.Names.{[], at_core, at_opening, text_lines, made-count, map, refl, start_after, start_at, Valid}
-use Rattle.pie_cut.proofs.Names.{arith, ◌≤◌, event_count}
+use Rattle.pie_cut.proofs.Names.{[], at_core, at_opening, text_lines, made-count, map, start_after, start_at, Valid}
+use Rattle.pie_cut.proofs.Names.{arith}
 use Rattle.pie_cut.proofs.{JoinedFacts.agree-none, JoinedFacts.agree-past, JoinedFacts.is-chain, TextFacts.text-fits, TextFacts.part-fits}
 use Rattle.pie_cut.proofs.TextFacts.{valid-accepted}
 use Rattle.pie_cut.specs.{MayBegin}

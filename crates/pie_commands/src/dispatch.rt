@@ -1,0 +1,90 @@
+//! The call of a subcommand's function, whose output goes to the caller's writer or to a new file.
+ghost use Rattle.std.specs.Prelude.{◌≡◌, option_map};
+ghost use Rattle.clap.specs.Words.{found_of, rows_of};
+ghost use Rattle.pie_commands.specs.Files.{EndsAt, file_of};
+ghost use Rattle.pie_commands.specs.Words.{file_in, is_forced};
+ghost use Rattle.pie_commands.specs.Subcommands.{EndsAs, output_for};
+
+use crate::audit::audit;
+use crate::cut::cut;
+use crate::end::End;
+use crate::explain::explain;
+use crate::files::{NamedFiles, create_output, finish_output};
+use crate::migrate::migrate;
+use crate::options::{Subcommand, file, flag, output};
+use crate::params::params;
+use crate::progress::Screen;
+use crate::run::run;
+use crate::storm::storm;
+use clap::ArgMatches;
+use std::alloc::Global;
+use std::io::{Read, Write};
+use std::marker::Sync;
+use std::sync::Wait;
+use std::thread::Threads;
+
+/// Calls the function of a subcommand with its options. The subcommand writes to `output`.
+pub(crate) fn dispatch<
+    H: Threads + Wait + Sync + NamedFiles + Screen,
+    R: Read + Drop,
+    W: Write,
+    E: Write,
+>(
+    rt: &H,
+    alloc: Global,
+    subcommand: Subcommand,
+    options: &ArgMatches<'_>,
+    input: R,
+    output: &mut W,
+    errors: &mut E,
+) -> End
+    ensures { EndsAs subcommand (rows_of (found_of options.now)) H.works (R.remaining input) (H.holds rt.now) result (W.contents output.old)
+        (W.contents output.new) }
+{
+    match subcommand {
+        Subcommand::Run => run(rt, alloc, options, input, output, errors),
+        Subcommand::Audit => audit(rt, alloc, options, input, output, errors),
+        Subcommand::Explain => explain(rt, alloc, options, input, output, errors),
+        Subcommand::Cut => cut(rt, alloc, options, input, output, errors),
+        Subcommand::Migrate => migrate(rt, alloc, options, input, output, errors),
+        Subcommand::Storm => storm(rt, alloc, options, output, errors),
+        Subcommand::Params => params(options, output, errors),
+    }
+}
+
+/// Calls the function of a subcommand with a new file as its output. The file moves onto `name` once the output is
+/// complete.
+pub(crate) fn dispatch_to_file<
+    H: Threads + Wait + Sync + NamedFiles + Screen,
+    R: Read + Drop,
+    E: Write,
+>(
+    rt: &mut H,
+    alloc: Global,
+    subcommand: Subcommand,
+    options: &ArgMatches<'_>,
+    name: &str,
+    input: R,
+    errors: &mut E,
+) -> End
+    ensures { EndsAt H.works (file_of (file_in (rows_of (found_of options.now)))) (is_forced (rows_of (found_of options.now))) name.now H.fresh
+        (H.holds rt.old) (H.holds rt.new) (EndsAs subcommand (rows_of (found_of options.now)) H.works (R.remaining input) (H.holds rt.old)) result }
+{
+    let is_forced = flag(options, "force");
+    let Some(mut fresh) = create_output(rt, name, file(options), is_forced, errors) else {
+        return End::NoOutputFile;
+    };
+    let end = dispatch(&*rt, alloc, subcommand, options, input, &mut fresh, errors);
+    let is_there = finish_output(rt, fresh, name, is_forced, end.is_whole(), errors);
+    end.after_output(is_there)
+}
+
+/// Returns the name of the file that a subcommand writes instead of the caller's writer.
+pub(crate) fn output_for<'a>(subcommand: Subcommand, options: &ArgMatches<'a>) -> Option<&'a str>
+    ensures { option_map (λ name. name.now) result ≡ output_for subcommand (rows_of (found_of options.now)) }
+{
+    match subcommand {
+        Subcommand::Audit | Subcommand::Storm | Subcommand::Params => None,
+        _ => output(options),
+    }
+}

@@ -1,0 +1,138 @@
+//! The causes in the first record of a text.
+ghost use Rattle.std.specs.Prelude.{◌≤◌};
+
+use crate::cause::FieldCause;
+use crate::field::Field;
+use crate::fields::Form;
+use crate::permitted::Permitted;
+use crate::queue::number_in;
+use crate::refused::refused_in;
+use pie_params::Field as Parameter;
+use pie_record::OpenFault;
+use pie_record::field::{has_word, is_kind};
+use pie_record::record::Record;
+use pie_record::words::Kind;
+
+/// The greatest moment, in nanoseconds.
+pub(crate) const MAX_MOMENT: u64 = (1 << 60) - 1;
+
+/// The greatest number of events in the event log.
+const MAX_TAIL: u64 = 1 << 20;
+
+/// Returns true if a record begins an excerpt.
+pub(crate) fn is_resume(row: &Record) -> bool {
+    has_word(row, 0, b"resume")
+}
+
+/// Returns true if a first record is of version three.
+pub(crate) fn is_of_version_three(row: &Record) -> bool {
+    is_kind(row, Kind::Open3) || is_resume(row)
+}
+
+/// Returns the place of the opening's moment in a first record. The limits, the parameters and the state follow it.
+pub(crate) fn moment_place(row: &Record) -> usize
+    ensures { result ≤ 8 }
+{
+    if is_kind(row, Kind::Open) || is_kind(row, Kind::Rolling) {
+        return 1;
+    }
+    if is_kind(row, Kind::Open2) {
+        return 3;
+    }
+    match row.len() {
+        12 | 21 | 61 => 8,
+        _ => 7,
+    }
+}
+
+/// Returns the form of a first record, if its kind is one of a first record.
+pub(crate) fn first_form(row: &Record) -> Option<Form> {
+    if is_kind(row, Kind::Open) || is_kind(row, Kind::Rolling) {
+        Some(Form::Opening)
+    } else if is_kind(row, Kind::Open2) {
+        Some(Form::Opening2)
+    } else if is_kind(row, Kind::Open3) {
+        Some(Form::Opening3)
+    } else if !is_resume(row) {
+        None
+    } else if has_word(row, moment_place(row) + 33, b"0") {
+        Some(Form::ResumeWithoutCycle)
+    } else {
+        Some(Form::Resume)
+    }
+}
+
+/// Returns the cause of a first record with a field that is not allowed: the first such field, or else the field of a `resume` record that another of its fields bounds.
+pub(crate) fn number_cause(row: &Record) -> Option<FieldCause> {
+    let fields = first_form(row)?.fields(row.len())?;
+    match refused_in(row, fields) {
+        Some(refused) => Some(FieldCause::refused(row, refused)),
+        None if is_resume(row) => Some(bound_cause(row)),
+        None => None,
+    }
+}
+
+/// Returns the field of a `resume` record that another of its fields bounds.
+fn bound_cause(row: &Record) -> FieldCause {
+    let at = moment_place(row);
+    let (opened, count) = (number_in(row, at), number_in(row, at + 22));
+    if count < number_in(row, at + 23) {
+        return FieldCause::new(row, at + 23, Field::SetBy, Permitted::up_to(count));
+    }
+    if MAX_MOMENT < opened {
+        return FieldCause::new(row, at, Field::Moment, Permitted::up_to(MAX_MOMENT));
+    }
+    let permitted = Permitted::between(opened, MAX_MOMENT);
+    FieldCause::new(row, at + 26, Field::Moment, permitted)
+}
+
+/// Returns the cause of an opening that is not accepted.
+pub(crate) fn opening_cause(row: &Record, why: OpenFault) -> FieldCause {
+    let at = moment_place(row);
+    match why {
+        OpenFault::Param(parameter) => parameter_cause(row, at + 4, parameter),
+        OpenFault::Limits => limits_cause(row, at + 1),
+        OpenFault::Moment => FieldCause::new(row, at, Field::Moment, Permitted::up_to(MAX_MOMENT)),
+    }
+}
+
+/// Returns the cause of a parameter out of its range, among the nine from the place `from` on.
+pub(crate) fn parameter_cause(row: &Record, from: usize, parameter: Parameter) -> FieldCause
+    requires { from ≤ 64 }
+{
+    let (number, permitted) = match parameter {
+        Parameter::Target => (0, Permitted::between(2, 10_000_000_000)),
+        Parameter::TUpdate => (1, Permitted::between(1, 10_000_000_000)),
+        Parameter::MaxBurst => (2, Permitted::up_to(1_000_000_000_000)),
+        Parameter::Alpha => (3, Permitted::up_to(1_000_000)),
+        Parameter::Beta => (4, Permitted::up_to(1_000_000)),
+        Parameter::MeanPkt => (5, Permitted::between(1, 65535)),
+        Parameter::LimitBytes => (6, Permitted::between(1, 1 << 30)),
+        Parameter::MarkEcnth => (7, Permitted::up_to(1_000_000_000_000)),
+        Parameter::DqThreshold => (8, Permitted::Thresholds),
+    };
+    FieldCause::new(row, from + number, Field::Parameter(parameter), permitted)
+}
+
+/// Returns the cause of limits out of their ranges: the first such limit, among the three from the place `from` on.
+pub(crate) fn limits_cause(row: &Record, from: usize) -> FieldCause
+    requires { from ≤ 64 }
+{
+    let (packets, events) = if is_of_version_three(row) {
+        (1 << 20, 1 << 47)
+    } else {
+        (65536, 1 << 40)
+    };
+    if !is_between(number_in(row, from), packets) {
+        return FieldCause::new(row, from, Field::Packets, Permitted::between(1, packets));
+    }
+    if !is_between(number_in(row, from + 1), MAX_TAIL) {
+        return FieldCause::new(row, from + 1, Field::Tail, Permitted::between(1, MAX_TAIL));
+    }
+    FieldCause::new(row, from + 2, Field::Events, Permitted::between(1, events))
+}
+
+/// Returns true if the number is between 1 and `most`.
+fn is_between(number: u64, most: u64) -> bool {
+    1 <= number && number <= most
+}

@@ -1,0 +1,32 @@
+//! Files that are no text of records, by their first bytes.
+
+/// A property of a whole file.
+#[derive(Clone, Copy)]
+pub enum Hint {
+    /// The file is empty.
+    Empty,
+    /// The file has only empty lines.
+    NoRecord,
+    /// The file is compressed by gzip.
+    Gzip,
+    /// The file is a packet capture, in the format pcap or pcapng.
+    Capture,
+    /// The file is a text in UTF-16.
+    Utf16,
+}
+
+impl Hint {
+    /// Returns the property of a file with these first bytes, if it is certain.
+    pub(crate) fn of(first: [u8; 4]) -> Option<Hint> {
+        match first {
+            [0x1f, 0x8b, _, _] => Some(Hint::Gzip),
+            [0xa1, 0xb2, 0xc3, 0xd4]
+            | [0xd4, 0xc3, 0xb2, 0xa1]
+            | [0xa1, 0xb2, 0x3c, 0x4d]
+            | [0x4d, 0x3c, 0xb2, 0xa1]
+            | [0x0a, 0x0d, 0x0d, 0x0a] => Some(Hint::Capture),
+            [0xff, 0xfe, _, _] | [0xfe, 0xff, _, _] => Some(Hint::Utf16),
+            _ => None,
+        }
+    }
+}

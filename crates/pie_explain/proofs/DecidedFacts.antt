@@ -1,0 +1,198 @@
+-- Facts about the event that a reader decides again: no line before it is the first difference with its number.
+use Rattle.std.proofs.Common.{◌∙◌, ap, append_assoc, refl, subst, sym}
+use Rattle.std.specs.Option.{option_or}
+use Rattle.std.specs.Prelude.{ℕ, Bool, true, false, List, [], Option, Some, None, Result, Ok, Err, IfSome, map, if◌then◌else◌, ◌≡◌, ◌+◌, ◌∷◌, ◌++◌}
+use Rattle.pie_aqm.specs.Steps.{delay_in}
+use Rattle.pie_explain.proofs.Names.{along-push, difference-push}
+use Rattle.pie_audit.specs.Auditor.{AuditorView}
+use Rattle.pie_audit.specs.Beginnings.{ReplaysText}
+use Rattle.pie_audit.specs.Finding.{difference_from, differs_from, finding_by, line_places}
+use Rattle.pie_audit.specs.Origin.{Origin, RepresentsAfter, at_core, at_opening, count_after}
+use Rattle.pie_audit.specs.Start.{start_after, start_at}
+use Rattle.pie_audit.specs.Text.{BeginsAtCore, remaining_of, text_fault}
+use Rattle.pie_audit.specs.declared.auditor.Finding.TheVariants.{Differs}
+use Rattle.pie_book.specs.Core.{CoreView, Represents, answer_in, core_after, refusal_of, registers_of}
+use Rattle.pie_book.specs.Decision.{decision, refusal_by_rule}
+use Rattle.pie_book.specs.Estimates.{delay_after}
+use Rattle.pie_book.specs.Registers.{registers_after}
+use Rattle.pie_book.specs.Run.{refused_or}
+use Rattle.pie_book.specs.Snapshot.{step_in}
+use Rattle.pie_book.specs.Statistics.{wait_of}
+use Rattle.pie_event.specs.Effect.{effect}
+use Rattle.pie_event.specs.declared.command.Answer.{Answer}
+use Rattle.pie_event.specs.declared.command.Event.{Event}
+use Rattle.pie_event.specs.declared.opening.Opening.{Opening}
+use Rattle.pie_event.specs.declared.refusal.Refusal.{Refusal}
+use Rattle.pie_event.specs.declared.registers.Registers.{Registers}
+use Rattle.pie_event.specs.declared.setter.Setter.{Setter}
+use Rattle.pie_excerpt.specs.Beginning.{Beginning, beginning_of}
+use Rattle.pie_explain.specs.DecidedEvent.{DecidesAfter, DecidesEvent, HasReached, IsDecided, decision_at, decision_by, result_after, wait_if_decided}
+use Rattle.pie_explain.specs.DecidedEvent.{with_answer}
+use Rattle.pie_explain.specs.Explanation.{explanation, explanation_in, with_core}
+use Rattle.pie_explain.specs.declared.decided_event.DecidedEvent.{DecidedEvent}
+use Rattle.pie_explain.specs.declared.decided_event.EventDecision.{EventDecision}
+use Rattle.pie_explain.specs.declared.decided_event.EventDecision.TheVariants.{Answered}
+use Rattle.pie_explain.specs.declared.explanation.Explained.{Explained}
+use Rattle.pie_explain.specs.declared.explanation.Explanation.{Explanation}
+use Rattle.pie_record.specs.HistoryLines.{RemainingLines}
+use Rattle.pie_record.specs.Text.{Row}
+use Rattle.pie_record.specs.declared.clock.Clock.{Clock}
+use Rattle.pie_record.specs.declared.fault.TraceFault.{TraceFault}
+use Rattle.pie_audit.specs.Replay.{Replays, next_number}
+use Rattle.pie_audit.specs.Start.{Start}
+use Rattle.pie_audit.specs.declared.replay.Replay.{Replay}
+use Rattle.pie_queue.specs.Queue.{bytes_of}
+use Rattle.pie_record.specs.HistoryLines.{is_event}
+use Rattle.pie_record.specs.declared.history_record.Line.{Line}
+use Rattle.pie_record.specs.declared.history_record.Line.TheVariants.{Invalid, Valid}
+
+-- the lines that were read after any others were decided again, and the first difference among them does not have this number
+abbrev pub Passed : ℕ → Replay → Replay → List Line → Type 0
+Passed number old new seen = (start : Start) (origin : Origin) (first : List Line) → Replays start origin first old.auditor old.set_by
+    → Replays start origin (first ++ seen) new.auditor new.set_by
+    × (difference_from origin first ≡ None → difference_from origin (first ++ seen) ≡ Some number → ⊥)
+
+-- a line that differs is an event
+differing : (origin : Origin) (lines : List Line) (line : Line) → differs_from origin lines line ≡ true → is_event line ≡ true
+differing origin lines (Valid event) found = refl
+differing origin lines (Invalid change) found = refl
+differing origin lines _ found = cc
+
+pub not-here : (origin : Origin) (lines : List Line) (line : Line) (number : ℕ) → (difference_from origin lines ≡ Some number → ⊥)
+    → (is_event line ≡ true → next_number (difference_from origin lines) (count_after origin lines) ≡ Some number → ⊥)
+    → difference_from origin (lines ++ line ∷ []) ≡ Some number → ⊥
+not-here origin lines line number before other is =
+    by (difference_from origin lines) (differs_from origin lines line) (is_event line) (count_after origin lines) (differing origin lines line) before other
+    (sym (difference-push origin lines line) ∙ is)
+  where
+    by : (found : Option ℕ) (differs event : Bool) (count : ℕ) → (differs ≡ true → event ≡ true) → (found ≡ Some number → ⊥)
+        → (event ≡ true → next_number found count ≡ Some number → ⊥)
+        → option_or found (if differs then Some (count + 1) else None) ≡ Some number → ⊥
+    by (Some event) differs is count events before other same = before same
+    by None true is count events before other same = other (events refl) same
+    by None false is count events before other same = cc
+
+-- ---- the decision on an event
+
+-- the answer of a result that is no refusal
+answer-is : (refused : Option Refusal) (answer given : Answer) → Ok answer ≡ refused_or refused given → answer ≡ given
+answer-is None answer given is = cc
+answer-is (Some why) answer given is = cc
+
+-- an explanation with another answer, the time in the queue that belongs to it, and the numbers after it
+abbrev pub explained_with : Explanation → Answer → ℕ → Registers → ℕ → Explained
+explained_with found answer waited after delay =
+    record { explanation = record found { event = with_answer found.event answer; waited = waited }; after = after; delay = delay }
+
+module _ (core later : CoreView) (number : ℕ) (event : Event) (set_by : Setter) (clock : Option Clock) (answer : Answer) (found : Explanation)
+    (waited : ℕ) (after : Registers) (delay : ℕ) where
+  -- the result of the core's own step
+  abbrev pub StepsTo : Type 0
+  StepsTo = (found ≡ explanation_in core number event set_by clock) × (waited ≡ wait_if_decided core event.command found.moment)
+      × (Ok answer ≡ step_in core event.command) × (later ≡ core_after core event.command)
+      × (after ≡ registers_of later) × (delay ≡ delay_in later.controller (bytes_of later.waiting))
+
+  -- the result by a history that the core represents
+  abbrev pub StepsAfter : Type 0
+  StepsAfter = (opening : Opening) (history : List Event) → Represents opening core history
+      → (found ≡ explanation opening history number event set_by clock)
+      × (Ok answer ≡ refused_or (refusal_by_rule opening history event.command) (decision opening history event.command))
+      × (after ≡ registers_after opening (history ++ with_answer event answer ∷ []))
+      × (delay ≡ delay_after opening (history ++ with_answer event answer ∷ []))
+
+  pub decided-is : (origin : Origin) (events : List Event) → StepsTo → StepsAfter → RepresentsAfter origin core events
+      → Answered (explained_with found answer waited after delay)
+      ≡ decision_by origin events number event set_by clock (result_after origin events event.command)
+  unfolding explanation explanation_in
+  decided-is (at_opening opening) events steps back shows =
+      let at = back opening events shows in
+      let given : answer ≡ answer_in core event.command = answer-is (refusal_of core event.command) _ _ steps.2 in
+      rw (← at.1) (λ i. Answered (record {
+        explanation = record (at.0 i) {
+          event = with_answer (at.0 i).event answer;
+          waited = (steps.1 ∙ (λ j. wait_of (effect event.command (sym given j)) (at.0 j).moment (shows.waiting j))) i;
+        };
+        after = at.2 i;
+        delay = at.3 i;
+      }))
+  decided-is (at_core opening first it) events steps back stands =
+      let given : answer ≡ answer_in core event.command = answer-is (refusal_of core event.command) _ _ steps.2 in
+      let own : Answered (explained_with found answer waited after delay)
+      ≡ Answered (with_core (core_after core event.command) (explanation_in core number (with_answer event answer) set_by clock)) =
+      λ i. Answered (record {
+        explanation = record (steps.0 i) {
+          event = with_answer (steps.0 i).event answer;
+          waited = (steps.1 ∙ (λ j. wait_of (effect event.command (sym given j)) (steps.0 j).moment core.waiting)) i;
+        };
+        after = (steps.4 ∙ ap registers_of steps.3) i;
+        delay = (steps.5 ∙ ap (λ (c : CoreView). delay_in c.controller (bytes_of c.waiting)) steps.3) i;
+      }) in
+      let result = subst (λ (c : CoreView). step_in c event.command ≡ Ok answer) stands (sym steps.2) in
+      let later-is = along-push first events (with_answer event answer) ∙ ap (λ (c : CoreView). core_after c event.command) (sym stands) in
+      own ∙ (λ i. Answered (with_core (sym later-is i) (explanation_in (stands i) number (with_answer event answer) set_by clock)))
+      ∙ sym (ap (λ (r : Result Answer Refusal). decision_by (at_core opening first it) events number event set_by clock r) result)
+
+-- ---- the text
+
+-- the event that was reached is decided by its place
+pub reached-decided : (start : Start) (origin : Origin) (first : List Line) (all : RemainingLines) (number : ℕ) (auditor : AuditorView) (set_by : Setter)
+    (line : Line) (decision : EventDecision) → HasReached start origin first all number auditor set_by line
+    → ((lines : List Line) → Replays start origin lines auditor set_by → number ≡ count_after origin lines + 1 → decision ≡ decision_at start origin lines line)
+    → IsDecided start origin (first ++ all.lines) number (record { recorded = line; decision = decision })
+reached-decided start origin first all number auditor set_by line decision reached decides = record {
+  before = first ++ reached.seen;
+  later = reached.later;
+  split = ap (λ (ls : List Line). first ++ ls) reached.split ∙ sym (append_assoc first reached.seen (line ∷ reached.later));
+  event = reached.event;
+  agree = sym reached.replays.audits.differs ∙ reached.agree;
+  counted = reached.counted;
+  decision = decides (first ++ reached.seen) reached.replays reached.counted;
+}
+
+finding-differs : (found : Option ℕ) (count number : ℕ) → finding_by found count ≡ Differs number → found ≡ Some number
+finding-differs None count number is = cc
+finding-differs (Some event) count number is = cc
+
+none-first : (origin : Origin) → difference_from origin [] ≡ None
+unfolding difference_from line_places
+none-first origin = refl
+
+pub faulted : (rows : List Row) (why : TraceFault) → beginning_of rows ≡ Err why → text_fault rows ≡ Some why
+unfolding text_fault
+faulted rows why is = rw is refl
+
+-- the beginning of a text that has no fault
+abbrev pub IsBegun : List Row → Type 0
+IsBegun rows = (begun : Beginning) × (beginning_of rows ≡ Ok begun)
+
+begun-by : (rows : List Row) (known : Result Beginning TraceFault) → beginning_of rows ≡ known → ((why : TraceFault) → beginning_of rows ≡ Err why → ⊥)
+    → IsBegun rows
+begun-by rows (Ok begun) is none = (begun, is)
+begun-by rows (Err why) is none = absurd (none why is)
+
+at-core : (rows : List Row) (begun : Beginning) → beginning_of rows ≡ Ok begun → BeginsAtCore rows begun.opening begun.core begun.set_by
+at-core rows begun is = (begun.version, begun.records_read, begun.left, is)
+
+pub text-decides : (rows : List Row) (opening : Opening) (auditor : AuditorView) (set_by : Setter) (before : ℕ) (remaining_lines : Option RemainingLines)
+    (number : ℕ) (result : Result (Option DecidedEvent) TraceFault) → ReplaysText rows opening auditor set_by before remaining_lines
+    → ((start : Start) (origin : Origin) (first : List Line) → Replays start origin first auditor set_by
+    → IfSome remaining_lines (λ all. DecidesAfter start origin first all number result))
+    → DecidesEvent rows number result
+text-decides rows opening auditor set_by before remaining_lines number (Ok (Some decided)) text decides = (
+  λ whole core named is. rw text.comes at (decides (start_at core named) (at_core whole core named) [] (text.stands whole core named is).follows),
+  λ whole past named it. rw text.comes at (decides (start_after named past) (at_opening whole) (map Valid past) (text.continued whole past named it).follows),
+)
+text-decides rows opening auditor set_by before remaining_lines number (Ok None) text decides =
+    let at : (begun : Beginning) → beginning_of rows ≡ Ok begun → DecidesAfter (start_at begun.core begun.set_by)
+    (at_core begun.opening begun.core begun.set_by) [] (remaining_of rows) number (Ok None) =
+    λ begun is. rw text.comes at (decides (start_at begun.core begun.set_by) (at_core begun.opening begun.core begun.set_by) []
+    (text.stands begun.opening begun.core begun.set_by (at-core rows begun is)).follows) in
+    let begun = begun-by rows (beginning_of rows) refl text.begins in (
+      (at begun.0 begun.1).0,
+      λ it is differs. (at it is).1 (none-first (at_core it.opening it.core it.set_by)) (finding-differs _ _ number differs),
+    )
+text-decides rows opening auditor set_by before remaining_lines number (Err why) text decides =
+    let begun = begun-by rows (beginning_of rows) refl text.begins in
+    let it = begun.0 in
+    rw text.comes at (decides (start_at it.core it.set_by) (at_core it.opening it.core it.set_by) []
+    (text.stands it.opening it.core it.set_by (at-core rows it begun.1)).follows)

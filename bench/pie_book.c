@@ -1,6 +1,7 @@
 /* One event of PIE in plain C by the steps of pie_book's `Core::step`: the checks, the queue (a ring), the decision of an
  * arrival, the departure and its rate estimate, the update (pie_step.h has these three), and the fifteen statistics, over
- * the stream of `pie_library_tests book`. Its checksum is `book_decided_checksum` there.
+ * the stream of `pie_library_tests book`. Its checksum is `book_decided_checksum` there. The same steps with a record
+ * (peer/book.h) are the least that a book costs in C.
  *
  * usage: bench/pie_book.sh runs it
  */
@@ -8,6 +9,7 @@
 
 #include <stdio.h>
 #include <stdlib.h>
+#include <string.h>
 
 #define EVENTS 4000000
 #define PACKETS 1024
@@ -165,28 +167,50 @@ static struct command next(struct stream *s) {
     return command;
 }
 
+static const struct stream opened_stream = {111111, 120000, 15000000, 0};
+
+#include "peer/book.h"
+
+static uint64_t digest(const struct reply *reply) {
+    return reply->answer == LEFT      ? reply->packet.tag
+           : reply->answer == UPDATED ? reply->delay + reply->prob
+                                      : (uint64_t)reply->answer;
+}
+
+/* Decides the stream, and records it if there is a book. Prints the time of an event, and returns the sum of the results. */
+static uint64_t time_events(const char *name, struct core *core, struct book *book) {
+    struct stream stream = opened_stream;
+    uint64_t sum = 0;
+    last = 1;
+    double begin = nanos();
+    for (int i = 0; i < EVENTS; i++) {
+        struct command command = next(&stream);
+        struct reply reply = book != NULL ? record_step(book, &command) : step(core, &command);
+        if (reply.answer != REFUSED)
+            sum = sum * 31 + digest(&reply);
+    }
+    printf("c_book_%s %.1f ns\n", name, (nanos() - begin) / EVENTS);
+    return sum;
+}
+
 int main(void) {
+    static const char *const names[] = {"recorded_bounded", "recorded_rolling"};
+    static struct book books[2];
     struct core core = {0};
     core.params = default_params;
     core.control.burst = core.params.max_burst;
     core.events = 1ull << 40;
+    const struct core opened = core;
     core.ring = malloc(PACKETS * sizeof *core.ring);
-    if (!core.ring)
+    if (core.ring == NULL || !open_book(&books[0], &opened, 0) || !open_book(&books[1], &opened, 1))
         return 1;
-    struct stream stream = {111111, 120000, 15000000, 0};
-    uint64_t sum = 0;
-    double begin = nanos();
-    for (int i = 0; i < EVENTS; i++) {
-        struct command command = next(&stream);
-        struct reply reply = step(&core, &command);
-        if (reply.answer == REFUSED)
-            continue;
-        uint64_t digest = reply.answer == LEFT      ? reply.packet.tag
-                          : reply.answer == UPDATED ? reply.delay + reply.prob
-                                                    : (uint64_t)reply.answer;
-        sum = sum * 31 + digest;
-    }
-    printf("c_book_decided %.1f ns\n", (nanos() - begin) / EVENTS);
+    uint64_t sum = time_events("decided", &core, NULL);
+    for (int i = 0; i < 2; i++)
+        if (time_events(names[i], NULL, &books[i]) != sum || !has_last_events(&books[i], &opened) ||
+            books[i].count - books[i].tail != (i == 0 ? books[i].folded : EVENTS - TAIL)) {
+            fprintf(stderr, "pie_book: the %s book has other events\n", names[i]);
+            return 1;
+        }
     printf("c_book_checksum %llu sum\n", (unsigned long long)sum);
     return 0;
 }

@@ -1,5 +1,6 @@
 /* Measures the cost of keeping an event in a flight recorder (include/pie_flight.h) beside the
- * event alone, while PACKETS packets are queued; of a snapshot; and of a dump. Considered arrivals
+ * event alone, beside a store of 40 bytes and a counter, and beside a recorder in C for this purpose
+ * alone (peer/least.h), while PACKETS packets are queued; of a snapshot; and of a dump. Considered arrivals
  * (one in twenty is dropped early) and departures alternate, so that the queue keeps its length.
  * Packets have 1000 bytes. Prints lines `name value unit`, one for each run, for bench/ratios.py.
  * With `count` it makes events of one kind in a separate function, whose instructions
@@ -9,7 +10,7 @@
  *        pie_flight EVENTS PACKETS count alone|kept|snapshot
  *        pie_flight EVENTS PACKETS text */
 #define _GNU_SOURCE
-#include "pie_flight.h"
+#include "peer/least.h"
 
 #include <inttypes.h>
 #include <pthread.h>
@@ -22,16 +23,21 @@
 #define TURN 2000    /* pairs in a turn: the kinds alternate, so that other work on the machine affects all */
 #define SIZE 1000    /* bytes of a packet */
 
+/* What is done with an event. */
+enum record { ALONE, STORED, LEAST, KEPT, RECORDS };
+static const char *const names[RECORDS] = {"alone", "stored", "least", "kept"};
+
 /* A queue of packets that have numbers only. */
 struct queue {
     struct pie_state pie;
     struct pie_opening opening;
     uint64_t came, left, moment;
     struct pie_flight flight;
+    struct least_recorder least; /* in place of it */
 };
 
-static struct queue alone_queue, kept_queue;
-static void *memory, *scratch;
+static struct queue queues[RECORDS];
+static void *memory, *scratch, *memories[RECORDS]; /* the flight recorder's memory, for a copy of it, of the others */
 static size_t bytes;
 static volatile uint64_t sink;
 
@@ -41,8 +47,32 @@ static double now(void) {
     return (double)it.tv_sec * 1e9 + (double)it.tv_nsec;
 }
 
+/* Stores 40 bytes of an event, and counts them. */
+static inline void store(struct least_events *it, const struct pie_event *event) {
+    memcpy(it->event, event, 8 * PIE_FLIGHT_EVENT);
+    it->event += PIE_FLIGHT_EVENT;
+    if (it->event == it->events_end)
+        it->event = it->events;
+    it->count++;
+}
+
+__attribute__((always_inline)) static inline void keep(struct queue *queue, const struct pie_event *event, const enum record record) {
+    if (record == STORED)
+        store(&queue->least.kept, event);
+    else if (record == KEPT)
+        pie_flight_keep(&queue->flight, &queue->pie, event);
+    else if (record == LEAST && event->kind == PIE_EVENT_DEPART)
+        least_keep_departure(&queue->least, queue->pie.moment, event);
+    else if (record == LEAST && event->kind == PIE_EVENT_UPDATE)
+        least_put_event(&queue->least, event, 0);
+    else if (record == LEAST && event->answer > PIE_MARK)
+        least_keep_drop(&queue->least, event);
+    else if (record == LEAST)
+        least_keep_arrival(&queue->least, queue->pie.moment, event);
+}
+
 /* Makes an arrival and, if it was queued, a departure. */
-static inline uint32_t pair(struct queue *queue, int is_kept) {
+__attribute__((always_inline)) static inline uint32_t pair(struct queue *queue, const enum record record) {
     struct pie_event event;
     uint64_t waits = queue->came - queue->left;
     uint32_t answer;
@@ -54,8 +84,7 @@ static inline uint32_t pair(struct queue *queue, int is_kept) {
     event.caller = 1;
     event.ecn = PIE_ECT0;
     answer = pie_arrive_event(&queue->pie, waits * SIZE, (uint32_t)(queue->opening.packets - waits), &event);
-    if (is_kept)
-        pie_flight_keep(&queue->flight, &queue->pie, &event);
+    keep(queue, &event, record);
     if (answer > PIE_MARK)
         return answer;
     queue->came++;
@@ -67,26 +96,37 @@ static inline uint32_t pair(struct queue *queue, int is_kept) {
     event.ecn = PIE_ECT0;
     answer += pie_depart_event(&queue->pie, waits * SIZE, 0, &event);
     queue->left++;
-    if (is_kept)
-        pie_flight_keep(&queue->flight, &queue->pie, &event);
+    keep(queue, &event, record);
     return answer;
 }
 
 __attribute__((noinline)) static uint32_t alone(void) {
-    return pair(&alone_queue, 0);
+    return pair(&queues[ALONE], ALONE);
+}
+
+__attribute__((noinline)) static uint32_t stored(void) {
+    return pair(&queues[STORED], STORED);
+}
+
+__attribute__((noinline)) static uint32_t least(void) {
+    return pair(&queues[LEAST], LEAST);
 }
 
 __attribute__((noinline)) static uint32_t kept(void) {
-    return pair(&kept_queue, 1);
+    return pair(&queues[KEPT], KEPT);
 }
+
+static uint32_t (*const calls[RECORDS])(void) = {alone, stored, least, kept};
 
 __attribute__((noinline)) static uint32_t snapshot(void) {
-    pie_flight_snapshot(&kept_queue.flight, &kept_queue.pie);
-    return (uint32_t)kept_queue.flight.next;
+    pie_flight_snapshot(&queues[KEPT].flight, &queues[KEPT].pie);
+    return (uint32_t)queues[KEPT].flight.next;
 }
 
-static void open_queue(struct queue *queue, uint64_t events, uint64_t packets, int is_kept) {
+static void open_queue(enum record record, uint64_t events, uint64_t packets) {
+    struct queue *queue = &queues[record];
     struct pie_opening *opening = &queue->opening;
+    uint64_t *own = memories[record];
     uint64_t i;
     pie_default_opening(opening, 0);
     opening->choices = PIE_USUAL; /* as the figures of docs/PERFORMANCE.md were measured */
@@ -95,19 +135,28 @@ static void open_queue(struct queue *queue, uint64_t events, uint64_t packets, i
     opening->packets = packets + 1;
     pie_open(&queue->pie, opening);
     queue->pie.burst = 0;
-    if (is_kept && !pie_flight_open(&queue->flight, memory, bytes, events, opening, &queue->pie))
+    if (record == KEPT && !pie_flight_open(&queue->flight, memory, bytes, events, opening, &queue->pie))
         exit(1);
+    if (record == STORED || record == LEAST)
+        least_open(&queue->least, own, &queues[KEPT].flight);
     /* (no arrival is dropped while the probability is 0) */
     for (i = 0; i < packets; i++) {
         struct pie_event event = {.tag = i, .size = SIZE, .caller = 1, .ecn = PIE_ECT0};
         if (pie_arrive_event(&queue->pie, i * SIZE, (uint32_t)(packets + 1 - i), &event) != PIE_ENQUEUE)
             exit(1);
-        if (is_kept)
-            pie_flight_keep(&queue->flight, &queue->pie, &event);
+        keep(queue, &event, record);
         queue->came++;
     }
+    /* (an update precedes a probability above 0, and has the delay) */
+    queue->moment = opening->params.t_update;
+    struct pie_event event = {.moment = queue->moment, .caller = 1};
+    if (pie_update_event(&queue->pie, packets * SIZE, &event) != PIE_DONE)
+        exit(1);
+    event.delay = 15000000;
+    keep(queue, &event, record);
+    queue->pie.burst = 0;
     queue->pie.prob = UINT64_C(50000000000);
-    queue->pie.old_delay = 15000000;
+    queue->pie.old_delay = event.delay;
 }
 
 /* Counts the written bytes, and stores the time of the first write. */
@@ -145,18 +194,23 @@ static double time_pairs(uint32_t (*call)(void), uint64_t pairs) {
     return now() - start;
 }
 
-/* The time of an event of each kind; a pair has a few events less than two, since some arrivals are dropped. */
+/* The time of an event of each kind; a pair has a few events less than two, since some arrivals are dropped. The
+ * recorder in C must have the same events, packets and statistics. */
 static void time_events(uint64_t packets) {
     for (int run = 0; run < RUNS; run++) {
-        double times[2] = {0, 0};
-        uint64_t events = kept_queue.flight.count;
-        for (int turn = 0; turn < CALLS / TURN; turn++) {
-            times[0] += time_pairs(alone, TURN);
-            times[1] += time_pairs(kept, TURN);
-        }
-        events = kept_queue.flight.count - events;
-        printf("alone_%" PRIu64 " %.3f ns\n", packets, times[0] / (double)events);
-        printf("kept_%" PRIu64 " %.3f ns\n", packets, times[1] / (double)events);
+        double times[RECORDS] = {0};
+        uint64_t events = queues[KEPT].flight.count;
+        for (int turn = 0; turn < CALLS / TURN; turn++)
+            for (int kind = 0; kind < RECORDS; kind++)
+                times[kind] += time_pairs(calls[kind], TURN);
+        events = queues[KEPT].flight.count - events;
+        for (int kind = 0; kind < RECORDS; kind++)
+            printf("%s_%" PRIu64 " %.3f ns\n", names[kind], packets, times[kind] / (double)events);
+    }
+    pie_flight_sum(&queues[KEPT].flight);
+    if (!least_is_same(&queues[LEAST].least, &queues[KEPT].flight) || queues[STORED].least.kept.count != queues[KEPT].flight.count) {
+        fprintf(stderr, "pie_flight: the recorder in C has other events\n");
+        exit(1);
     }
 }
 
@@ -165,9 +219,9 @@ static void time_beside_dumps(uint64_t packets) {
     if (pthread_create(&thread, NULL, dump_all, NULL) != 0)
         exit(1);
     for (int run = 0; run < RUNS; run++) {
-        uint64_t events = kept_queue.flight.count;
+        uint64_t events = queues[KEPT].flight.count;
         double time = time_pairs(kept, CALLS);
-        printf("dumped_%" PRIu64 " %.3f ns\n", packets, time / (double)(kept_queue.flight.count - events));
+        printf("dumped_%" PRIu64 " %.3f ns\n", packets, time / (double)(queues[KEPT].flight.count - events));
     }
     PIE_STORE(is_over, 1);
     pthread_join(thread, NULL);
@@ -187,7 +241,7 @@ static void time_dumps(uint64_t packets) {
 
 /* Measures a series of snapshots, because reading the clock takes longer than one. */
 static void time_snapshots(uint64_t packets) {
-    struct pie_flight *flight = &kept_queue.flight;
+    struct pie_flight *flight = &queues[KEPT].flight;
     uint64_t count = flight->count;
     for (int run = 0; run < RUNS; run++) {
         double start = now();
@@ -202,7 +256,7 @@ static void time_snapshots(uint64_t packets) {
 
 /* Makes events for valgrind: a whole number of periods between snapshots, so that snapshots have their share. */
 static int count_calls(const char *kind) {
-    uint64_t begin = kept_queue.flight.count, period = kept_queue.flight.period, pairs = 0, i;
+    uint64_t begin = queues[KEPT].flight.count, period = queues[KEPT].flight.period, pairs = 0, i;
     if (strcmp(kind, "snapshot") == 0) {
         for (i = 0; i < 100; i++)
             sink += snapshot();
@@ -210,11 +264,11 @@ static int count_calls(const char *kind) {
         return 0;
     }
     /* both kinds make equal pairs: their decisions are equal */
-    while (kept_queue.flight.count - begin < period) {
+    while (queues[KEPT].flight.count - begin < period) {
         sink += kept();
         pairs++;
     }
-    begin = kept_queue.flight.count - begin;
+    begin = queues[KEPT].flight.count - begin;
     for (i = 0; i < pairs; i++)
         sink += alone();
     printf("%" PRIu64 " %" PRIu64 "\n", begin, period);
@@ -233,8 +287,14 @@ int main(int count, char **words) {
     /* (the pages are allocated before the measurement) */
     memset(memory, 0, bytes);
     memset(scratch, 0, bytes);
-    open_queue(&alone_queue, events, packets, 0);
-    open_queue(&kept_queue, events, packets, 1);
+    open_queue(KEPT, events, packets);
+    for (int kind = ALONE; kind < KEPT; kind++) {
+        memories[kind] = aligned_alloc(64, (bytes + 63) / 64 * 64);
+        if (memories[kind] == NULL)
+            return 1;
+        memset(memories[kind], 0, bytes);
+        open_queue((enum record)kind, events, packets);
+    }
     if (count == 5)
         return count_calls(words[4]);
     time_events(packets);

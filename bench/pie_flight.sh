@@ -1,6 +1,7 @@
 #!/usr/bin/env bash
 # Measures the cost of keeping an event in a flight recorder (include/pie_flight.h) of 100,000
-# events, compared with the event alone, while 16, 1000 and 65,536 packets are queued
+# events, compared with the event alone, with a store of 40 bytes and a counter, and with a recorder
+# in C for this purpose alone (bench/peer/least.h), while 16, 1000 and 65,536 packets are queued
 # (bench/pie_flight.c). It measures the time of an event, also while another thread dumps, of a
 # snapshot, and of a dump with its copy and its text. If valgrind is installed, it counts the
 # instructions of an event, alone and kept, and the share of the snapshots, also for a recorder of
@@ -25,7 +26,7 @@ import os
 import statistics
 import sys
 
-COLUMNS = [("alone", "an event alone"), ("kept", "kept"), ("more", "more"), ("dumped", "kept while another thread dumps"), ("snapshot", "a snapshot"),
+COLUMNS = [("alone", "an event alone"), ("stored", "40 bytes stored"), ("least", "kept by C for this purpose"), ("kept", "kept"), ("more", "more"), ("dumped", "kept while another thread dumps"), ("snapshot", "a snapshot"),
            ("dump", "a dump"), ("copy", "of it the copy"), ("text", "its text")]
 values = {}
 for name, value, unit in (line.split() for line in open(sys.argv[1])):

@@ -4,7 +4,8 @@
  *   - at a spin lock around recording calls of pie.h, with a flight recorder;
  *   - at the same lock around plain calls, whose events go to the recorder in bulk, as in a data plane;
  *   - at that lock, and at a mutex, around recording calls whose events of 64 bytes go into a ring with
- *     statistics, as a builder would write it without this repository's recorders.
+ *     statistics, as a builder would write it without this repository's recorders; at the lock also
+ *     with events of 40 bytes, the words of the flight recorder.
  *
  * Each thread enqueues a burst of packets, dequeues as many, and between two bursts spends on each
  * packet the time of making one. No thread is more than a burst ahead of another, so that they
@@ -20,8 +21,10 @@
 
 #include <inttypes.h>
 #include <pthread.h>
+#include <stddef.h>
 #include <stdio.h>
 #include <stdlib.h>
+#include <string.h>
 #include <time.h>
 
 #define MOST_THREADS 4
@@ -32,8 +35,8 @@
 #define SIZE 1000       /* bytes of a packet */
 #define MAKING 4        /* pauses between two turns, for each packet */
 
-enum kind { LINK, RECORDED, BULK, RING, MUTEX, KINDS };
-static const char *const names[KINDS] = {"link", "recorded", "bulk", "ring", "mutex"};
+enum kind { LINK, RECORDED, BULK, RING, SHORT, MUTEX, KINDS };
+static const char *const names[KINDS] = {"link", "recorded", "bulk", "ring", "short", "mutex"};
 
 struct packet {
     uint64_t tag, since;
@@ -47,6 +50,7 @@ static struct {
     _Alignas(64) struct pie_state pie;
     struct pie_flight flight;
     struct pie_event ring[EVENTS];
+    uint64_t words[EVENTS][PIE_FLIGHT_EVENT]; /* events of 40 bytes */
     uint64_t kept;
     struct pie_stats stats;
     struct packet queue[PACKETS];
@@ -146,7 +150,13 @@ static inline void keep(enum kind kind, const struct pie_event *event, uint64_t 
         pie_flight_keep(&shared.flight, &shared.pie, event);
         return;
     }
-    shared.ring[shared.kept++ % EVENTS] = *event;
+    if (kind == SHORT) {
+        uint64_t *to = shared.words[shared.kept++ % EVENTS];
+        memcpy(to, event, 24); /* moment, tag and random word */
+        memcpy(to + 3, (const char *)event + offsetof(struct pie_event, size), 16); /* size, answer, caller, kind and ECN field */
+    } else {
+        shared.ring[shared.kept++ % EVENTS] = *event;
+    }
     count(event, waited);
 }
 
@@ -380,6 +390,10 @@ static void run(enum kind kind, int threads, uint32_t burst, uint64_t millisecon
         pthread_join(workers[i].id, NULL);
         events += workers[i].events, turns += workers[i].turns, changes += workers[i].changes;
     }
+    if ((kind == RING || kind == SHORT || kind == MUTEX) &&
+        (shared.kept != shared.stats.arrivals + shared.stats.left + shared.stats.updates || shared.stats.arrivals + shared.stats.left < events ||
+         shared.stats.enqueued + shared.stats.marked - shared.stats.left != shared.came - shared.left))
+        die("a ring has other events", PIE_BYTES);
     printf("%s %d %" PRIu32 " %.0f %.3f\n", names[kind], threads, burst, (double)events * 1e3 / (double)milliseconds,
            kind == LINK ? changes_of_log(threads, burst) : (double)changes / (double)(turns + (turns == 0)));
 }

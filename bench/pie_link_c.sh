@@ -5,10 +5,11 @@
 # - at a link;
 # - with a spin lock around recording calls and the flight recorder;
 # - with the same lock around calls whose events are stored in bulk;
-# - with this lock, and with a mutex, around recording calls and a builder's own ring of 64-byte events and statistics.
+# - with this lock, and with a mutex, around recording calls and a builder's own ring of 64-byte events and statistics;
+#   with the lock also a ring of 40-byte events.
 #
-# All run in turn, RUNS times (9), for MILLISECONDS (100) each. The first table has the medians, the second their
-# ratios. The third has the share of turns that follow a turn of another thread. A run of several threads in which this
+# All run in turn, RUNS times (9), for MILLISECONDS (100) each. The first table has the medians, the second the
+# medians of the ratios of a run. The third has the share of turns that follow a turn of another thread. A run of several threads in which this
 # share is below a quarter is not counted.
 # usage: bench/pie_link_c.sh [RUNS [MILLISECONDS]]    after bindings/c/library.py
 set -eu
@@ -24,7 +25,7 @@ python3 - "$work/lines" <<'PYTHON'
 import statistics
 import sys
 
-KINDS = {"link": "link", "recorded": "lock, recorded", "bulk": "lock, in bulk", "ring": "lock, own ring", "mutex": "mutex, own ring"}
+KINDS = {"link": "link", "recorded": "lock, recorded", "bulk": "lock, in bulk", "ring": "lock, own ring", "short": "lock, own ring of 40 bytes", "mutex": "mutex, own ring"}
 LEAST = 0.25  # of the turns of several threads, that follow on another's
 runs = {}
 for line in open(sys.argv[1]):
@@ -42,8 +43,10 @@ def median(key, kind):
 
 
 def ratio(key, other):
-    ours, theirs = median(key, "link"), median(key, other)
-    return f"{ours / theirs:.2f}" if ours and theirs else "-"
+    """Returns the median of the ratios of the runs in which both are counted."""
+    pairs = zip(runs[key]["link"], runs[key][other])
+    ratios = [ours / theirs for (ours, changes), (theirs, others) in pairs if key[1] == 1 or min(changes, others) >= LEAST]
+    return f"{statistics.median(ratios):.2f}" if ratios else "-"
 
 
 def table(names, cells):

@@ -1,9 +1,9 @@
 #!/usr/bin/env bash
 # Builds the stage for DPDK and pie-fwd, and runs them without huge pages and network cards: the tests of the stage,
-# also with the address and thread sanitizers; a slow link under overload beside rte_pie; null ports at full speed;
-# pie-fwd with its files, its history, and its end by an interrupt (fwd_test.py). No mbuf may be lost, and each
-# history must be clean or report its gaps, also each segment and each text of the flight recorder. Prints a line
-# NOT RUN if libdpdk is not installed.
+# also with the address and thread sanitizers; a slow link under overload beside rte_pie; the events and sums of
+# rte_pie in C, beside those of the stage; null ports at full speed; pie-fwd with its files, its history, and its end
+# by an interrupt (fwd_test.py). No mbuf may be lost, and each history must be clean or report its gaps, also each
+# segment and each text of the flight recorder. Prints a line NOT RUN if libdpdk is not installed.
 # usage: bindings/dpdk/check.sh
 # needs: program, library, an early start
 set -u
@@ -71,6 +71,7 @@ mkdir "$work/plain" "$work/address" "$work/thread"
 step test timeout 1200 out/stage_test "${eal[@]}" --lcores "0@$cpus" -- "$work/plain"
 step test-address timeout 1200 out/address/stage_test "${eal[@]}" --lcores "0@$cpus" -- "$work/address"
 step test-thread timeout 1200 out/thread/stage_test "${eal[@]}" --lcores "0@$cpus" -- "$work/thread" threads
+step peer timeout 1200 out/stage_measure "${eal[@]}" --lcores "0@$cpus" -- check
 step slow timeout 1200 out/stage_measure "${eal[@]}" --lcores "0@$cpus" -- slow "$work/plain"
 step null timeout 1200 out/stage_measure "${eal[@]}" --lcores "(0-1)@$cpus" --vdev=net_null0 --vdev=net_null1 -- rate 0.2 1 "$work/plain/null.history"
 for history in "$work"/*/*.history; do

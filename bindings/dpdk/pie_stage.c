@@ -19,8 +19,8 @@
 
 /* The properties of an arriving packet. */
 struct seen {
-    struct stage_packet packet; /* its ECN field is PIE_NOT_ECT if the packet cannot be marked */
     uint32_t size;
+    uint32_t ecn; /* its ECN field; PIE_NOT_ECT if the packet cannot be marked */
 };
 
 /* The packets of a burst that cannot be marked: without an IP header, and with a shared header. */
@@ -294,7 +294,17 @@ static inline bool looks_early(const struct pie_stage *stage) {
 
 static inline void look_at_sizes(struct rte_mbuf **mbufs, uint32_t count, struct seen *seen) {
     for (uint32_t i = 0; i < count; i++)
-        seen[i] = (struct seen){.packet = {0, 0, PIE_NOT_ECT}, .size = rte_pktmbuf_pkt_len(mbufs[i])};
+        seen[i] = (struct seen){.size = rte_pktmbuf_pkt_len(mbufs[i]), .ecn = PIE_NOT_ECT};
+}
+
+/* Returns the ECN field of a frame of any form, PIE_NOT_ECT if it cannot be marked. Counts such a frame. */
+static __rte_noinline uint32_t look_anywhere(const struct rte_mbuf *mbuf, struct unmarkable *unmarkable) {
+    struct stage_packet packet = stage_packet_look(mbuf);
+    unmarkable->no_ip += packet.version == 0;
+    if (packet.ecn == PIE_NOT_ECT || !stage_packet_is_shared(mbuf, &packet))
+        return packet.ecn;
+    unmarkable->shared++;
+    return PIE_NOT_ECT;
 }
 
 /* Reads the headers of arriving packets. Returns the number of those that cannot be marked. */
@@ -303,45 +313,54 @@ static __rte_noinline struct unmarkable look(struct rte_mbuf **mbufs, uint32_t c
     for (uint32_t i = 0; i < count; i++)
         rte_prefetch0(rte_pktmbuf_mtod(mbufs[i], const void *));
     for (uint32_t i = 0; i < count; i++) {
-        struct stage_packet packet = stage_packet_look(mbufs[i]);
-        unmarkable.no_ip += packet.version == 0;
-        if (packet.ecn != PIE_NOT_ECT && unlikely(stage_packet_is_shared(mbufs[i], &packet))) {
-            unmarkable.shared++;
-            packet.ecn = PIE_NOT_ECT;
-        }
-        seen[i] = (struct seen){.packet = packet, .size = rte_pktmbuf_pkt_len(mbufs[i])};
+        uint32_t ecn;
+        if (unlikely(!stage_packet_is_usual(mbufs[i], &ecn) || (ecn != PIE_NOT_ECT && !stage_packet_is_alone(mbufs[i]))))
+            ecn = look_anywhere(mbufs[i], &unmarkable);
+        seen[i] = (struct seen){.size = rte_pktmbuf_pkt_len(mbufs[i]), .ecn = ecn};
     }
     return unmarkable;
 }
 
 /* Returns the verdict for a packet, and adds the event to the sums of its interval. The lock is held. */
-static __rte_noinline uint32_t decide_summed(struct pie_stage *stage, uint64_t bytes, const struct seen *seen, uint32_t room, uint64_t word,
-                                             uint64_t moment) {
-    struct pie_event event = {.moment = moment, .word = word, .size = seen->size, .ecn = seen->packet.ecn};
-    return pie_arrive_summed(&stage->pie, bytes, room, &event, &stage->periods->current);
+static __rte_always_inline uint32_t decide_summed(struct pie_stage *stage, uint64_t bytes, const struct seen *seen, uint32_t room, uint64_t word,
+                                                  uint64_t moment) {
+    struct pie_event *event = &stage->periods->event;
+    event->moment = moment;
+    event->word = word;
+    event->size = seen->size;
+    event->ecn = (uint8_t)seen->ecn;
+    return pie_arrive_summed(&stage->pie, bytes, room, event, &stage->periods->current);
 }
 
-/* Returns the verdict for a packet of this flow, and records it. At the probability 0 the random word has no effect.
- * The lock is held. */
+/* Returns the verdict for a packet of this flow, and records it: `arrivals` is the number of the latest decided arrival.
+ * At the probability 0 the random word has no effect. The lock is held. */
 static __rte_always_inline uint32_t decide(struct pie_stage *stage, uint64_t bytes, const struct seen *seen, uint32_t flow, uint32_t room,
-                                           const struct turn *turn, struct pie_flight_burst *burst, const enum record record) {
+                                           const struct turn *turn, struct pie_flight_burst *burst, uint64_t *arrivals, const enum record record) {
     uint32_t verdict;
-    if (unlikely(seen->size < 1 || seen->size > PIE_MAX_SIZE))
+    if (unlikely(seen->size - 1 >= PIE_MAX_SIZE))
         return PIE_BAD_SIZE;
-    uint64_t word = stage->pie.prob != 0 ? stage_word(&stage->words) : 0;
+    uint64_t word = unlikely(stage->pie.prob != 0) ? stage_word(&stage->words) : 0;
     if (is_summed(stage, turn, record))
         verdict = decide_summed(stage, bytes, seen, room, word, turn->moment);
     else
-        verdict = pie_arrive(&stage->pie, bytes, seen->size, room, seen->packet.ecn, word, turn->moment);
+        verdict = pie_arrive(&stage->pie, bytes, seen->size, room, seen->ecn, word, turn->moment);
     if (record == NOTHING || unlikely(verdict > PIE_PACKETS))
         return verdict;
-    stage->arrivals++;
+    ++*arrivals;
     if (!keeps_events(stage, record))
         return verdict;
-    uint64_t number = stage->arrivals & TAG_MASK, tag = record == MORE ? tag_of(stage, number, flow) : number;
+    uint64_t number = *arrivals & TAG_MASK, tag = record == MORE ? tag_of(stage, number, flow) : number;
     rte_prefetch0_write(burst->event + AHEAD * PIE_FLIGHT_EVENT);
-    pie_flight_arrive(burst, turn->moment, tag, word, seen->size, seen->packet.ecn, verdict, turn->caller);
+    pie_flight_arrive(burst, turn->moment, tag, word, seen->size, seen->ecn, verdict, turn->caller);
     return verdict;
+}
+
+/* Marks a packet, and returns its new ECN field. The lock is held. */
+static __rte_noinline uint32_t mark(struct pie_stage *stage, struct rte_mbuf *mbuf) {
+    struct stage_packet packet = stage_packet_look(mbuf);
+    stage_packet_mark(mbuf, &packet);
+    stage->stats.marked++;
+    return PIE_CE;
 }
 
 /* Counts a dropped packet. The lock is held. */
@@ -360,39 +379,41 @@ static __rte_always_inline uint32_t arrive_burst(struct pie_stage *stage, struct
                                                  const struct seen *seen, const uint32_t *flows, const struct turn *turn,
                                                  const enum record record) {
     struct rte_ring_zc_data places = {0};
+    struct rte_mbuf **kept = mbufs + queued, **next = mbufs + from;
     struct pie_flight_burst burst = begin_burst(stage, record);
-    uint32_t packets = stage->packets, room = stage->room - packets, taken = 0;
-    uint64_t bytes = stage->bytes;
+    uint32_t room = stage->room - stage->packets;
+    uint64_t bytes = stage->bytes, arrivals = stage->arrivals;
     bool has_flows = record == MORE && stage->flow != NULL;
     rte_ring_enqueue_zc_burst_elem_start(stage->ring, sizeof(struct waiting), count, &places, NULL);
     struct waiting *to = places.ptr1, *end = to + places.n1;
-    for (uint32_t i = 0; i < count; i++) {
-        struct rte_mbuf *mbuf = mbufs[from + i];
-        uint32_t verdict = decide(stage, bytes, &seen[i], has_flows ? flows[i] : 0, room - taken, turn, &burst, record);
-        if (unlikely(verdict > PIE_MARK)) {
-            count_drop(&stage->stats, verdict, seen[i].size);
-            continue;
-        }
-        if (unlikely(verdict == PIE_MARK)) {
-            stage->stats.marked++;
-            stage_packet_mark(mbuf, &seen[i].packet);
+    for (const struct seen *it = seen, *last = seen + count; it != last; it++, next++) {
+        struct rte_mbuf *mbuf = *next;
+        uint32_t ecn = it->ecn;
+        uint32_t verdict = decide(stage, bytes, it, has_flows ? flows[it - seen] : 0, room, turn, &burst, &arrivals, record);
+        if (unlikely(verdict != PIE_ENQUEUE)) {
+            if (verdict != PIE_MARK) {
+                count_drop(&stage->stats, verdict, it->size);
+                continue;
+            }
+            ecn = mark(stage, mbuf);
         }
         if (unlikely(to == end))
             to = places.ptr2; // (continues at the ring's first place)
-        *to++ = (struct waiting){.mbuf = mbuf, .arrived = turn->reached, .size = seen[i].size,
-                                 .ecn = verdict == PIE_MARK ? PIE_CE : seen[i].packet.ecn, .tag = record != NOTHING ? stage->arrivals : 0};
-        if (unlikely(queued + taken != from + i)) {
-            mbufs[from + i] = mbufs[queued + taken];
-            mbufs[queued + taken] = mbuf;
+        *to++ = (struct waiting){mbuf, turn->reached, it->size | ecn << WAITING_ECN | (record != NOTHING ? arrivals << WAITING_TAG : 0)};
+        if (unlikely(kept != next)) {
+            *next = *kept;
+            *kept = mbuf;
         }
         if (has_flows)
-            stage->flows[(stage->stats.queued + taken) % stage->room] = flows[i];
-        bytes += seen[i].size;
-        taken++;
+            stage->flows[(stage->stats.queued + (uint64_t)(kept - mbufs) - queued) % stage->room] = flows[it - seen];
+        kept++;
+        room--;
+        bytes += it->size;
     }
+    uint32_t taken = (uint32_t)(kept - mbufs) - queued, packets = stage->packets + taken;
     rte_ring_enqueue_zc_elem_finish(stage->ring, taken);
     stage->bytes = bytes;
-    packets += taken;
+    stage->arrivals = arrivals;
     __atomic_store_n(&stage->packets, packets, __ATOMIC_RELAXED);
     stage->stats.queued += taken;
     stage->stats.most = RTE_MAX(stage->stats.most, (uint64_t)packets);
@@ -438,25 +459,27 @@ uint32_t pie_stage_enqueue(struct pie_stage *stage, struct rte_mbuf **mbufs, uin
 }
 
 /* Makes the departure of a packet, and adds it to the sums of its interval. The lock is held. */
-static __rte_noinline void depart_summed(struct pie_stage *stage, const struct waiting *oldest, uint64_t left, uint64_t moment) {
-    struct pie_event event = {.moment = moment, .size = oldest->size, .ecn = oldest->ecn};
-    pie_depart_summed(&stage->pie, left, oldest->arrived, &event, &stage->periods->current);
+static __rte_always_inline void depart_summed(struct pie_stage *stage, const struct waiting *oldest, uint64_t left, uint64_t moment) {
+    struct pie_event *event = &stage->periods->event;
+    event->moment = moment;
+    event->size = waiting_size(oldest);
+    pie_depart_summed(&stage->pie, left, oldest->arrived, event, &stage->periods->current);
 }
 
 /* Makes the departure of the oldest packet, which has this number, and records it. The lock is held. */
 static __rte_always_inline void depart(struct pie_stage *stage, const struct waiting *oldest, uint64_t number, uint64_t left,
                                        const struct turn *turn, struct pie_flight_burst *burst, const enum record record) {
-    uint64_t tag = oldest->tag;
+    uint64_t tag = oldest->about >> WAITING_TAG;
     if (is_summed(stage, turn, record))
         depart_summed(stage, oldest, left, turn->moment);
     else
-        pie_depart_waited(&stage->pie, oldest->size, left, oldest->arrived, turn->moment);
+        pie_depart_waited(&stage->pie, waiting_size(oldest), left, oldest->arrived, turn->moment);
     if (!keeps_events(stage, record))
         return;
     if (record == MORE && stage->flow != NULL)
         tag = tag_of(stage, tag, stage->flows[number % stage->room]);
     rte_prefetch0_write(burst->event + AHEAD * PIE_FLIGHT_EVENT);
-    pie_flight_depart(burst, turn->moment, tag, oldest->arrived, oldest->size, oldest->ecn, turn->caller);
+    pie_flight_depart(burst, turn->moment, tag, oldest->arrived, waiting_size(oldest), waiting_ecn(oldest), turn->caller);
 }
 
 /* Dequeues the `count` oldest packets, at most BURST, while the sum of their sizes is below `bytes`. Reduces `bytes` by
@@ -466,15 +489,15 @@ static __rte_always_inline uint32_t depart_burst(struct pie_stage *stage, struct
     struct rte_ring_zc_data places = {0};
     struct pie_flight_burst burst = begin_burst(stage, record);
     struct pie_stage_stats *stats = &stage->stats;
-    uint64_t sent = 0, waited = 0, longest = 0, most = *bytes;
+    uint64_t sent = 0, waited = 0, longest = 0, most = *bytes, before = stage->bytes;
     uint32_t found = rte_ring_dequeue_zc_burst_elem_start(stage->ring, sizeof(struct waiting), count, &places, NULL), taken = 0;
     const struct waiting *oldest = places.ptr1, *end = oldest + places.n1;
     while (taken < found && sent < most) {
         if (unlikely(oldest == end))
             oldest = places.ptr2; // (continues at the ring's first place)
         rte_prefetch0(oldest->mbuf);
-        sent += oldest->size;
-        depart(stage, oldest, stats->departed + taken, stage->bytes - sent, turn, &burst, record);
+        sent += waiting_size(oldest);
+        depart(stage, oldest, stats->departed + taken, before - sent, turn, &burst, record);
         uint64_t wait = turn->reached - oldest->arrived;
         longest = RTE_MAX(longest, wait);
         waited += wait;
@@ -484,7 +507,7 @@ static __rte_always_inline uint32_t depart_burst(struct pie_stage *stage, struct
     }
     rte_ring_dequeue_zc_elem_finish(stage->ring, taken);
     __atomic_store_n(&stage->packets, stage->packets - taken, __ATOMIC_RELAXED);
-    stage->bytes -= sent;
+    stage->bytes = before - sent;
     *bytes -= RTE_MIN(sent, most);
     stats->longest = RTE_MAX(stats->longest, longest);
     stats->departed += taken;

@@ -7,19 +7,22 @@
  *   cent of the target, 15 ms, if the history is not complete, or if an mbuf is lost.
  * usage: stage_measure [EAL options] --vdev=net_null0 --vdev=net_null1 -- rate [SECONDS [RUNS [FILE]]]
  *   Packets per second from one null port to another in bursts of 32, in turn: forwarding alone, by
- *   rte_pie, by the stage without marks, by the stage, by the stage with the flight recorder, by a link
+ *   rte_pie, by rte_pie with events and with sums in C (peer.h), by the stage without marks, by the stage, by the stage with the flight recorder, by a link
  *   in place of that stage (linked.h), by the stage with records of intervals of 10 ms, and by the stage
  *   with its whole history. FILE receives the events of the flight recorder after its last run. The last
  *   lcore writes the history, or the records, to /dev/null. If one other lcore is available, it receives,
  *   enqueues, dequeues and sends, and 512 packets are always queued. If there are several, the main lcore
  *   dequeues and sends, and the others receive and enqueue. Prints lines `name value unit` for
  *   bench/pie_dpdk.sh; `lost` is the share of the recorded stage's events that its history lacks.
- * usage: stage_measure [EAL options] -- count rte_pie|dropping|stage|flight|summed
+ * usage: stage_measure [EAL options] -- count rte_pie|kept|added|dropping|stage|flight|summed
  *   Enqueues and dequeues 1000 bursts of 32 packets, in a function `counted`, for
- *   bench/pie_dpdk_count.sh. Prints the number of packets. */
+ *   bench/pie_dpdk_count.sh. Prints the number of packets.
+ * usage: stage_measure [EAL options] -- check
+ *   Compares the events and sums of rte_pie (peer.h) with those of the stage, after the same bursts.
+ *   The status is 1 if they differ. */
 #include "linked.h"
 #include "peer.h"
-#include "pie_stage.h"
+#include "stage_state.h"
 
 #include <inttypes.h>
 #include <rte_cycles.h>
@@ -41,30 +44,45 @@
 #define STANDING 512
 #define ROOM 1024u
 
+#define LEAST_EVENTS (PIE_STAGE_FLIGHT + 2 * (PIE_STAGE_FLIGHT / 8 + 1) + 2 * (BURST - 1)) /* as in the stage's flight recorder */
+
 static struct rte_mempool *pool;
+static uint64_t least_memory[LEAST_EVENTS * PIE_FLIGHT_EVENT] __rte_cache_aligned;
 
 static void die(const char *what) {
     fprintf(stderr, "stage_measure: %s: %s\n", what, rte_strerror(rte_errno));
     exit(1);
 }
 
-enum which { ALONE, PEER, LINK, DROPPING, STAGE, LAST, SUMMED, RECORDED };
-static const char *const names[] = {"alone", "rte_pie", "link", "dropping", "stage", "flight", "summed", "recorded"};
+enum which { ALONE, PEER, KEPT, ADDED, LINK, DROPPING, STAGE, LAST, SUMMED, RECORDED };
+static const char *const names[] = {"alone", "rte_pie", "kept", "added", "link", "dropping", "stage", "flight", "summed", "recorded"};
 
 static struct peer peer;
 static struct linked linked;
 static struct pie_stage *stage;
 
-static uint32_t enqueue(enum which which, struct rte_mbuf **mbufs, uint32_t count) {
-    if (which == LINK)
-        return linked_enqueue(&linked, mbufs, count, rte_rdtsc());
-    return which == PEER ? peer_enqueue(&peer, mbufs, count, rte_rdtsc()) : pie_stage_enqueue(stage, mbufs, count, rte_rdtsc());
+static bool is_peer(enum which which) {
+    return which == PEER || which == KEPT || which == ADDED;
 }
 
-static uint32_t dequeue(enum which which, struct rte_mbuf **mbufs, uint32_t count) {
-    if (which == LINK)
-        return linked_dequeue(&linked, mbufs, count, rte_rdtsc());
-    return which == PEER ? peer_dequeue(&peer, mbufs, count, rte_rdtsc()) : pie_stage_dequeue(stage, mbufs, count, rte_rdtsc());
+static uint32_t enqueue(enum which which, struct rte_mbuf **mbufs, uint32_t count, uint64_t now) {
+    switch (which) {
+    case PEER: return peer_enqueue(&peer, mbufs, count, now);
+    case KEPT: return peer_enqueue_as(&peer, mbufs, count, now, PEER_KEPT);
+    case ADDED: return peer_enqueue_as(&peer, mbufs, count, now, PEER_SUMMED);
+    case LINK: return linked_enqueue(&linked, mbufs, count, now);
+    default: return pie_stage_enqueue(stage, mbufs, count, now);
+    }
+}
+
+static uint32_t dequeue(enum which which, struct rte_mbuf **mbufs, uint32_t count, uint64_t now) {
+    switch (which) {
+    case PEER: return peer_dequeue(&peer, mbufs, count, now);
+    case KEPT: return peer_dequeue_as(&peer, mbufs, count, now, PEER_KEPT);
+    case ADDED: return peer_dequeue_as(&peer, mbufs, count, now, PEER_SUMMED);
+    case LINK: return linked_dequeue(&linked, mbufs, count, now);
+    default: return pie_stage_dequeue(stage, mbufs, count, now);
+    }
 }
 
 static void expect_all_back(void) {
@@ -254,7 +272,7 @@ static int work(void *argument) {
             count -= rte_eth_tx_burst(1, (uint16_t)number, mbufs, (uint16_t)count);
             rte_pktmbuf_free_bulk(mbufs, count);
         } else {
-            enqueue(measured, mbufs, count);
+            enqueue(measured, mbufs, count, rte_rdtsc());
         }
     }
     return 0;
@@ -265,13 +283,13 @@ static uint64_t forward_alone(uint64_t end) {
     struct rte_mbuf *mbufs[BURST];
     uint64_t packets = 0;
     for (int i = 0; measured != ALONE && i < STANDING / BURST; i++)
-        enqueue(measured, mbufs, rte_eth_rx_burst(0, 0, mbufs, BURST));
+        enqueue(measured, mbufs, rte_eth_rx_burst(0, 0, mbufs, BURST), rte_rdtsc());
     while (rte_rdtsc() < end)
         for (int i = 0; i < 64; i++) {
             uint32_t count = rte_eth_rx_burst(0, 0, mbufs, BURST);
             if (measured != ALONE) {
-                enqueue(measured, mbufs, count);
-                count = dequeue(measured, mbufs, BURST);
+                enqueue(measured, mbufs, count, rte_rdtsc());
+                count = dequeue(measured, mbufs, BURST, rte_rdtsc());
             }
             packets += count;
             send_all(mbufs, count);
@@ -286,7 +304,7 @@ static uint64_t forward_by_all(uint64_t end) {
     rte_eth_stats_get(1, &before);
     while (rte_rdtsc() < end)
         if (measured != ALONE)
-            send_all(mbufs, dequeue(measured, mbufs, BURST));
+            send_all(mbufs, dequeue(measured, mbufs, BURST, rte_rdtsc()));
     rte_eth_stats_get(1, &after);
     return after.opackets - before.opackets;
 }
@@ -319,7 +337,8 @@ static void open_queue(enum which which) {
     params.flight = which == LAST ? PIE_STAGE_FLIGHT : 0;
     params.events = which == RECORDED ? EVENTS : 0;
     params.every = which == SUMMED ? EVERY : 0;
-    if (which == PEER && !peer_open(&peer, ROOM))
+    uint64_t factor = (uint64_t)(((unsigned __int128)1000000000u << SHIFT) / rte_get_tsc_hz());
+    if (is_peer(which) && !(peer_open(&peer, ROOM) && peer_open_records(&peer, least_memory, RTE_DIM(least_memory), rte_rdtsc(), factor, EVERY)))
         die("rte_pie");
     if (which == LINK && !linked_open(&linked, &params.opening))
         die("the link");
@@ -328,7 +347,7 @@ static void open_queue(enum which which) {
 }
 
 static void close_queue(enum which which) {
-    if (which == PEER)
+    if (is_peer(which))
         peer_close(&peer);
     if (which == LINK)
         linked_close(&linked);
@@ -378,35 +397,79 @@ static int measure_rate(double seconds, int runs, const char *flight) {
 
 /* Enqueues and dequeues a burst at a given TSC. */
 __attribute__((noinline)) static uint32_t counted(enum which which, struct rte_mbuf **mbufs, uint64_t now) {
-    if (which == PEER) {
-        peer_enqueue(&peer, mbufs, BURST, now);
-        return peer_dequeue(&peer, mbufs, BURST, now);
-    }
-    pie_stage_enqueue(stage, mbufs, BURST, now);
-    return pie_stage_dequeue(stage, mbufs, BURST, now);
+    enqueue(which, mbufs, BURST, now);
+    return dequeue(which, mbufs, BURST, now);
 }
 
-/* Makes 1000 bursts of one kind, one each 10 us. Prints the number of packets. The status is 1 if one was dropped. */
-static int count_calls(const char *name) {
+/* Makes 1000 bursts of one kind, one each 10 us from a TSC on, while `standing` bursts are queued. Returns the number of packets. */
+static uint64_t make_bursts(enum which which, uint64_t now, int standing) {
     struct rte_mbuf *mbufs[BURST];
-    enum which which = PEER;
-    while (which < SUMMED && strcmp(names[which], name) != 0)
-        which++;
-    open_queue(which);
+    uint64_t packets = 0;
     rte_mempool_obj_iter(pool, fill, NULL);
-    uint64_t now = rte_rdtsc(), packets = 0;
-    for (int i = 0; i < 1000; i++, now += rte_get_tsc_hz() / 100000) {
+    for (int i = -standing; i < 1000; i++, now += rte_get_tsc_hz() / 100000) {
         if (rte_pktmbuf_alloc_bulk(pool, mbufs, BURST) != 0)
             die("mbufs");
         for (int k = 0; k < BURST; k++)
             mbufs[k]->pkt_len = mbufs[k]->data_len = 64;
+        if (i < 0) {
+            enqueue(which, mbufs, BURST, now);
+            continue;
+        }
         uint32_t count = counted(which, mbufs, now);
         rte_pktmbuf_free_bulk(mbufs, count);
         packets += count;
     }
+    for (; standing > 0; standing--)
+        rte_pktmbuf_free_bulk(mbufs, dequeue(which, mbufs, BURST, now));
+    return packets;
+}
+
+/* Counts the packets of one kind. The status is 1 if one was dropped. */
+static int count_calls(const char *name) {
+    enum which which = PEER;
+    while (which < SUMMED && strcmp(names[which], name) != 0)
+        which++;
+    open_queue(which);
+    uint64_t packets = make_bursts(which, rte_rdtsc(), 0);
     printf("%" PRIu64 " packets\n", packets);
     close_queue(which);
     return packets != 1000 * BURST;
+}
+
+/* Returns true if the peer's events are the last ones of the stage's flight recorder, and its sums those of the stage's interval. */
+static bool same_records(enum which which) {
+    unsigned char records[2][PIE_RESUME_ROOM];
+    const struct pie_flight *flight = &stage->flight;
+    if (which == LAST)
+        return flight->count == peer.events.count && flight->event - flight->events == peer.events.event - peer.events.events &&
+               flight->events_end - flight->events == peer.events.events_end - peer.events.events &&
+               memcmp((const void *)flight->events, peer.events.events, sizeof least_memory) == 0;
+    least_finish(&peer.period);
+    for (int i = 1; i < 15; i++) // (the library's cause)
+        if (stage->periods->current.meter.causes[i] != 0)
+            peer.period.meter.causes[i] = peer.period.meter.causes[0], peer.period.meter.causes[0] = 0;
+    size_t size = pie_write_period(&stage->periods->current, records[0], sizeof records[0]);
+    return size != 0 && size == pie_write_period(&peer.period, records[1], sizeof records[1]) && memcmp(records[0], records[1], size) == 0;
+}
+
+/* Compares the records of the peer with those of the stage. The status is 1 if they differ. */
+static int check_least(void) {
+    static const enum which kinds[2][2] = {{LAST, KEPT}, {SUMMED, ADDED}};
+    int status = 0;
+    for (int i = 0; i < 2; i++) {
+        open_queue(kinds[i][0]);
+        open_queue(kinds[i][1]);
+        peer_open_records(&peer, least_memory, RTE_DIM(least_memory), stage->start, stage->factor, 1000000000);
+        if (i == 1)
+            pie_open_period(&stage->periods->current, 1000000000, 0);
+        uint64_t now = rte_rdtsc();
+        bool is_same = make_bursts(kinds[i][0], now, 2) == make_bursts(kinds[i][1], now, 2) && same_records(kinds[i][0]);
+        printf("%s: the records are %s\n", names[kinds[i][1]], is_same ? "the stage's" : "others");
+        status |= !is_same;
+        close_queue(kinds[i][0]);
+        close_queue(kinds[i][1]);
+    }
+    return status;
 }
 
 int main(int count, char **words) {
@@ -425,8 +488,10 @@ int main(int count, char **words) {
         status = measure_rate(count > 2 ? atof(words[2]) : 1, count > 3 ? atoi(words[3]) : 5, count > 4 ? words[4] : NULL);
     else if (count == 3 && strcmp(words[1], "count") == 0)
         status = count_calls(words[2]);
+    else if (count == 2 && strcmp(words[1], "check") == 0)
+        status = check_least();
     else
-        fprintf(stderr, "usage: stage_measure [EAL options] -- slow FOLDER | rate [SECONDS [RUNS [FILE]]] | count KIND\n");
+        fprintf(stderr, "usage: stage_measure [EAL options] -- slow FOLDER | rate [SECONDS [RUNS [FILE]]] | count KIND | check\n");
     rte_eal_cleanup();
     return status;
 }

@@ -22,25 +22,30 @@ struct stage_packet {
 struct stage_packet stage_packet_look_anywhere(const struct rte_mbuf *mbuf);
 bool stage_packet_is_shared_anywhere(const struct rte_mbuf *mbuf, const struct stage_packet *packet);
 
+/* Returns true for the usual frame, IPv4 without VLAN tags and options, and sets its ECN field. */
+static inline bool stage_packet_is_usual(const struct rte_mbuf *mbuf, uint32_t *ecn) {
+    rte_be32_t word;
+    if (unlikely(rte_pktmbuf_data_len(mbuf) < STAGE_ETHERNET + STAGE_IPV4))
+        return false;
+    memcpy(&word, rte_pktmbuf_mtod_offset(mbuf, const uint8_t *, STAGE_ETHERNET - 2), sizeof word);
+    *ecn = rte_be_to_cpu_32(word) & 3;
+    return likely((word & rte_cpu_to_be_32(0xffffff00)) == rte_cpu_to_be_32(0x08004500));
+}
+
 /* Finds the IP header of an Ethernet frame after up to four VLAN tags, also if it crosses segments. */
 static inline struct stage_packet stage_packet_look(const struct rte_mbuf *mbuf) {
-    const uint8_t *bytes = rte_pktmbuf_mtod(mbuf, const uint8_t *);
-    uint32_t word;
-    // the usual frame: IPv4 without VLAN tags and options
-    if (unlikely(rte_pktmbuf_data_len(mbuf) < STAGE_ETHERNET + STAGE_IPV4))
-        return stage_packet_look_anywhere(mbuf);
-    memcpy(&word, bytes + STAGE_ETHERNET - 2, sizeof word);
-    word = rte_be_to_cpu_32(word);
-    if (unlikely(word >> 8 != 0x080045))
-        return stage_packet_look_anywhere(mbuf);
-    return (struct stage_packet){STAGE_ETHERNET, 4, word & 3};
+    uint32_t ecn;
+    return stage_packet_is_usual(mbuf, &ecn) ? (struct stage_packet){STAGE_ETHERNET, 4, (uint8_t)ecn} : stage_packet_look_anywhere(mbuf);
+}
+
+/* Returns true if no other mbuf shares any bytes of a frame in one segment. */
+static inline bool stage_packet_is_alone(const struct rte_mbuf *mbuf) {
+    return likely(mbuf->nb_segs == 1 && rte_mbuf_refcnt_read(mbuf) == 1 && RTE_MBUF_DIRECT(mbuf));
 }
 
 /* Returns true if another mbuf shares the bytes that a mark changes. */
 static inline bool stage_packet_is_shared(const struct rte_mbuf *mbuf, const struct stage_packet *packet) {
-    if (likely(mbuf->nb_segs == 1 && rte_mbuf_refcnt_read(mbuf) == 1 && RTE_MBUF_DIRECT(mbuf)))
-        return false;
-    return stage_packet_is_shared_anywhere(mbuf, packet);
+    return !stage_packet_is_alone(mbuf) && stage_packet_is_shared_anywhere(mbuf, packet);
 }
 
 /* Sets the field to CE. Corrects the checksum of IPv4, unless the card computes it (RTE_MBUF_F_TX_IP_CKSUM). */

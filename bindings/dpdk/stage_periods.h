@@ -11,6 +11,7 @@
 #define STAGE_PERIODS 8 /* the most complete intervals that may be pending */
 
 struct stage_periods {
+    struct pie_event event; /* the event that is added; its line is not that of `over`, which the writer reads all the time */
     struct pie_period current;
     uint64_t handed; /* number of the last complete interval, received by the writer or lost */
     uint64_t over;   /* count of the intervals that the writer received */
@@ -21,7 +22,7 @@ struct stage_periods {
 };
 
 /* Ends the current interval. Returns false if the interval is lost because too many are pending. */
-__attribute__((noinline)) static bool stage_periods_end(struct stage_periods *periods) {
+__attribute__((noinline, unused)) static bool stage_periods_end(struct stage_periods *periods) {
     periods->handed = periods->current.begun;
     if (periods->over - __atomic_load_n(&periods->written, __ATOMIC_ACQUIRE) == STAGE_PERIODS)
         return false;

@@ -17,13 +17,23 @@
 /* A queued packet, in 24 bytes of the ring. */
 struct waiting {
     struct rte_mbuf *mbuf;
-    uint64_t arrived;   /* the controller's moment right after the packet's arrival */
-    uint64_t size : 16; /* size on arrival: another holder of the mbuf may change its length */
-    uint64_t ecn : 2;   /* ECN field on departure, for the history */
-    uint64_t tag : 46;  /* number of the packet in the order of arrivals */
+    uint64_t arrived; /* the controller's moment right after the packet's arrival */
+    /* From the lowest bit: size on arrival in 16 bits, since another holder of the mbuf may change its length; for the history, ECN field on
+     * departure in 2 bits, and number of the packet in the order of arrivals. */
+    uint64_t about;
 };
 
-#define TAG_MASK ((UINT64_C(1) << 46) - 1)
+#define WAITING_ECN 16 /* position of the ECN field */
+#define WAITING_TAG 18 /* position of the number */
+#define TAG_MASK (UINT64_MAX >> WAITING_TAG)
+
+static inline uint32_t waiting_size(const struct waiting *packet) {
+    return (uint16_t)packet->about;
+}
+
+static inline uint32_t waiting_ecn(const struct waiting *packet) {
+    return packet->about >> WAITING_ECN & 3;
+}
 
 /* A wall-clock time at a moment of the stage's clock. */
 struct clock {

@@ -21,8 +21,8 @@ static size_t begin_text(struct pie_stage *stage, unsigned char *text, size_t ro
     for (; cut->written < cut->packets && room - size >= PIE_RECORD_ROOM; cut->written++, stage->text.records++) {
         uint64_t place = (cut->first + cut->written) % stage->room;
         const struct waiting *it = &cut->queue[place];
-        uint64_t tag = tag_of(stage, it->tag, stage->flow != NULL ? cut->flows[place] : 0);
-        size += pie_write_queued(tag, it->size, it->ecn, it->arrived, text + size, room - size);
+        uint64_t tag = tag_of(stage, it->about >> WAITING_TAG, stage->flow != NULL ? cut->flows[place] : 0);
+        size += pie_write_queued(tag, waiting_size(it), waiting_ecn(it), it->arrived, text + size, room - size);
     }
     if (cut->written == cut->packets)
         cut->state = NONE;
@@ -159,8 +159,8 @@ struct handed {
 static void record_packet(void *to, uint64_t number, const struct waiting *packet) {
     const struct handed *handed = to;
     const struct pie_stage *stage = handed->stage;
-    uint64_t tag = tag_of(stage, packet->tag, stage->flow != NULL ? stage->flows[number % stage->room] : 0);
-    pie_flight_waits(handed->queued, handed->places, number, tag, packet->size, packet->ecn, packet->arrived);
+    uint64_t tag = tag_of(stage, packet->about >> WAITING_TAG, stage->flow != NULL ? stage->flows[number % stage->room] : 0);
+    pie_flight_waits(handed->queued, handed->places, number, tag, waiting_size(packet), waiting_ecn(packet), packet->arrived);
 }
 
 /* Passes the queued packets to the recorder. The lock is released after each HANDED_OVER packets. Packets that depart

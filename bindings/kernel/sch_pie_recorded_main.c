@@ -133,11 +133,12 @@ struct pr_sched {
 	bool is_open;
 };
 
-/* The private data of a queued packet. Without a record only `since` is used. */
+/* The private data of a queued packet. Without a record only `since` and `size` are used. */
 struct pr_cb {
 	u64 since;	/* the moment of its arrival */
 	u64 tag;
-	u32 ecn;	/* its ECN field on departure */
+	u16 size;
+	u8 ecn;		/* its ECN field on departure */
 } __packed __aligned(4);
 
 static struct pr_cb *pr_cb(const struct sk_buff *skb)
@@ -152,36 +153,55 @@ static struct pr_cb *pr_cb(const struct sk_buff *skb)
  */
 static __always_inline u32 pr_size(const struct sk_buff *skb)
 {
-	return min_t(u32, qdisc_pkt_len(skb), PIE_MAX_SIZE);
+	u32 size = qdisc_pkt_len(skb);
+
+	if (unlikely(size > PIE_MAX_SIZE)) {
+		size = PIE_MAX_SIZE;
+		OPTIMIZER_HIDE_VAR(size); /* a branch takes fewer instructions than a choice */
+	}
+	return size;
 }
 
-/* Takes a snapshot, with the statistics that are not counted at each event. */
-static noinline void pr_snapshot(struct pr_sched *q)
+/*
+ * Continues at the first place if the ring ended, and takes a snapshot if one is due, with the
+ * statistics that are not counted at each event.
+ */
+static noinline void pr_at_limit(struct pr_sched *q)
 {
-	struct pie_stats *stats = &q->flight.stats;
+	struct pie_flight *flight = &q->flight;
+	struct pie_stats *stats = &flight->stats;
 
-	stats->arrivals = stats->enqueued + stats->marked + stats->early + stats->over_bytes +
-			  stats->over_packets;
-	pie_flight_snapshot(&q->flight, &q->pie);
+	if (flight->event == flight->events_end)
+		flight->event = flight->events;
+	if (pie_flight_is_due(flight)) {
+		flight->came_so_far = stats->enqueued + stats->marked;
+		stats->arrivals = flight->came_so_far + stats->early + stats->over_bytes +
+				  stats->over_packets;
+		stats->left = flight->came_so_far - flight->packets;
+		pie_flight_snapshot(flight, &q->pie);
+	}
+	pie_flight_limit(flight);
 }
 
-/* Ends the recording of an event. */
-static __always_inline void pr_kept(struct pr_sched *q, const struct pie_flight_burst *burst)
+/* Ends the recording of the event in the place `to`. */
+static __always_inline void pr_kept(struct pr_sched *q, PIE_WORD *to)
 {
-	pie_flight_end(&q->flight, burst);
-	if (unlikely(burst->count >= q->flight.next))
-		pr_snapshot(q);
+	q->flight.event = to + PIE_FLIGHT_EVENT;
+	PIE_STORE(q->flight.words[PIE_FLIGHT_KEPT], ++q->flight.count);
+	if (unlikely(to + PIE_FLIGHT_EVENT == q->flight.limit))
+		pr_at_limit(q);
 }
 
 /* Records q->arrival, the arrival of a packet with this tag. */
 static __always_inline void pr_keep_arrival(struct pr_sched *q, u64 tag, u32 size, u32 ecn,
 					    u32 verdict)
 {
-	struct pie_flight_burst burst = pie_flight_begin(&q->flight);
+	PIE_WORD *to = q->flight.event;
 
-	pie_flight_arrive(&burst, q->arrival.moment, tag, q->arrival.word, size, (u8)ecn, verdict,
-			  PR_ENQUEUE);
-	pr_kept(q, &burst);
+	PIE_FLIGHT_FENCE();
+	PIE_FLIGHT_PUT(to, q->arrival.moment, tag, q->arrival.word, size | (u64)verdict << 32,
+		       pie_flight_about(PIE_EVENT_ARRIVE, (u8)ecn, PR_ENQUEUE));
+	pr_kept(q, to);
 }
 
 /* Records q->departure, the departure of the packet with this private data. */
@@ -190,31 +210,31 @@ static __always_inline void pr_keep_departure(struct pr_sched *q, const struct p
 {
 	const struct pie_event *event = &q->departure;
 	struct pie_stats *stats = &q->flight.stats;
-	struct pie_flight_burst burst = pie_flight_begin(&q->flight);
 	u64 since = cb->since, waited = q->pie.moment - since;
-	u32 size = event->size;
+	PIE_WORD *to = q->flight.event;
 
-	stats->left++;
-	stats->left_bytes += size;
+	stats->left_bytes += event->size;
 	stats->waited += waited;
 	stats->waited_high += stats->waited < waited;
-	pie_flight_depart(&burst, event->moment, cb->tag, since, size, (u8)cb->ecn, caller);
-	pr_kept(q, &burst);
+	PIE_FLIGHT_FENCE();
+	PIE_FLIGHT_PUT(to, event->moment, cb->tag, since, event->size,
+		       pie_flight_about(PIE_EVENT_DEPART, (u8)cb->ecn, caller));
+	pr_kept(q, to);
 }
 
 /* Counts and records q->other: an update, a reset or new parameters. */
 static noinline void pr_keep_other(struct pr_sched *q)
 {
-	struct pie_flight_burst burst;
+	PIE_WORD *to = q->flight.event;
 
 	if (q->other.answer > 100)
 		return;
 	pie_count_event(&q->flight.stats, &q->other, q->flight.bytes, 0);
 	if (!q->record)
 		return;
-	burst = pie_flight_begin(&q->flight);
-	pie_flight_other(&burst, &q->pie, &q->other);
-	pr_kept(q, &burst);
+	PIE_FLIGHT_FENCE();
+	pie_flight_put_other(to, &q->pie, &q->other);
+	pr_kept(q, to);
 }
 
 /* Returns the bytes of a packet up to the end of its IP header without options; 0: no IP packet. */
@@ -234,8 +254,9 @@ static u32 pr_ip_end(const struct sk_buff *skb)
  * Returns what pr_ecn returns, for packets of any form. Keeps the controller's state if a mark must
  * copy the header of the packet first, which may fail.
  */
-static noinline u32 pr_ecn_of_any(struct pr_sched *q, struct sk_buff *skb)
+static noinline u32 pr_ecn_of_any(struct Qdisc *sch, struct sk_buff *skb)
 {
+	struct pr_sched *q = qdisc_priv(sch);
 	u32 end = pr_ip_end(skb), ecn;
 
 	if (!end || !pskb_may_pull(skb, end))
@@ -250,13 +271,13 @@ static noinline u32 pr_ecn_of_any(struct pr_sched *q, struct sk_buff *skb)
 }
 
 /* Returns the packet's ECN field; Not-ECT if it has none. */
-static __always_inline u32 pr_ecn(struct pr_sched *q, struct sk_buff *skb)
+static __always_inline u32 pr_ecn(struct Qdisc *sch, struct sk_buff *skb)
 {
 	/* most packets: IPv4, with a header that no other packet shares */
 	if (likely(skb->protocol == htons(ETH_P_IP) && !skb_cloned(skb) &&
 		   pr_has_header(skb, sizeof(struct iphdr))))
 		return ipv4_get_dsfield(ip_hdr(skb)) & INET_ECN_MASK;
-	return pr_ecn_of_any(q, skb);
+	return pr_ecn_of_any(sch, skb);
 }
 
 /* Returns a packet's flow. Writes its addresses to the record, unless its place is taken. */
@@ -291,7 +312,7 @@ static __always_inline u32 pr_flow(struct pr_sched *q, struct sk_buff *skb)
 
 /* Counts and records an arrival, and drops its packet. */
 static noinline int pr_drop(struct sk_buff *skb, struct Qdisc *sch, struct sk_buff **to_free,
-			    u64 tag, u32 verdict)
+			    u32 verdict)
 {
 	struct pr_sched *q = qdisc_priv(sch);
 	struct pie_stats *stats = &q->flight.stats;
@@ -312,14 +333,14 @@ static noinline int pr_drop(struct sk_buff *skb, struct Qdisc *sch, struct sk_bu
 	}
 	q->next_tag++;
 	if (q->record)
-		pr_keep_arrival(q, tag, q->arrival.size, q->arrival.ecn, verdict);
+		pr_keep_arrival(q, pr_cb(skb)->tag, q->arrival.size, q->arrival.ecn, verdict);
 	if (verdict == PIE_EARLY)
 		return pr_drop_because(skb, sch, to_free, CONGESTED);
 	return pr_drop_because(skb, sch, to_free, OVERLIMIT);
 }
 
 /* Enqueues a packet, and records its arrival, q->arrival. */
-static __always_inline int pr_queue(struct sk_buff *skb, struct Qdisc *sch, u64 tag, u32 verdict,
+static __always_inline int pr_queue(struct sk_buff *skb, struct Qdisc *sch, u32 verdict,
 				    const bool is_recorded)
 {
 	struct pr_sched *q = qdisc_priv(sch);
@@ -328,11 +349,12 @@ static __always_inline int pr_queue(struct sk_buff *skb, struct Qdisc *sch, u64 
 	u64 since = q->pie.moment;
 
 	pr_cb(skb)->since = since;
+	pr_cb(skb)->size = size;
 	if (is_recorded) {
 		u32 leaving = verdict == PIE_MARK ? (u32)PIE_CE : ecn;
+		u64 tag = pr_cb(skb)->tag;
 
 		q->next_tag++;
-		pr_cb(skb)->tag = tag;
 		pr_cb(skb)->ecn = leaving;
 		pie_flight_came(&q->flight, tag, size, leaving, since);
 		if (q->flight.bytes > stats->largest_queue)
@@ -345,7 +367,7 @@ static __always_inline int pr_queue(struct sk_buff *skb, struct Qdisc *sch, u64 
 		q->maxq = q->flight.packets;
 	qdisc_enqueue_tail(skb, sch);
 	if (is_recorded)
-		pr_keep_arrival(q, tag, size, ecn, verdict);
+		pr_keep_arrival(q, pr_cb(skb)->tag, size, ecn, verdict);
 	return NET_XMIT_SUCCESS;
 }
 
@@ -361,18 +383,18 @@ static __always_inline u32 pr_decide(struct pr_sched *q)
  * is no memory for a copy, the packet is decided again, as one that cannot be marked.
  */
 static noinline int pr_queue_marked(struct sk_buff *skb, struct Qdisc *sch,
-				    struct sk_buff **to_free, u64 tag)
+				    struct sk_buff **to_free)
 {
 	struct pr_sched *q = qdisc_priv(sch);
 
 	if (unlikely(skb_try_make_writable(skb, pr_ip_end(skb)))) {
 		q->pie = q->before;
 		q->arrival.ecn = PIE_NOT_ECT;
-		return pr_drop(skb, sch, to_free, tag, pr_decide(q));
+		return pr_drop(skb, sch, to_free, pr_decide(q));
 	}
 	INET_ECN_set_ce(skb);
 	q->flight.stats.marked++;
-	return pr_queue(skb, sch, tag, PIE_MARK, q->record);
+	return pr_queue(skb, sch, PIE_MARK, q->record);
 }
 
 /* Enqueues or drops a packet that needs no segmentation. Only recorded packets need a tag. */
@@ -380,26 +402,27 @@ static __always_inline int pr_enqueue_one(struct sk_buff *skb, struct Qdisc *sch
 					  struct sk_buff **to_free, const bool is_recorded)
 {
 	struct pr_sched *q = qdisc_priv(sch);
-	u64 tag = 0;
 	u32 verdict;
 
 	q->arrival.moment = ktime_get_ns();
 	q->arrival.size = pr_size(skb);
-	q->arrival.ecn = q->ecn ? pr_ecn(q, skb) : PIE_NOT_ECT;
+	q->arrival.ecn = q->ecn ? pr_ecn(sch, skb) : PIE_NOT_ECT;
 	if (is_recorded) {
-		if (q->flows)
-			tag = (u64)pr_flow(q, skb) << 32;
-		tag |= q->next_tag;
+		u64 flow = q->flows ? pr_flow(q, skb) : 0;
+
+		pr_cb(skb)->tag = flow << 32 | q->next_tag;
 	}
-	q->arrival.word = pr_word(&q->random, q->arrival.moment);
+	/* at the probability 0 the word has no effect; it is spread over its range nevertheless */
+	q->arrival.word = q->pie.prob ? pr_word(&q->random, q->arrival.moment) :
+					q->arrival.moment * GOLDEN_RATIO_64;
 	verdict = pr_decide(q);
 	if (likely(verdict == PIE_ENQUEUE)) {
 		q->flight.stats.enqueued++;
-		return pr_queue(skb, sch, tag, PIE_ENQUEUE, is_recorded);
+		return pr_queue(skb, sch, PIE_ENQUEUE, is_recorded);
 	}
 	if (verdict == PIE_MARK)
-		return pr_queue_marked(skb, sch, to_free, tag);
-	return pr_drop(skb, sch, to_free, tag, verdict);
+		return pr_queue_marked(skb, sch, to_free);
+	return pr_drop(skb, sch, to_free, verdict);
 }
 
 /* Makes and records the departure of a packet that was removed from the queue. */
@@ -409,7 +432,7 @@ static __always_inline void pr_left(struct pr_sched *q, const struct sk_buff *sk
 	u32 answer;
 
 	q->departure.moment = ktime_get_ns();
-	q->departure.size = pr_size(skb);
+	q->departure.size = cb->size;
 	q->flight.packets--;
 	q->flight.bytes -= q->departure.size;
 	answer = pie_depart_event(&q->pie, q->flight.bytes, cb->since, &q->departure);

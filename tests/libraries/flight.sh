@@ -6,7 +6,8 @@
 # - dumps during writes, killed processes, damaged memory, memory of version 2 (tests/rows/flight_2.txt);
 # - a copy and a writer that are stopped between two words.
 #
-# Then it builds twenty-seven wrong recorders. A test must find each of them. Prints a line NOT RUN for a missing tool.
+# bench/peer/record.c must keep the same events and sums. Then the script builds twenty-seven wrong recorders. A test
+# must find each of them. Prints a line NOT RUN for a missing tool.
 # usage: tests/libraries/flight.sh [EVENTS]      EVENTS: 50000 by default
 # needs: library
 set -u
@@ -14,6 +15,9 @@ set -u
 stored=$PWD/tests/rows/flight_2.txt
 header_test flight 1 "${1:-50000}" "$stored"
 header_test flight_steps 1 200
+
+# the recorder and the sums in C that are measured beside the library (bench/pie_record_count.sh)
+"$cc" -std=gnu11 -O2 -Wall -Wextra -Werror -Iinclude -o "$work/record" bench/peer/record.c "$lib" && "$work/record" || failed=1
 
 # wrong NAME OLD NEW [TEST COUNT]: a test must find this fault of the header
 wrong() {
@@ -48,7 +52,7 @@ wrong "dropped packets are not kept" "event->kind < PIE_EVENT_ARRIVE" "event->ki
 wrong "the ring of events goes on behind its end" "    if (flight->event == flight->events_end)
         flight->event = flight->events;" ""
 wrong "a queued packet has the caller's moment in place of the effective one" \
-    "pie_flight_put_packet(packet, tag, now, size" "pie_flight_put_packet(packet, tag, moment, size"
+    "pie_flight_put_packet(packet, event->tag, state->moment" "pie_flight_put_packet(packet, event->tag, event->moment"
 wrong "a marked packet is queued without CE" \
     "packet.answer == PIE_MARK ? (uint8_t)PIE_CE : packet.ecn" "packet.ecn"
 wrong "a damaged number of kept events is believed" "        PIE_LOAD(words[PIE_FLIGHT_KEPT]) > PIE_FLIGHT_MOST_KEPT)" "        0)"
@@ -74,10 +78,8 @@ wrong "the wall-clock time comes before the queued packets" "    pie_flight_visi
 wrong "a snapshot that changed during the copy is used" "(PIE_LOAD(from[at]) != PIE_LOAD(to[at]))" "(from == to)" flight_steps 200
 wrong "a snapshot counts as complete while it is written" "    PIE_STORE(to[PIE_FLIGHT_NUMBER], 0);
     PIE_STORE(to[PIE_FLIGHT_COUNT]" "    PIE_STORE(to[PIE_FLIGHT_COUNT]" flight_steps 200
-wrong "an event is kept before its words are stored" "        pie_flight_put(to, moment, tag, word, size, about);
-        packet = flight->came;" "        PIE_STORE(flight->words[PIE_FLIGHT_KEPT], flight->count + 1);
-        pie_flight_put(to, moment, tag, word, size, about);
-        packet = flight->came;" flight_steps 200
+wrong "an event is kept before its words are stored" "        PIE_FLIGHT_PUT(to, event->moment, event->tag, event->word, size, about);" "        PIE_STORE(flight->words[PIE_FLIGHT_KEPT], flight->count + 1);
+        PIE_FLIGHT_PUT(to, event->moment, event->tag, event->word, size, about);" flight_steps 200
 wrong "an event that is overwritten during the copy is used" "KEPT]) + layout->burst;
 }" "KEPT]);
 }" flight_steps 200

@@ -2,8 +2,9 @@
 # The first process of the kernel that boot.sh boots: queues of pie and fq_pie on the device rb (guest_net.sh describes the network), and pie-watch beside
 # them.
 . /net.sh
+. /watch.sh
 begins
-loads veth sch_htb sch_tbf sch_netem sch_pie sch_fq_pie
+loads veth dummy sch_htb sch_tbf sch_netem sch_pie sch_fq_pie pktgen
 finds_disk
 connects 1
 /bin/tc -n b qdisc add dev b0 root netem delay 5ms limit 10000
@@ -15,26 +16,17 @@ for name in a b; do
 done
 $box sleep 1
 
-# watches NAME WORDS..: starts pie-watch in the namespace of the queue, and waits until it records
-watches() {
+# records NAME WORDS..: records to a compact file of this name
+records() {
     name=$1
     shift
-    /bin/ip netns exec r /bin/pie-watch --compact -o /tmp/$name.steps "$@" 2> /tmp/$name.said &
-    watch=$!
-    until $box grep -q '^pie-watch: recording' /tmp/$name.said; do
-        $box kill -0 $watch 2> /dev/null || { echo "FAILED: pie-watch $name"; $box cat /tmp/$name.said; break; }
-        $box sleep 0.2
-    done
+    watches $name --compact -o /tmp/$name.steps "$@"
 }
 
-# ends STATUS: ends pie-watch, whose status must be STATUS, and keeps tc's later counters
-ends() {
-    $box kill -INT $($box pidof pie-watch)
-    wait $watch
-    status=$?
+# stops STATUS: ends the recording, and keeps tc's later counters
+stops() {
+    ends $1
     counters > /tmp/$name.later
-    [ $status = $1 ] || echo "FAILED: pie-watch $name ends with $status"
-    $box sed "s/^/TOLD $name: /" /tmp/$name.said
 }
 
 # counters: prints tc's counters, without the probability, which changes in an idle queue
@@ -45,13 +37,6 @@ counters() {
 # keeps: keeps tc's counters, at a moment when no packet comes
 keeps() {
     until counters > /tmp/$name.earlier && $box sleep 0.3 && counters > /tmp/$name.json && $box cmp -s /tmp/$name.earlier /tmp/$name.json; do :; done
-}
-
-# queues WORDS..: a queue 2: below a link of 10 Mbit/s
-queues() {
-    /bin/tc -n r qdisc add dev rb root handle 1: htb default 1
-    /bin/tc -n r class add dev rb parent 1: classid 1:1 htb rate 10mbit
-    /bin/tc -n r qdisc add dev rb parent 1:1 handle 2: "$@" || echo "FAILED tc $*"
 }
 
 changes() {
@@ -76,51 +61,72 @@ queues pie ecn
 carries $bytes
 rate 8kbit
 /bin/ip netns exec a $box ping -q -c 300 -i 0.005 -s 1000 10.0.2.1 > /dev/null
-watches running rb
+records running rb
 /bin/ip netns exec a $box ping -q -c 1 10.0.2.1 > /dev/null
 rate 10mbit
 changes pie limit 60 target 5ms tupdate 10ms alpha 4 beta 30
 carries $bytes
+floods $packets 200
 changes pie limit 10
 /bin/ip -n r link set rb down
 /bin/ip -n r link set rb up
 /bin/ip -n r route replace 10.0.2.0/24 dev rb
 changes pie limit 500 bytemode
 carries $bytes
+floods $packets 700
 keeps
-ends 0
+stops 0
 /bin/tc -n r qdisc del dev rb root
 
-# a queue from its creation on, and its removal
-watches created --all --rate-estimator
+# a queue from its creation on, beside another device's, and its removal
+records created --all --rate-estimator
+/bin/tc -n r qdisc add dev ra root handle 3: pie || echo "FAILED tc ra"
 queues pie dq_rate_estimator
 carries $bytes
+floods $packets 400
 keeps
 /bin/tc -n r qdisc del dev rb root
-ends 0
+/bin/tc -n r qdisc del dev ra root
+stops 0
 
 # fq_pie, and a queue that is not wanted
-watches flows --queue 2: rb
+records flows --queue 2: rb
 queues fq_pie limit 400 flows 64 ecn
 carries $bytes
+floods $packets 300
+floods $packets 900
 keeps
-ends 0
+stops 0
 /bin/tc -n r qdisc del dev rb root
 
 # a ring that is too small while pie-watch is stopped
 queues pie
-watches small --ring 1 rb
+records small --ring 1 rb
 $box kill -STOP $($box pidof pie-watch)
 carries 6M
 $box kill -CONT $($box pidof pie-watch)
 $box sleep 1
 carries $bytes
 keeps
-ends 2
+stops 2
 /bin/tc -n r qdisc del dev rb root
 
-# refuses NAME WORDS TEXT: pie-watch with WORDS fails, and its only line contains TEXT
+# some of many queues
+watches sampled --all --every 4 -o /tmp/sampled.text
+for number in 1 2 3 4 5 6 7 8 9 10 11 12 13 14 15 16; do
+    /bin/ip -n r link add d$number type dummy
+    /bin/tc -n r qdisc add dev d$number root pie
+done
+ends 0
+sampled=$($box grep -c ',init,' /tmp/sampled.text)
+[ $sampled -gt 0 ] && [ $sampled -lt 16 ] || echo "FAILED: --every 4 records $sampled of 16 queues"
+for number in 1 2 3 4 5 6 7 8 9 10 11 12 13 14 15 16; do
+    /bin/ip -n r link del d$number
+done
+
+# refuses NAME WORDS TEXT: pie-watch with WORDS fails, and its only line contains TEXT. A kernel that is not known is refused in a line of its own
 refuses() {
+    [ -z "${anyway-}" ] || return 0
     $2 > /tmp/refused 2>&1 && echo "FAILED: $1 is not refused"
     $box sed "s/^/TOLD $1: /" /tmp/refused
     $box grep -q "$3" /tmp/refused && [ "$($box wc -l < /tmp/refused)" = 1 ] || echo "FAILED: $1"

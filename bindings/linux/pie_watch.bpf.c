@@ -21,6 +21,7 @@ char LICENSE[] SEC("license") = "Dual MIT/GPL";
 /* The program in user space sets these before it loads the programs. */
 const volatile u32 wanted_ifindex, wanted_handle; /* 0: each */
 const volatile u32 wanted_netns;
+const volatile u32 wanted_part; /* about one of this many queues is wanted, selected by device and handle */
 const volatile bool has_fq_pie; /* the module sch_fq_pie is loaded */
 
 /* The program in user space changes `is_on` while the programs are attached. `has_clock`: the programs that read the clock are attached. */
@@ -75,8 +76,8 @@ static __always_inline struct queue *find(u64 key) {
     return is_on ? bpf_map_lookup_elem(&queues, &key) : NULL;
 }
 
-static __always_inline void fill_head(struct watch_head *head, const struct queue *queue, enum watch_type type, u32 seq) {
-    head->ns = bpf_ktime_get_ns();
+static __always_inline void fill_head(struct watch_head *head, const struct queue *queue, enum watch_type type, u32 seq, u64 ns) {
+    head->ns = ns;
     head->seq = seq;
     head->flow = WATCH_FLOW_NONE;
     head->queue = queue->number;
@@ -85,14 +86,17 @@ static __always_inline void fill_head(struct watch_head *head, const struct queu
     head->bits = head->ret = head->counts = 0;
 }
 
+#define NOW bpf_ktime_get_ns()
+#define IN_RECORD 0 /* another field of the record has the moment */
+
 /* Reserves the record of a step, which has the queue's next number. Returns NULL if the step is lost. */
-#define STEP(queue, type, size)                                                        \
+#define STEP(queue, type, size, ns)                                                    \
     ({                                                                                 \
         u32 seq_ = (queue)->seq;                                                       \
         (queue)->seq = seq_ + 1;                                                       \
         void *record_ = (queue)->is_broken ? NULL : bpf_ringbuf_reserve(&ring, size, 0); \
         if (record_ != NULL) {                                                         \
-            fill_head(record_, queue, type, seq_);                                     \
+            fill_head(record_, queue, type, seq_, ns);                                   \
         } else {                                                                       \
             (queue)->is_broken = true;                                                 \
             (queue)->lost++;                                                           \
@@ -179,7 +183,7 @@ static __always_inline void fill_whole(struct watch_whole *record, struct queue 
 }
 
 static __always_inline void write_whole(struct queue *queue, struct Qdisc *sch, enum watch_kind kind, enum watch_type type, u32 packets, u32 bytes) {
-    struct watch_whole *record = STEP(queue, type, sizeof *record);
+    struct watch_whole *record = STEP(queue, type, sizeof *record, NOW);
     if (record == NULL)
         return;
     fill_whole(record, queue, sch, kind);
@@ -192,7 +196,7 @@ static __always_inline bool write_base(struct queue *queue, enum watch_type type
     struct watch_base *record = bpf_ringbuf_reserve(&ring, sizeof *record, 0);
     if (record == NULL)
         return false;
-    fill_head(&record->head, queue, type, queue->seq);
+    fill_head(&record->head, queue, type, queue->seq, NOW);
     record->stats = queue->stats;
     record->limit = queue->limit;
     record->mtu = queue->mtu;
@@ -208,7 +212,7 @@ static __always_inline bool write_name(struct queue *queue, struct Qdisc *sch, u
     struct net_device *dev = sch->dev_queue->dev;
     if (record == NULL)
         return false;
-    fill_head(&record->head, queue, WATCH_QUEUE, queue->seq);
+    fill_head(&record->head, queue, WATCH_QUEUE, queue->seq, NOW);
     record->address = key;
     record->kind = queue->kind;
     record->ifindex = dev->ifindex;
@@ -236,7 +240,7 @@ struct walk {
 
 static __always_inline void head_of_walk(struct watch_head *head, const struct walk *walk, enum watch_type type) {
     struct queue queue = {.number = walk->which};
-    fill_head(head, &queue, type, walk->seq);
+    fill_head(head, &queue, type, walk->seq, NOW);
     head->flow = walk->flow;
 }
 
@@ -345,7 +349,7 @@ static __always_inline void resume(struct queue *queue, struct Qdisc *sch, u64 k
     if (record == NULL)
         return;
     queue->seq = seq + 1;
-    fill_head(&record->head, queue, WATCH_RESUME, seq);
+    fill_head(&record->head, queue, WATCH_RESUME, seq, NOW);
     fill_whole(record, queue, sch, kind);
     write(record);
     is_full = write_packets(number_of(queue, sch->gso_skb.next), queue->sch + OFFSET(Qdisc, gso_skb), seq, WATCH_FLOW_NONE, which | PEEKED);
@@ -362,8 +366,9 @@ static __always_inline void resume(struct queue *queue, struct Qdisc *sch, u64 k
 
 static __always_inline bool is_wanted(struct Qdisc *sch) {
     struct net_device *dev = sch->dev_queue->dev;
+    u32 mixed = ((u32)dev->ifindex * 0x9e3779b1u + (sch->handle >> 16)) * 0x85ebca6bu;
     return (wanted_ifindex == 0 || (u32)dev->ifindex == wanted_ifindex) && (wanted_handle == 0 || sch->handle == wanted_handle) &&
-           dev->nd_net.net->ns.inum == wanted_netns;
+           (mixed >> 16) % wanted_part == 0 && dev->nd_net.net->ns.inum == wanted_netns;
 }
 
 /* Gives a wanted queue a place in the map. Returns NULL if it is not wanted, or the map is full. */
@@ -453,7 +458,8 @@ static __always_inline u32 own_values(void *map, struct queue *queue, u32 since,
     return own;
 }
 
-static __always_inline void begin_enqueue(struct queue *queue, struct sk_buff *skb, struct Qdisc *sch, const void *stack) {
+/* The network header is an input only if a picked packet may be marked. */
+static __always_inline void begin_enqueue(struct queue *queue, struct sk_buff *skb, struct Qdisc *sch, enum watch_kind kind, const void *stack) {
     struct drawn *drawn = drawn_here(&words);
     u16 protocol = skb->protocol;
     u32 at = skb->network_header;
@@ -464,7 +470,8 @@ static __always_inline void begin_enqueue(struct queue *queue, struct sk_buff *s
     queue->early = WATCH_EARLY_NONE;
     queue->flow = WATCH_FLOW_NONE;
     queue->network = 0;
-    bpf_probe_read_kernel(&queue->network, sizeof queue->network, skb->head + at);
+    if (kind == WATCH_PIE ? PIE_OF(sch)->params.ecn : FQ_PIE_OF(sch)->p_params.ecn)
+        bpf_probe_read_kernel(&queue->network, sizeof queue->network, skb->head + at);
     queue->room = at + (protocol == __builtin_bswap16(0x86dd) ? 40 : 20) <= skb->tail;
     queue->is_enqueue = true;
 }
@@ -511,7 +518,7 @@ static __always_inline void end_enqueue(struct queue *queue, struct sk_buff *skb
     own = own_values(&words, queue, queue->draws, &queue->least_word);
     if (own > 1) /* this step cannot be recorded */
         queue->is_broken = true;
-    struct watch_enqueue *record = STEP(queue, WATCH_ENQUEUE, sizeof *record);
+    struct watch_enqueue *record = STEP(queue, WATCH_ENQUEUE, sizeof *record, NOW);
     if (record == NULL)
         return;
     queue->stats = stats;
@@ -562,7 +569,7 @@ static __always_inline int enqueue(struct sk_buff *skb, struct Qdisc *sch, u64 k
     }
     if (queue->is_broken)
         resume(queue, sch, key, kind);
-    begin_enqueue(queue, skb, sch, stack);
+    begin_enqueue(queue, skb, sch, kind, stack);
     return 0;
 }
 
@@ -601,10 +608,12 @@ int BPF_PROG(random_second, void *to, u64 count) {
 
 /* ---- dequeue */
 
-/* Reads the packets and bytes of a queue. */
-static __always_inline void read_lengths(u64 sch, u32 *qlen, u32 *backlog) {
-    bpf_probe_read_kernel(qlen, sizeof *qlen, (void *)(sch + OFFSET(Qdisc, q.qlen)));
-    bpf_probe_read_kernel(backlog, sizeof *backlog, (void *)(sch + OFFSET(Qdisc, qstats.backlog)));
+/* Reads the packets and bytes of a queue. `backlog` is an argument of the kernel's function: for pie, it has the bytes. */
+static __always_inline void read_lengths(const struct queue *queue, u32 *qlen, u32 *bytes, u32 backlog) {
+    bpf_probe_read_kernel(qlen, sizeof *qlen, (void *)(queue->sch + OFFSET(Qdisc, q.qlen)));
+    *bytes = backlog;
+    if (is_fq_pie(queue))
+        bpf_probe_read_kernel(bytes, sizeof *bytes, (void *)(queue->sch + OFFSET(Qdisc, qstats.backlog)));
 }
 
 static __always_inline u32 memory_of(u64 params) {
@@ -633,7 +642,7 @@ static __always_inline void fill_dequeue(struct watch_dequeue *record, struct qu
     record->size = skb->len;
     record->pkt_len = cb->pkt_len;
     record->decided_backlog = backlog;
-    read_lengths(queue->sch, &record->qlen, &record->backlog);
+    read_lengths(queue, &record->qlen, &record->backlog, backlog);
     record->memory = is_fq_pie(queue) ? memory_of((u64)params) : 0;
     queue->memory = record->memory;
     record->enqueued = ((struct pie_skb_cb *)cb->data)->enqueue_time;
@@ -646,7 +655,7 @@ int BPF_PROG(dequeue_ends, struct sk_buff *skb, struct pie_params *params, struc
     if (queue == NULL)
         return 0;
     if (!params->dq_rate_estimator) {
-        record = STEP(queue, WATCH_DEQUEUE, __builtin_offsetof(struct watch_dequeue, at));
+        record = STEP(queue, WATCH_DEQUEUE, __builtin_offsetof(struct watch_dequeue, at), IN_RECORD);
         if (record == NULL)
             return 0;
         fill_dequeue(record, queue, skb, params, vars, backlog);
@@ -655,7 +664,7 @@ int BPF_PROG(dequeue_ends, struct sk_buff *skb, struct pie_params *params, struc
         if (own == 0 || own > 3) /* this step cannot be recorded */
             queue->is_broken = true;
         queue->is_dequeue = false;
-        record = STEP(queue, WATCH_DEQUEUE, sizeof *record);
+        record = STEP(queue, WATCH_DEQUEUE, sizeof *record, NOW);
         if (record == NULL)
             return 0;
         fill_dequeue(record, queue, skb, params, vars, backlog);
@@ -698,14 +707,14 @@ int BPF_PROG(calculation_ends, struct pie_params *params, struct pie_vars *vars,
     copy_vars(&after, vars);
     if (is_fq_pie(queue) && is_same(&after, &queue->vars))
         return 0;
-    record = STEP(queue, WATCH_CALC, sizeof *record);
+    record = STEP(queue, WATCH_CALC, sizeof *record, NOW);
     if (record == NULL)
         return 0;
     record->head.flow = flow_of(queue, vars);
     record->vars = after;
     record->decided_backlog = backlog;
     record->spare = 0;
-    read_lengths(queue->sch, &record->qlen, &record->backlog);
+    read_lengths(queue, &record->qlen, &record->backlog, backlog);
     write(record);
     return 0;
 }
@@ -835,7 +844,7 @@ int BPF_PROG(calculation_begins, struct pie_params *params, struct pie_vars *var
         return 0;
     if (queue->is_round) {
         queue->is_round = false;
-        struct watch_head *record = STEP(queue, WATCH_TIMER, sizeof *record);
+        struct watch_head *record = STEP(queue, WATCH_TIMER, sizeof *record, NOW);
         if (record != NULL) {
             record->flow = flow_of(queue, vars);
             write(record);

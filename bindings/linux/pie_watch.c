@@ -36,6 +36,7 @@ static const char usage[] =
     "\n"
     "  -q, --queue HANDLE  Record only the queue with this handle, such as 8001:\n"
     "  -a, --all           Record the queues of all devices of this network namespace\n"
+    "  -n, --every N       Record about one of N queues, with all its steps. Device and handle select it. Default: 1\n"
     "  -o, --output FILE   Write to FILE, which has its name when it is complete. Default: standard output\n"
     "  -e, --rate-estimator\n"
     "                      Read the clock from the beginning, as queues with dq_rate_estimator need it. Otherwise their first steps are lost\n"
@@ -54,7 +55,7 @@ static const char usage[] =
 
 struct options {
     const char *device, *output, *steps;
-    unsigned ifindex, handle, ring;
+    unsigned ifindex, handle, ring, part;
     bool is_all, is_compact, is_anyway, is_forced, is_verbose, is_text, has_clock;
 };
 
@@ -209,6 +210,7 @@ static void load(struct recording *recording, const struct watch_checked *checke
     bpf->rodata->wanted_ifindex = options->ifindex;
     bpf->rodata->wanted_handle = options->handle;
     bpf->rodata->wanted_netns = (u32)namespace.st_ino;
+    bpf->rodata->wanted_part = options->part;
     bpf->rodata->has_fq_pie = checked->has_fq_pie;
     bpf_map__set_max_entries(bpf->maps.words, (u32)processors);
     bpf_map__set_max_entries(bpf->maps.readings, (u32)processors);
@@ -315,6 +317,14 @@ static unsigned read_handle(const char *text) {
     return (unsigned)major << 16;
 }
 
+static unsigned read_part(const char *text) {
+    char *rest;
+    unsigned long part = strtoul(text, &rest, 10);
+    if (rest == text || *rest != '\0' || part == 0 || part > 1000000)
+        fail("--every is a number from 1 to 1000000: ", text);
+    return (unsigned)part;
+}
+
 static unsigned read_ring(const char *text) {
     char *rest;
     unsigned long mib = strtoul(text, &rest, 10);
@@ -324,24 +334,36 @@ static unsigned read_ring(const char *text) {
 }
 
 static void read_options(struct options *options, int count, char **words) {
-    static const struct option names[] = {{"queue", required_argument, NULL, 'q'}, {"all", no_argument, NULL, 'a'}, {"output", required_argument, NULL, 'o'},
-                                          {"compact", no_argument, NULL, 'c'}, {"rate-estimator", no_argument, NULL, 'e'}, {"ring", required_argument, NULL, 'r'}, {"anyway", no_argument, NULL, 'w'},
-                                          {"force", no_argument, NULL, 'f'},       {"verbose", no_argument, NULL, 'v'}, {"help", no_argument, NULL, 'h'},
-                                          {"version", no_argument, NULL, 'V'},     {NULL, 0, NULL, 0}};
+    static const struct option names[] = {{"queue", required_argument, NULL, 'q'},
+                                          {"all", no_argument, NULL, 'a'},
+                                          {"every", required_argument, NULL, 'n'},
+                                          {"output", required_argument, NULL, 'o'},
+                                          {"compact", no_argument, NULL, 'c'},
+                                          {"rate-estimator", no_argument, NULL, 'e'},
+                                          {"ring", required_argument, NULL, 'r'},
+                                          {"anyway", no_argument, NULL, 'w'},
+                                          {"force", no_argument, NULL, 'f'},
+                                          {"verbose", no_argument, NULL, 'v'},
+                                          {"help", no_argument, NULL, 'h'},
+                                          {"version", no_argument, NULL, 'V'},
+                                          {NULL, 0, NULL, 0}};
     int letter;
-    *options = (struct options){.ring = 32};
+    *options = (struct options){.ring = 32, .part = 1};
     if (count > 1 && strcmp(words[1], "text") == 0) {
         options->is_text = true;
         words++;
         count--;
     }
-    while ((letter = getopt_long(count, words, "q:ao:cer:vhV", names, NULL)) != -1) {
+    while ((letter = getopt_long(count, words, "q:an:o:cer:vhV", names, NULL)) != -1) {
         switch (letter) {
         case 'q':
             options->handle = read_handle(optarg);
             break;
         case 'a':
             options->is_all = true;
+            break;
+        case 'n':
+            options->part = read_part(optarg);
             break;
         case 'o':
             options->output = optarg;

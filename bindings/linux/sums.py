@@ -10,7 +10,9 @@ The number of each row `lost` must be the number of enqueues and dequeues betwee
 after it, and of calculations that fit into its time. small.csv must have such a row, and each other text none. A row
 `resume` is followed by a row `wait` for each packet of its queue. running.csv must have such packets.
 
-usage: bindings/linux/sums.py FOLDER"""
+The texts together must have at least ENQUEUES enqueues of both kinds of queues, and a quarter of it of fq_pie.
+
+usage: bindings/linux/sums.py FOLDER ENQUEUES"""
 import csv
 import json
 import sys
@@ -27,10 +29,11 @@ class Queue:
     def __init__(self):
         self.rows, self.lost, self.bytes, self.next, self.faults = Counter(), 0, 0, 0, []
         self.counters = self.last = self.gap = None
+        self.kind = ""
         self.waiting = 0  # packets of the last row `resume` without a row `wait`
 
     def add(self, row):
-        kind = row["type"]
+        kind, self.kind = row["type"], row["kind"]
         self.rows[kind] += 1
         self.waiting -= kind == "wait"
         if kind in ("flow", "wait"):
@@ -98,7 +101,8 @@ def tc(path):
 
 
 def main():
-    folder, failed = Path(sys.argv[1]), False
+    folder, least, failed = Path(sys.argv[1]), int(sys.argv[2]), False
+    enqueues = Counter()
     for path in sorted(folder.glob("*.csv")):
         queues = read(path)
         told, later = tc(path.with_suffix(".json")), tc(path.with_suffix(".later"))
@@ -113,12 +117,14 @@ def main():
             if path.stem == "running" and queue.rows["wait"] == 0:
                 queue.faults.append("no packet waits")
             failed |= bool(queue.faults)
+            enqueues[queue.kind] += queue.rows["enq"]
             print(f"  {path.stem} {name}: {queue.next - queue.lost} steps, {queue.rows['enq']} enqueues, {queue.lost} lost",
                   *(f"DIFFERENT: {it}" for it in queue.faults))
         if compared != 1:
             print(f"  {path.stem}: {compared} queues were compared with tc")
             failed = True
-    sys.exit(failed)
+    print(f"  {enqueues['pie']} enqueues of pie, {enqueues['fq_pie']} of fq_pie")
+    sys.exit(failed or enqueues.total() < least or enqueues["fq_pie"] < least // 4)
 
 
 main()

@@ -58,7 +58,7 @@ enum {
 };
 
 struct watch_head {
-    u64 ns; /* CLOCK_MONOTONIC when the record was written */
+    u64 ns; /* CLOCK_MONOTONIC when the record was written; 0: `vars.dq_tstamp` of a dequeue, in ticks, has the moment */
     u32 seq;
     u32 flow; /* WATCH_FLOW_NONE for pie */
     u16 queue;
@@ -134,7 +134,7 @@ struct watch_enqueue {
     u32 decided_backlog; /* the argument of pie_drop_early */
     u32 hash, truesize, priority;
     u32 memory;
-    u16 protocol, network; /* the first two bytes of the network header; both in network byte order */
+    u16 protocol, network; /* the first two bytes of the network header, 0 if `ecn` is off; both in network byte order */
     u64 enqueued;
     u64 random;
 };

@@ -26,6 +26,7 @@ struct row {
     const char *type;
     const struct watch_head *head;
     u64 seq;
+    u64 ns; /* if the head has none */
     u32 backlog, size, pkt_len, mtu, qlen_before, qlen, backlog_before, backlog_after, limit, ret;
     u16 protocol, network;
     u32 room, early, draws;
@@ -91,7 +92,7 @@ static void write_row(struct watch_text *text, const struct text_queue *queue, c
     to = put_text(to, queue->kind == WATCH_PIE ? "pie" : "fq_pie");
     to = put_text(to, row->type);
     to = put_number(to, row->seq);
-    to = put_number(to, head->ns);
+    to = put_number(to, head->ns != 0 ? head->ns : row->ns);
     to = put_number(to, head->cpu);
     to = head->flow == WATCH_FLOW_NONE ? put_text(to, "-1") : put_number(to, head->flow);
     to = put_numbers(to,
@@ -293,6 +294,7 @@ static bool add_dequeue(struct watch_text *text, struct text_queue *queue, const
     row.qlen = record->qlen;
     row.backlog_after = record->backlog;
     row.enqueued = record->enqueued;
+    row.ns = record->vars.dq_tstamp << 6;
     if (queue->kind == WATCH_FQ_PIE)
         row.x[1] = queue->base.memory = record->memory;
     if (record->head.bits & WATCH_HAS_CLOCK) {

@@ -1,0 +1,56 @@
+#!/usr/bin/env bash
+# Counts instructions of enqueue and dequeue (bindings/kernel/measure/pie_measure.c) of the kernel's own pie and fq_pie, without pie-watch and with it.
+# Under qemu -icount one instruction is one tick of the time stamp counter. Arrivals are in a burst allowance, or considered for an early drop. Prints a
+# table, and fails if an enqueue and a dequeue with pie-watch need more than MOST instructions. ROOT and HEADERS are those of boot.sh. It takes a minute
+# of one processor.
+# needs: a request
+#
+# usage: [MOST=2300] [HEADERS=folder] [KEEP=folder for all files] bindings/linux/measure.sh [ROOT]
+set -eu
+cd "$(dirname "$0")/../.."
+me=bindings/linux/measure.sh
+# shellcheck source=../kernel/guest.sh
+. bindings/kernel/guest.sh
+# shellcheck source=guest.sh
+. bindings/linux/guest.sh
+build_module measure "$work/root/mods/pie_measure.ko"
+cat > "$work/init" <<'END'
+#!/bin/busybox sh
+. /net.sh
+. /watch.sh
+in_queue=
+begins
+loads dummy sch_pie sch_fq_pie
+$box sysctl -q -w net.ipv6.conf.all.disable_ipv6=1
+$box sysctl -q -w net.ipv6.conf.default.disable_ipv6=1
+# measured NAME WORDS..: counts a queue
+measured() {
+    name=$1
+    shift
+    /bin/ip link add dummy0 type dummy
+    /bin/ip link set dummy0 arp off up
+    /bin/tc qdisc add dev dummy0 root handle 2: "$@" || echo "FAILED tc $*"
+    $box insmod /mods/pie_measure.ko name=$name || echo "FAILED insmod pie_measure"
+    $box rmmod pie_measure
+    /bin/ip link del dummy0
+}
+for queue in pie fq_pie; do
+    measured $queue $queue ecn
+done
+watches all --all --compact -o /dev/null --force
+for queue in pie fq_pie; do
+    measured ${queue}_recorded $queue ecn
+done
+ends 0
+$box dmesg | $box grep -o 'COUNT.*'
+echo ended
+$box poweroff -f
+END
+fill_watch
+fill_root "$work/init" dummy sch_pie sch_fq_pie
+# shellcheck disable=SC2086
+boot "clocksource=tsc tsc=reliable" $SIMULATED
+echo "$me: instructions of enqueue and dequeue, Linux $release"
+grep -E '^TOLD' "$work/console" | tr -d '\r' | sed 's/^TOLD/ /'
+sed -n 's/^COUNT/ /p' "$work/console" | tr -d '\r'
+awk -v most="${MOST:-2300}" '/^COUNT .*_recorded/ && $5 + $7 > most { print "more than " most ": " $0; bad = 1 } END { exit bad }' "$work/console"

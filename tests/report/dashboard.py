@@ -6,6 +6,8 @@
 - A query has a rate for each counter and for nothing else.
 - Each metric except those of errors has a panel.
 - The C code and pie-metrics have equal names, except those of which only one of them has the numbers.
+- One panel lists the alerts of report/alerts.yml that fire or are pending. Each number to which an alert compares a
+  metric is a threshold, or a line, of the panel of that metric, and no panel has another threshold.
 
 If promtool is installed, it parses each query.
 
@@ -32,6 +34,8 @@ LEFT_OUT = TROUBLE | UNSEEN | {"pie_updates_total", "pie_updated_probability_rat
                                "pie_period_greatest_wait_seconds", "pie_period_greatest_delay_seconds"}
 UNITS = {"s", "percentunit", "bps", "pps", "bytes"}
 SELECTOR = '{link=~"$link",queue=~"$queue"}'
+# The panel that shows the bound of each alert. The bounds of the other alerts are 0, or their metrics have no panel.
+BOUNDS = {"PieLongWaits": "Delay", "PieTailDrops": "Tail drops", "PieDropsForMarks": "Probability", "PieProbabilityAtEnd": "Probability"}
 
 
 def written():
@@ -102,6 +106,32 @@ def hold_panel(panel, kinds):
     return shown
 
 
+def hold_alerts(listing, panels):
+    """Checks the list of alerts, and the thresholds of the other panels, against the rules."""
+    rules = dict(re.findall(r"^      - alert: (\w+)\n        expr: (.*)$", (ROOT / "report/alerts.yml").read_text(), re.M))
+    options = listing["options"]
+    check(listing["title"] and listing.get("description") and "targets" not in listing, "the list of alerts has no title or a query")
+    check(rules and all(options["alertName"] in name for name in rules), f"the list of alerts selects {options['alertName']}")
+    check(options["alertInstanceLabelFilter"] == SELECTOR.replace("$link", "${link:regex}").replace("$queue", "${queue:regex}"), "the labels of alerts")
+    shown = {state for state, is_shown in options["stateFilter"].items() if is_shown}
+    check(shown == {"firing", "pending", "error"} and not options["dashboardAlerts"], f"the list has alerts that are {shown}")
+    wanted = {title: set() for title in panels}
+    for alert, title in BOUNDS.items():
+        queries = [target["expr"].replace(SELECTOR, "") for target in panels[title]["targets"]]
+        metric, bound = re.match(r"(.*?) (?:>=|>) ([^>]*?)(?: and .*)?$", rules[alert]).groups()
+        names = set(re.findall(r"\bpie_\w+", metric))
+        check(names <= {name for query in queries for name in re.findall(r"\bpie_\w+", query)}, f"{title}: its queries are not those of {alert}: {names}")
+        if re.fullmatch(r"[0-9.]+", bound):
+            wanted[title].add(float(bound))
+        else:
+            check(bound in queries, f"{title}: no query is the bound of {alert}, {bound}")
+    for title, panel in panels.items():
+        steps = panel["fieldConfig"]["defaults"].get("thresholds", {"steps": []})["steps"]
+        check([step["value"] for step in steps] == ([None, *sorted(wanted[title])] if wanted[title] else []), f"{title}: its thresholds are {steps}")
+        style = panel["fieldConfig"]["defaults"].get("custom", {}).get("thresholdsStyle")
+        check((style == {"mode": "line"}) == (bool(steps) and panel["type"] == "timeseries"), f"{title}: the style of its thresholds is {style}")
+
+
 def hold_places(panels):
     """Checks that no two panels overlap, none is outside, and each row is full."""
     taken = {}
@@ -142,10 +172,15 @@ def main():
     panels = board["panels"]
     numbers = [panel["id"] for panel in panels]
     check(len(set(numbers)) == len(numbers) and all(isinstance(it, int) and it > 0 for it in numbers), f"ids: {numbers}")
-    shown = set().union(*(hold_panel(panel, c | own) for panel in panels))
+    listings = [panel for panel in panels if panel["type"] == "alertlist"]
+    queried = [panel for panel in panels if panel not in listings]
+    check(len(listings) == 1, f"{len(listings)} lists of alerts")
+    for listing in listings:
+        hold_alerts(listing, {panel["title"]: panel for panel in queried})
+    shown = set().union(*(hold_panel(panel, c | own) for panel in queried))
     check(set(c | own) - shown == LEFT_OUT, "metrics that no panel shows:", set(c | own) - shown)
     hold_places(panels)
-    parse([target["expr"] for panel in panels for target in panel["targets"]])
+    parse([target["expr"] for panel in queried for target in panel["targets"]])
     finish()
 
 

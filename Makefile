@@ -12,10 +12,11 @@
 #   make archive         build/juniperbowls-VERSION.tar.gz for any Debian 12 or later; it can be unpacked anywhere
 #   make clean           removes build/
 #   make shared, make program, make libraries     build a part
+#   make watch-check     build/pie-watch-check, which decides the steps of Linux's own pie again, if dist/ has its assembly
 #
 # Variables: CC, CPPFLAGS, CFLAGS, LDFLAGS, AR; DESTDIR, PREFIX, BINDIR, LIBDIR, INCLUDEDIR,
 # DATADIR, MANDIR, DOCDIR; BUILD, the folder of all built files; PROCESSOR, a folder of dist/; PIE_C_S,
-# PIE_LINK_C_S and PIE_S, other assembly, for example crates/pie_c/out/pie_c.S, which bindings/c/library.py writes.
+# PIE_LINK_C_S, PIE_S and PIE_LINUX_STEPS_S, other assembly, for example crates/pie_c/out/pie_c.S, which bindings/c/library.py writes.
 
 VERSION := $(shell sed -n 's/^.define PIE_VERSION "\(.*\)"$$/\1/p' include/pie.h)
 MAJOR := $(firstword $(subst ., ,$(VERSION)))
@@ -33,6 +34,7 @@ endif
 PIE_C_S ?= dist/$(PROCESSOR)/pie_c.S
 PIE_LINK_C_S ?= $(wildcard dist/$(PROCESSOR)/pie_link_c.S)
 PIE_S ?= $(wildcard dist/$(PROCESSOR)/pie.S.xz)
+PIE_LINUX_STEPS_S ?= $(wildcard dist/$(PROCESSOR)/pie_linux_steps.S.xz)
 
 # (the archiver that belongs to a cross compiler; musl-gcc has none)
 ifeq ($(origin AR),default)
@@ -57,6 +59,7 @@ all: libraries $(if $(PIE_S),program)
 libraries: $(LIBRARIES)
 shared: $(BUILD)/libpie.so $(BUILD)/$(SONAME)
 program: $(BUILD)/pie
+watch-check: $(if $(PIE_LINUX_STEPS_S),$(BUILD)/pie-watch-check)
 ifeq ($(PIE_S),)
 $(BUILD)/pie.S: no-program
 no-program:
@@ -77,9 +80,11 @@ $(BUILD)/pie_c.o: $(PIE_C_S) | $(BUILD)
 	$(assemble) $<
 $(BUILD)/pie_link_c.o: $(PIE_LINK_C_S) | $(BUILD)
 	$(assemble) $<
-$(BUILD)/pie.o: $(BUILD)/pie.S
+$(BUILD)/pie.o $(BUILD)/pie_linux_steps.o: $(BUILD)/%.o: $(BUILD)/%.S
 	$(assemble) $<
-$(BUILD)/pie.S: $(PIE_S) | $(BUILD)
+$(BUILD)/pie.S: $(PIE_S)
+$(BUILD)/pie_linux_steps.S: $(PIE_LINUX_STEPS_S)
+$(BUILD)/pie.S $(BUILD)/pie_linux_steps.S: | $(BUILD)
 	case $< in \
 	*.xz) if command -v xz > /dev/null; then xz -dc $<; else python3 -c 'import lzma, sys; sys.stdout.buffer.write(lzma.open(sys.argv[1]).read())' $<; fi ;; \
 	*) cat $< ;; \
@@ -108,7 +113,9 @@ $(BUILD)/$(SHARED): $(addprefix $(BUILD)/,pie_c.o $(if $(PIE_LINK_C_S),pie_link_
 $(BUILD)/$(SONAME) $(BUILD)/libpie.so: $(BUILD)/$(SHARED)
 	ln -sf $(SHARED) $@
 
-$(BUILD)/pie: $(addprefix $(BUILD)/,pie.o heap.o process.o)
+$(BUILD)/pie: $(BUILD)/pie.o
+$(BUILD)/pie-watch-check: $(BUILD)/pie_linux_steps.o
+$(BUILD)/pie $(BUILD)/pie-watch-check: $(addprefix $(BUILD)/,heap.o process.o)
 	$(CC) $(CFLAGS) $(HARDENING) $(LDFLAGS) -pie -Wl,--wrap=main -Wl,--wrap=open -o $@ $^ -pthread -lm
 
 check: all
@@ -119,6 +126,7 @@ define PROGRAM
 755 $(BUILD)/pie $(BINDIR)/pie
 755 report/pie-report $(BINDIR)/pie-report
 755 report/pie-metrics $(BINDIR)/pie-metrics
+755 report/pie-extcap $(LIBDIR)/wireshark/extcap/pie-extcap
 644 report/outputs.py $(DATADIR)/pie/outputs.py
 644 report/page.html $(DATADIR)/pie/page.html
 644 report/page.css $(DATADIR)/pie/page.css
@@ -128,6 +136,7 @@ define PROGRAM
 644 man/pie.1 $(MANDIR)/man1/pie.1
 644 man/pie-report.1 $(MANDIR)/man1/pie-report.1
 644 man/pie-metrics.1 $(MANDIR)/man1/pie-metrics.1
+644 man/pie-extcap.1 $(MANDIR)/man1/pie-extcap.1
 644 completions/pie.bash $(DATADIR)/bash-completion/completions/pie
 644 completions/_pie $(DATADIR)/zsh/site-functions/_pie
 644 completions/pie.fish $(DATADIR)/fish/vendor_completions.d/pie.fish

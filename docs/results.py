@@ -1,10 +1,10 @@
 #!/usr/bin/env python3
-"""Writes docs/RESULTS.md, docs/comparisons.csv and docs/ellipses.svg from docs/RESULTS.in and the stored runs: bench/uml/results.csv,
-bench/uml/short.csv and bindings/ns3/results.csv. Every figure of the page is an expression in RESULTS.in, between {{ and }}, which this script
+"""Writes docs/RESULTS.md, bench/uml/README.md, docs/comparisons.csv and docs/ellipses.svg from docs/RESULTS.in, bench/uml/README.in and the stored runs: bench/uml/results.csv,
+bench/uml/short.csv and bindings/ns3/results.csv. Every figure of the pages is an expression in their sources, between {{ and }}, which this script
 evaluates. `elsewhere` has the sentences of other pages that rest on runs.
 
 usage: docs/results.py [--check | --needs]
-  --check   writes nothing. Status 1 if a file differs from the result of the runs, if RESULTS.in has a figure of its own, or if a sentence of
+  --check   writes nothing. Status 1 if a file differs from the result of the runs, if a source has a figure of its own, or if a sentence of
             another page differs
   --needs   prints the number of blocks that each open comparison needs"""
 import csv
@@ -25,7 +25,7 @@ import beside  # noqa: E402
 from rfc7928 import estimate  # noqa: E402
 from scenarios import FIVE, SAME_BLOCKS, SCENARIOS, TWICE, queues_of  # noqa: E402
 
-# numbers of RESULTS.in that are settings of a scenario, a test, or RFC 8033: decimal numbers, and numbers with a unit
+# numbers of the sources that are settings of a scenario, a test, or RFC 8033: decimal numbers, and numbers with a unit
 SETTINGS = {"0.5", "0.85", "1.85", "1.5", "3.37", "4.4", "6.1", "12.5", "17.5", *(f"{it} ms" for it in (5, 10, 12.5, 15, 17.5, 20, 30, 40, 100, 200, 500)),
             *(f"{it} s" for it in (1.5, 2, 4, 8, 10, 14, 40, 60)), *(f"{it} Mbit/s" for it in (0.5, 2, 10, 12)), *(f"{it} bytes" for it in (64, 1500, 1514, 16384)),
             "4 µs", "200 packets", *(f"{it} %" for it in (1, 5, 10, 80, 84, 90, 100))}
@@ -909,15 +909,15 @@ def wrapped(block):
 
 
 @functools.cache
-def page():
-    text = (ROOT / "docs/RESULTS.in").read_text()
+def page(source="docs/RESULTS.in"):
+    text = (ROOT / source).read_text()
     text = re.sub(r"\{\{(.*?)\}\}", lambda found: str(eval(found[1], globals())), text, flags=re.S)  # noqa: S307 (its own page)
     return "\n\n".join(wrapped(block) for block in text.rstrip("\n").split("\n\n")) + "\n"
 
 
-def own_figures():
-    """Returns the numbers that RESULTS.in has itself, decimal or with a unit, except versions, sections and settings."""
-    text = re.sub(r"\{\{.*?\}\}|^    [^\n]*$|\[[^\]]*\]\([^)]*\)|`[^`\n]*`", "", (ROOT / "docs/RESULTS.in").read_text(), flags=re.M | re.S)
+def own_figures(source):
+    """Returns the numbers that a source of a page has itself, decimal or with a unit, except versions, sections and settings."""
+    text = re.sub(r"\{\{.*?\}\}|^    [^\n]*$|\[[^\]]*\]\([^)]*\)|`[^`\n]*`", "", (ROOT / source).read_text(), flags=re.M | re.S)
     found = re.findall(r"(?<![\w.])(?:[Ss]ection |Linux |ns-3 |DPDK |version )?\d+\.\d+", text)
     found += re.findall(r"(?<![\w.])[\d.,]+\s(?:ms|s|Mbit/s|bytes|%|µs|blocks|runs|packets)(?!\w)", text)
     return [it for it in (" ".join(it.split()) for it in found) if it[0].isdigit() and it not in SETTINGS]
@@ -933,7 +933,8 @@ def elsewhere():
                                    "per cent ([RESULTS.md]")]
 
 
-MADE = {"docs/RESULTS.md": page, "docs/comparisons.csv": comparisons, "docs/ellipses.svg": picture}
+SOURCES = {"docs/RESULTS.md": "docs/RESULTS.in", "bench/uml/README.md": "bench/uml/README.in"}
+MADE = {**{name: functools.partial(page, source) for name, source in SOURCES.items()}, "docs/comparisons.csv": comparisons, "docs/ellipses.svg": picture}
 
 
 def differences(stored):
@@ -943,7 +944,7 @@ def differences(stored):
     for name, sentence in elsewhere():
         if sentence not in " ".join((stored[name] if name in stored else (ROOT / name).read_text()).split()):
             wrong.append(f"{name} has no such sentence, which the stored runs give: {sentence}..")
-    return wrong + [f"docs/RESULTS.in has a figure of its own: {it}" for it in own_figures()]
+    return wrong + [f"{source} has a figure of its own: {it}" for source in SOURCES.values() for it in own_figures(source)]
 
 
 def main():

@@ -2,7 +2,7 @@
 # Builds the packages for Debian from the files of this repository, without the proved crates, by dpkg-buildpackage.
 # lintian must report no error and no warning. The packages are unpacked in a folder. There the program audits a
 # history, the example in C is built with the development files, the module for Python imports the shared library, and
-# the kernel module is built from the files for DKMS. All packages have the version of include/pie.h.
+# the kernel module is built from the files for DKMS. pie-watch runs. All packages have the version of include/pie.h.
 #
 # Then the packages for other architectures are built by a cross compiler: the same files, and the library alone for armhf. Packages that can be installed
 # for two architectures at once (`Multi-Arch: same`) must have equal files outside of the folders of an architecture. The
@@ -32,8 +32,8 @@ logged() {
     fail "$1 ended with status $status"
 }
 
-for program in dpkg-buildpackage dh dh_python3 dh_dkms lintian git; do
-    if ! command -v "$program" > /dev/null; then
+for program in dpkg-buildpackage dh dh_python3 dh_dkms lintian git clang bpftool; do
+    if ! PATH=$PATH:/usr/sbin command -v "$program" > /dev/null; then
         echo "NOT RUN: tests/libraries/debian.sh: no $program here, so no package was built"
         exit 0
     fi
@@ -47,7 +47,7 @@ export DEB_BUILD_OPTIONS='nocheck noautodbgsym'
 logged dpkg-buildpackage -us -uc -b
 cd "$work"
 logged lintian --fail-on error,warning ./*.changes
-for package in juniperbowls juniperbowls-dkms libpie0 libpie-dev python3-juniperbowls; do
+for package in juniperbowls juniperbowls-dkms juniperbowls-watch libpie0 libpie-dev python3-juniperbowls; do
     set -- "$package"_"$version"_*.deb
     [ -e "$1" ] || fail "no package $package of version $version"
     dpkg-deb --extract "$1" root
@@ -57,6 +57,9 @@ library=$work/root/usr/lib/x86_64-linux-gnu
 export LD_LIBRARY_PATH=$library
 root/usr/bin/pie audit < "$repository/bindings/c/example.history" | grep '^clean,' > found || fail "the program does not audit the example"
 root/usr/bin/pie-tap --help > tap
+[ "$(root/usr/bin/pie-watch --version)" = "pie-watch $version" ] || fail "pie-watch has another version than $version"
+! root/usr/bin/pie-watch no_such_device 2> refused || fail "pie-watch records a device that does not exist"
+dpkg-deb --field juniperbowls-watch_*.deb Depends | grep -q libbpf1 || fail "juniperbowls-watch does not depend on libbpf"
 cc -o example "$repository/bindings/c/example.c" -Iroot/usr/include "$library/libpie.so"
 ./example | cmp - "$repository/bindings/c/example.history" || fail "the example in C has another history"
 if /usr/bin/python3 -c 'import numpy' 2> /dev/null; then

@@ -145,6 +145,8 @@ expect "the installed program" "pie $version" "$prefix/bin/pie" --version
 "$prefix/bin/pie" explain --every 100ms --csv "$repository/examples/burst.history" > "$work/records.csv"
 "$prefix/bin/pie-metrics" "$work/records.csv" | grep -q '^pie_arrived_packets_total{link="records",queue="0"} 99$' ||
     fail "the installed pie-metrics writes other metrics"
+PATH=$prefix/bin:$PATH "$prefix/lib/wireshark/extcap/pie-extcap" --capture --fifo "$work/arrivals.pcapng" --once --history "$repository/examples/burst.history" &&
+    [ "$(grep -a -o 'verdict=' "$work/arrivals.pcapng" | wc -l)" = 99 ] || fail "the installed pie-extcap captures no arrivals"
 # README's own command
 command=$(sed -n 's|^    \(make install PREFIX="$HOME[^ ]*\).*|\1|p' README.md)
 [ -n "$command" ] || fail "README has no command that installs"

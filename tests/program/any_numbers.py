@@ -8,7 +8,7 @@ decides from the numbers alone.
   verdict, and the last event that set the probability.
 - A cut must audit clean and be explained as the whole, and a run of its commands must write it again. Segments must
   follow each other. Sums must be those of the events.
-- If one answer is changed, audit, explanation, cut and segments must all end at this event.
+- If one answer is changed, audit, explanation, cut and segments must all end at this event. The audit and the explanation must give its right record.
 - If a preamble is refused, all commands must refuse it with the same words. A preamble whose statistics agree with its
   other numbers must never be refused for them.
 
@@ -17,6 +17,7 @@ needs: program
 """
 import random
 import sys
+import tempfile
 from collections import Counter
 from pathlib import Path
 
@@ -331,6 +332,21 @@ def changed_answer(row, chance):
     return row
 
 
+def hold_right(name, text, number, changed, right):
+    """Checks that the audit and the explanation of a file give the changed record and the right one, and that the latter explains the right one."""
+    with tempfile.NamedTemporaryFile("w", suffix=".history") as file:
+        file.write(text)
+        file.flush()
+        lines = [f"event {number} is recorded as {text_of(changed)}", f"the rules give {text_of(right)}"]
+        lines = [f"pie: {file.name}: {line}" for line in lines]
+        wanted = "".join(lines) + f"pie: {file.name}: pie explain --event {number} {file.name} explains it\n"
+        status, _, errors = pie(["audit", file.name], "")
+        check((status, errors) == (2, wanted), f"{name}: an audit of event {number}, changed to {changed}: {status}, {errors}")
+        status, _, errors = pie(["explain", "--event", str(number), file.name], "")
+        head, _, words = errors.partition("".join(lines))
+        check(status == 2 and f"event {number} is not" in head and words.startswith(f"event {number}: "), f"{name}: event {number} is explained by {errors}")
+
+
 def hold_changed(name, excerpt, text, rows, chance):
     """Checks that a changed answer differs at its event, in every command."""
     places = [at for at, it in enumerate(excerpt.answers) if it[0] in EVENTS]
@@ -341,6 +357,7 @@ def hold_changed(name, excerpt, text, rows, chance):
         return
     text = excerpt.lines([*excerpt.beginning, *excerpt.answers[:place], other, *excerpt.answers[place + 1 :]])
     check(audited([text]) == (2, [(f"differs,{number}", "")]), f"{name}: event {number} changed to {other}: {audited([text])}")
+    hold_right(name, text, number, other, excerpt.answers[place])
     status, found = explained(text, "--all")
     check((status, found) == (2, rows[: number - excerpt.before]), f"{name}: event {number} changed: explained up to {len(found) - 1}, status {status}")
     status, part, errors = pie(["cut", "--event", str(number)], text)

@@ -1,7 +1,8 @@
 #!/usr/bin/env python3
 """Damages texts, and compares the program's status, output and error stream with those of the reader and the
 reference of tests/shared/reference_texts.py: of `run` for a trace; of `audit`, and of `migrate` or `explain --all
---csv`, which read like the audit, for a history. First come malformed texts written by hand, then the richest
+--csv`, which read like the audit, for a history. Each text is in a file, so that the lines after the line of a fault name
+its cause, as tests/shared/reference_causes.py finds it. First come malformed texts written by hand, then the richest
 traces and histories of each version and both profiles. A text of version one is cut at every byte, and each of its
 bytes is changed, in a sample of places to two values. Of later versions each byte of the first record is changed,
 because only that record has another format, and one in THIN of the other bytes. One call audits many texts as
@@ -15,12 +16,14 @@ usage: tests/program/damaged_texts.py [PROGRAM [every [K N]]]      PROGRAM: crat
 needs: program, an early start"""
 import os
 import random
+import re
 import sys
 import tempfile
 from concurrent.futures import ProcessPoolExecutor
 
 sys.path.insert(0, f"{os.path.dirname(os.path.abspath(__file__))}/../shared")
 import reference_texts as plain  # noqa: E402
+from reference_causes import cause, number_allowed  # noqa: E402
 from checks import NAME, check, finish  # noqa: E402
 from running import PROGRAM, TRACE, run  # noqa: E402
 
@@ -47,6 +50,25 @@ def wanted(name, text):
     return status, output.encode("latin-1"), errors.encode("latin-1")
 
 
+def cause_of(command, text, errors, name):
+    """Returns the expected lines after this line of a fault, if it is one, for the text in the file `name`."""
+    fault = errors.decode("latin-1")
+    is_fault = fault.startswith(("pie: record ", "pie: the first record"))
+    return cause(text.decode("latin-1"), fault, command.split()[0], name).encode("latin-1") if is_fault else b""
+
+
+# the lines about the right event, which any_numbers.py checks; the words of its explanation begin otherwise
+RIGHT = re.compile(rb"pie: [^\n]*?: (?:event \d+ (?:is recorded as|sets parameters out)|the rules (?:give|allow) |pie explain --event \d+ )[^\n]*\n")
+
+
+def without_right(ended):
+    """Returns the end of a command without the lines about the right event of a difference."""
+    status, output, errors = ended
+    if RIGHT.search(errors):
+        errors = b"".join(line for line in RIGHT.sub(b"", errors).splitlines(keepends=True) if line.startswith(b"pie: "))
+    return status, output, errors
+
+
 def audits_differing(program, texts):
     """Returns the differences of an audit of all these texts as files, with one call for the texts of each expected
     status."""
@@ -60,9 +82,13 @@ def audits_differing(program, texts):
             for name, (_, text, _) in zip(names, its):
                 with open(name, "wb") as file:
                     file.write(text)
-            got = run(["audit", *names], b"", program)
+            got = without_right(run(["audit", *names], b"", program))
         output = b"".join(f"{name}: ".encode() + out for name, (_, _, (out, _)) in zip(names, its) if out)
-        errors = b"".join(f"pie: {name}: ".encode() + error.removeprefix(b"pie: ") for name, (_, _, (_, error)) in zip(names, its) if error)
+        errors = b"".join(
+            f"pie: {name}: ".encode() + error.removeprefix(b"pie: ") + cause_of("audit", text, error, name)
+            for name, (_, text, (_, error)) in zip(names, its)
+            if error
+        )
         if got != (status, output, errors):
             lines = [set(got[stream].splitlines()) ^ set(want.splitlines()) for stream, want in ((1, output), (2, errors))]
             texts_of = {name: what for name, (what, _, _) in zip(names, its)}
@@ -78,13 +104,27 @@ def one_more(place, names):
 def differing(program, texts):
     """Returns the texts, each given with its damage and its commands, for which a command ends differently."""
     found = audits_differing(program, [(what, text) for what, text, names in texts if "audit" in names])
-    for what, text, names in texts:
-        for name in names:
-            if name != "audit":
-                got, want = run(name.split(), text, program), wanted(name, text)
-                if got != want:
-                    found.append(f"{name}: {what}: {got} and not {want}")
+    with tempfile.TemporaryDirectory() as work:
+        for what, text, names in texts:
+            for name in names:
+                if name != "audit":
+                    got, want = run_file(work, name, text, program), wanted_of_file(work, name, text)
+                    if got != want:
+                        found.append(f"{name}: {what}: {got} and not {want}")
     return found
+
+
+def run_file(work, name, text, program=PROGRAM):
+    """Returns the end of this command for a file of the folder `work` with this text."""
+    with open(f"{work}/text", "wb") as file:
+        file.write(text)
+    return without_right(run([*name.split(), f"{work}/text"], b"", program))
+
+
+def wanted_of_file(work, name, text):
+    """Returns the expected end of this command for a file of the folder `work` with this text."""
+    status, output, errors = wanted(name, text)
+    return status, output, errors + cause_of(name, text, errors, f"{work}/text")
 
 
 def damaged(text, bytes_at, places):
@@ -163,6 +203,127 @@ def malformed():
     check(run(["run"], b"\xef\xbb\xbf" + opened) == (0, opened, b""), "a byte order mark")
 
 
+def causes():
+    """Checks the causes of faults in texts that are damaged by hand: of openings, of a field that spans lines, of texts of the other kind, and of files
+    that are no text of records."""
+    nine, history = b",2,1,0,0,0,1,1,0,1024", b"open,0,4,16,100\narrive,1,10,7,1500,ect0,0,enqueue\ndepart,1,9,empty\n"
+    numbers = nine[1:].split(b",")
+    openings = [b",".join([b"open,0,4,16,100", *numbers[:place], bad, *numbers[place + 1 :]]) for place in range(9) for bad in (b"1000000000001", b"x")]
+    openings += [b"open,0,0,1,1", b"rolling,0,65537,1,1", b"open2,1,bounded,0,1,0,1", b"open,0,1,1,1099511627777", b"open,1152921504606846976,1,1,1"]
+    openings += [b"open3,1,rate,random,capped,half,bounded,0,1,1,1", b"open3,1,rate,random,capped,scaled,none,bounded,0,1,1,1", b"open2,3,bounded,0,1,1,1"]
+    later = [b"arrive,1,10,7,1500,ect2,0", b"arrive,1,10,7,1500,ect0,0,left", b'"dep\n\r\nart",1,9', b"show", b"depart,1", b"a" * 50, b"\xff\x00\"'\\", b"clock,1,2"]
+    texts = [b"\n" + opening + b"\nshow\n" for opening in openings]
+    texts += [b"open,0,4,16,100\r\n\r\ndepart,1,9\n" + row + end for row in later for end in (b"", b"\n", b"\r")]
+    texts += [b"open,0,4,16,100\ndepart,1,9,empty\n\n" + row + b"\n" for row in later]
+    texts += [history, history.replace(b",enqueue", b"").replace(b",empty", b""), b"", b"\n\n", b"open3,1,stamp,random,capped,scaled,bounded,0,1,1,1\nclock,1152921504606846976,0\n"]
+    with tempfile.TemporaryDirectory() as work:
+        for text in texts:
+            for name in COMMANDS:
+                got, want = run_file(work, name, text), wanted_of_file(work, name, text)
+                errors = got[2].replace(f"pie: {work}/text: ".encode(), b"pie: ", 1) if name == "audit" else got[2]
+                check(errors == want[2], "the cause", name, text, errors, want[2])
+        for first, says in (
+            (b"\x1f\x8b\x08\x00", "is compressed by gzip; zcat {0} | pie run .. reads it"),
+            (b"\xd4\xc3\xb2\xa1", "is a packet capture, and no text of records"),
+            (b"\n\r\r\n\x1c", "is a packet capture, and no text of records"),
+            (b"\xff\xfeo\x00", "is in UTF-16; iconv -f UTF-16 -t UTF-8 {0} | pie run .. reads it"),
+        ):
+            want = f"pie: the first record is not an open record\npie: {work}/text {says.format(f'{work}/text')}\n".encode()
+            got = run_file(work, "run", first + b"pen\x00")
+            check(got == (1, b"", want), "the cause of a file that begins with", first, got)
+
+
+# A trace whose controller has packets in the queue after event 5.
+QUEUED = b"""open3,1,rate,derandomized,capped,unscaled,bounded,5,8,64,1000
+arrive,1,10,1,1000,ect0,0
+arrive,1,20,2,1000,not,0
+arrive,1,30,3,500,ce,5
+update,4,15000005
+depart,2,15000006
+depart,2,15000007
+"""
+
+
+def preamble_cases(moment):
+    """Yields changes of the first three records of the excerpt after event 5: the fields that are set, by record and number, the fault, and the
+    number, the name and the allowed contents of the field that the cause names. The effective moment is `moment`."""
+    no_number, unsound, statistics = "not a number in range", "a number that no controller holds", "statistics out of range"
+    most = 2**64 - 1
+
+    def resume(fields, why, number, name, *bounds):
+        return {(1, place): value for place, value in fields.items()}, why, (1, number, name), number_allowed(*bounds)
+
+    yield resume({30: 1001}, "more events than the limits allow", 30, "count", 0, 1000)
+    yield resume({32: 9}, "more packets than the ring holds", 32, "packets", 0, 8)
+    yield resume({33: 2**30 + 1}, "more bytes than a queue holds", 33, "bytes", 0, 2**30)
+    yield resume({31: 6}, no_number, 31, "set_by", 0, 5)
+    yield {(1, 31): "x"}, no_number, (1, 31, "set_by"), f"is a number from 0 to {most}, or nothing"
+    yield resume({34: 4}, no_number, 34, "moment", 5, 2**60 - 1)
+    yield resume({41: 2}, no_number, 41, "measuring", 0, 1)
+    yield resume({42: 1}, no_number, 42, "start", 0, 0)
+    yield resume({43: 1, 60: "x"}, no_number, 43, "counted", 0, 0)
+    yield resume({45: 2}, no_number, 45, "active", 0, 1)
+    yield resume({60: 2**128}, no_number, 60, "waited", 0, 2**128 - 1)
+    yield resume({21: 1}, unsound, 21, "target", 2, 10**10)
+    yield {(1, 29): 1000}, unsound, (1, 29, "dq_threshold"), "are 1024, 2048, 4096, 8192, 16384, 32768, 65536"
+    yield resume({34: 2**60}, unsound, 34, "moment", 0, 2**60 - 1)
+    for number, name, bound in ((35, "prob", 10**12), (36, "old", 2**40), (37, "accu", 8_499_999_999_999), (38, "burst", 10**12), (39, "last", moment)):
+        yield resume({number: bound + 1}, unsound, number, name, 0, bound)
+    yield resume({40: 2**60}, unsound, 40, "average", 0, 2**60 - 1)
+    yield resume({41: 1, 42: moment + 1}, unsound, 42, "start", 0, moment)
+    yield resume({41: 1, 43: 16384}, unsound, 43, "counted", 0, 16383)
+    yield resume({44: 2**40 + 1}, unsound, 44, "last_wait", 0, 2**40)
+    yield resume({45: 0}, unsound, 45, "active", 1, 1)
+    yield resume({46: 6}, statistics, 46, "arrivals", 0, 5)
+    yield resume({53: 5 * 65535 + 1}, statistics, 53, "left_bytes", 0, 5 * 65535)
+    yield resume({60: 5 * 2**60 + 1}, statistics, 60, "waited", 0, 5 * 2**60)
+    yield resume({46: 2}, statistics, 30, "count", 4, 4)
+    yield resume({46: 4, 55: 0}, statistics, 46, "arrivals", 3, 3)
+    yield resume({46: 1, 47: 1, 52: 3}, statistics, 52, "left", 0, 1)
+    yield resume({32: 1}, statistics, 32, "packets", 2, 2)
+    yield resume({58: 0}, statistics, 58, "largest_queue", 1500, most)
+    yield resume({36: 2**40, 59: 4}, statistics, 59, "largest_delay", 2**40, most)
+    yield resume({44: 5, 60: 4}, statistics, 44, "last_wait", 0, 4)
+    yield resume({60: moment + 1}, statistics, 60, "waited", 0, moment)
+    yield resume({35: 1, 55: 0, 56: 1}, statistics, 35, "prob", 0, 0)
+    yield resume({44: 1}, statistics, 44, "last_wait", 0, 0)
+    yield resume({2: 3}, no_number, 2, "profile", 1, 2)[:3] + ("are 1, 2",)
+    yield resume({9: 0}, "limits out of range", 9, "packets", 1, 2**20)
+    yield {(2, 3): 0}, "packet size out of range", (2, 3, "size"), number_allowed(1, 65535)
+    yield {(2, 3): 1501}, "more bytes than were announced", (2, 3, "size"), number_allowed(1, 1500)
+    yield {(2, 5): moment + 1}, "a packet that arrives later", (2, 5, "since"), number_allowed(0, moment)
+    yield {(3, 5): 19}, "a packet that arrived before its predecessor", (3, 5, "since"), number_allowed(20, moment)
+    yield {(3, 4): "ect2"}, "unknown word", (3, 4, "ecn"), "are not, ect0, ect1, ce"
+    yield {(3, 3): 499}, "fewer bytes than were announced", (1, 33, "bytes"), "is 1499"
+
+
+def preambles():
+    """Checks the causes of faults in the preamble of an excerpt."""
+    history = run(["run"], QUEUED)[1]
+    excerpt = run(["cut", "--event", "6"], history)[1]
+    rows = [line.split(",") for line in excerpt.decode().splitlines()]
+    check([row[0] for row in rows] == ["resume", "queued", "queued", "depart"], "an excerpt with two packets", excerpt)
+    with tempfile.TemporaryDirectory() as work:
+        path = f"{work}/text"
+
+        def expect(changed, what, why, record, number, name, allowed):
+            text = "".join(plain.text_of(row) for row in changed).encode()
+            value = changed[record - 1][number - 1]
+            want = f'pie: record {record}: {why}\npie: line {record} of {path}, field {number} ({name}): "{value}"; allowed {allowed}\n'
+            got = run_file(work, "explain --all", text)
+            check((got[0], got[2].decode()) == (1, want), "the cause in a preamble", what, got, want)
+
+        for fields, why, (record, number, name), allowed in preamble_cases(int(rows[0][33])):
+            changed = [[str(fields.get((at, place), field)) for place, field in enumerate(row, 1)] for at, row in enumerate(rows, 1)]
+            # (a fault of the end is found behind the last packet, and is one of the first record)
+            expect(changed, fields, why, record, number, name, allowed)
+        expect(rows[:2] + rows[3:], "a missing packet", "fewer packets than were announced", 1, 32, "packets", "is 1")
+        short = [*rows[:2], rows[2][:4], *rows[3:]]
+        got = run_file(work, "audit", "".join(map(plain.text_of, short)).encode())[2].decode()
+        want = f"pie: {path}: record 3: wrong number of fields\npie: line 3 of {path}: 4 fields; queued has 5\n"
+        check(got == want, "the cause in a preamble", "a short record", got, want)
+
+
 def small():
     """Returns a trace and a history of four records, one of them replaced entirely or in part."""
     trace = b"open,0,4,16,100\narrive,1,10,7,1500,ect0,0\ndepart,2,25\ndepart,2,30\n"
@@ -201,6 +362,8 @@ def main():
         found = compare(PROGRAM, every, lambda _, text: range(first - 1, len(text) + 1, step), lambda _, names: names)
     else:
         malformed()
+        causes()
+        preambles()
         small()
         found = compare(PROGRAM, sample, sampled)
     for it in found[:50]:

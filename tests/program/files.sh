@@ -23,8 +23,9 @@ for words in "run $work/long.trace" "audit $work/long" "explain --summary $work/
 done
 echo dep >> "$work/long.trace"
 "$program" run --progress "$work/long.trace" > "$work/output" 2> "$work/errors"
+kinds='arrive, depart, update, reset, params, fold, show, tally'
 told=$(tr '\r' '\n' < "$work/errors" | tail -n 2)
-if ! cmp -s "$work/output" "$work/long" || [ "$told" != "$(printf '\033[Kpie: record 1000002: unknown kind\npie: the text is in %s' "$work/long.trace")" ]; then
+if ! cmp -s "$work/output" "$work/long" || [ "$told" != "$(printf '\033[Kpie: record 1000002: unknown kind\npie: line 1000002 of %s, field 1 (kind): "dep"; allowed are %s' "$work/long.trace" "$kinds")" ]; then
     echo "$script: progress before a fault: $(cat -v "$work/errors")"
     failed=1
 fi
@@ -39,23 +40,30 @@ printf 'open,0,4,16,100\ndepart,1,9,empty\ndep,1,10\n' > "$work/faulty"
 printf 'open,0,4,16,100\ndepart,1,9\ndepart,1\n' > "$work/faulty.trace"
 printf "$one" > "$work/one"
 printf 'open,0,4,16,100\n' > "$work/none"
+# the lines about the event that differs: its record and the right one; and the explanation of the right one
+records="pie: $work/changed: event 10 is recorded as arrive,1,1001003,5,500,ect0,0,early\n"
+records+="pie: $work/changed: the rules give arrive,1,1001003,5,500,ect0,0,mark\n"
+audited="${records}pie: $work/changed: pie explain --event 10 $work/changed explains it\n"
+right=$("$program" explain --event=10 "$work/history" | sed 's/%/%%/g; s/$/\\n/' | tr -d '\n')
+explained="$differs$records$right"
+allowed='arrive, depart, update, reset, params, refused, folded, shown, tallied'
 expect 'a run of a file' 0 "$history" '' '' run "$work/trace"
 expect 'a counted run of a file' 0 "$history" 'pie: 11 events, 0 refused records\n' '' run "$work/trace" --count
 expect 'a run of -' 0 "$history" '' "$trace" run -
-expect 'a run of a file with a fault' 1 'open,0,4,16,100\ndepart,1,9,empty\n' "pie: record 3: wrong number of fields\npie: the text is in $work/faulty.trace\n" '' run "$work/faulty.trace"
+expect 'a run of a file with a fault' 1 'open,0,4,16,100\ndepart,1,9,empty\n' "pie: record 3: wrong number of fields\npie: line 3 of $work/faulty.trace: 2 fields; depart has 3\n" '' run "$work/faulty.trace"
 expect 'an explained file' 0 "$header$lost" '' '' explain --csv --lost "$work/history"
-expect 'an explained file that differs' 2 "${header}$begins" "$differs" '' explain "$work/changed" --csv --event=1
+expect 'an explained file that differs' 2 "${header}$begins" "$explained" '' explain "$work/changed" --csv --event=1
 expect 'a migrated file' 0 "$two" '' '' migrate "$work/one"
 expect 'an audit of a file' 0 "$work/history: clean,11\n" '' '' audit "$work/history"
 expect 'an audit of -' 0 '-: clean,11\n' '' "$history" audit -
 expect 'audits of files' 0 "$work/history: clean,11\n$work/none: clean,0\n-: clean,11\n" '' "$history" audit "$work/history" "$work/none" -
-expect 'audits of which one differs' 2 "$work/history: clean,11\n$work/changed: differs,10\n$work/none: clean,0\n" '' '' \
+expect 'audits of which one differs' 2 "$work/history: clean,11\n$work/changed: differs,10\n$work/none: clean,0\n" "$audited" '' \
     audit "$work/history" "$work/changed" "$work/none"
-expect 'audits of which one has a fault' 1 "$work/history: clean,11\n$work/none: clean,0\n" "pie: $work/faulty: record 3: unknown kind\n" '' \
+expect 'audits of which one has a fault' 1 "$work/history: clean,11\n$work/none: clean,0\n" "pie: $work/faulty: record 3: unknown kind\npie: line 3 of $work/faulty, field 1 (kind): \"dep\"; allowed are $allowed\n" '' \
     audit "$work/history" "$work/faulty" "$work/none"
-expect 'a fault is worse than a difference' 1 "$work/changed: differs,10\n$work/none: clean,0\n" "pie: $work/faulty: record 3: unknown kind\n" '' \
+expect 'a fault is worse than a difference' 1 "$work/changed: differs,10\n$work/none: clean,0\n" "${audited}pie: $work/faulty: record 3: unknown kind\npie: line 3 of $work/faulty, field 1 (kind): \"dep\"; allowed are $allowed\n" '' \
     audit "$work/changed" "$work/faulty" "$work/none"
-expect 'a difference is no better behind a fault' 1 "$work/changed: differs,10\n" "pie: $work/faulty: record 3: unknown kind\n" '' \
+expect 'a difference is no better behind a fault' 1 "$work/changed: differs,10\n" "pie: $work/faulty: record 3: unknown kind\npie: line 3 of $work/faulty, field 1 (kind): \"dep\"; allowed are $allowed\n$audited" '' \
     audit "$work/faulty" "$work/changed"
 expect 'standard input, twice' 1 '-: clean,11\n' 'pie: -: standard input has already been read\n' "$history" audit - -
 missing="$work/missing: No such file or directory (os error 2)"
@@ -66,7 +74,7 @@ cp "$work/history" "$long"
 expect 'audits of which one has a long name' 0 "$long: clean,11\n$work/none: clean,0\n" '' '' audit "$long" "$work/none"
 expect 'a joined audit of a file with a long name' 0 "$long: clean,11\n" '' '' audit --joined "$long"
 cp "$work/faulty" "$long"
-expect 'a fault of a file with a long name' 1 "$work/none: clean,0\n" "pie: $long: record 3: unknown kind\n" '' audit "$long" "$work/none"
+expect 'a fault of a file with a long name' 1 "$work/none: clean,0\n" "pie: $long: record 3: unknown kind\npie: line 3 of $long, field 1 (kind): \"dep\"; allowed are $allowed\n" '' audit "$long" "$work/none"
 rm "$long"
 expect 'no file of a long name' 1 "$work/none: clean,0\n" "pie: $long: No such file or directory (os error 2)\n" '' audit "$long" "$work/none"
 # A name that is not UTF-8 is reported, and the other files are audited.
@@ -82,9 +90,11 @@ printf -- "$history" | cmp - "$odd" || fail 'a file whose name is not UTF-8: it 
 rm "$odd"
 printf 'dep\n' > "$work/unopened"
 for name in run migrate 'explain --all' 'cut --last 1'; do
+    openings='open, rolling, open2, open3, resume'
+    [ "$name" = migrate ] && openings=${openings%, resume}
     expect "$name of a missing file" 1 '' "pie: $missing\n" '' $name "$work/missing"
     expect "$name of a folder" 1 '' "pie: $work: Is a directory (os error 21)\n" '' $name "$work"
-    expect "$name of a file with a fault" 1 '' "pie: the first record is not an open record\npie: the text is in $work/unopened\n" '' $name "$work/unopened"
+    expect "$name of a file with a fault" 1 '' "pie: the first record is not an open record\npie: line 1 of $work/unopened, field 1 (kind): \"dep\"; allowed are $openings\n" '' $name "$work/unopened"
 done
 # -o writes the output to a new file and leaves no other file in the folder.
 made=$work/folder/made
@@ -119,12 +129,12 @@ written 'a run to a file' 0 "$history" "$trace" run
 written 'a run of a file to a file' 0 "$history" '' run "$work/trace"
 written 'explanations to a file' 0 "$header$lost" "$history" explain --csv --lost
 written 'a migration to a file' 0 "$two" "$one" migrate
-errors=$differs written 'explanations up to an event that differs, to a file' 2 "${header}$begins" '' explain "$work/changed" --csv --event=1
+errors=$explained written 'explanations up to an event that differs, to a file' 2 "${header}$begins" '' explain "$work/changed" --csv --event=1
 
 # After a fault the partial output remains in FILE.partial, and an existing file is unchanged. The partial output of
 # an earlier fault remains too.
 until='this file has the incomplete output'
-fault="pie: record 3: wrong number of fields\npie: the text is in $work/faulty.trace\n"
+fault="pie: record 3: wrong number of fields\npie: line 3 of $work/faulty.trace: 2 fields; depart has 3\n"
 begun='open,0,4,16,100\ndepart,1,9,empty\n'
 expect 'a fault, to a file' 1 '' "${fault}pie: $made.partial: $until\n" '' run "$work/faulty.trace" -o "$made"
 printf older > "$made"

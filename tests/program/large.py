@@ -177,7 +177,8 @@ def deep_excerpt(work):
     for text in (course.history, excerpt):
         fault = f"record {len(text) + 1}: unknown word\n"
         for words in (["audit"], ["explain", "--summary"], ["cut", "--last", "1", "given"], ["cut", "--every", str(LEAVING)]):
-            told = f"{fault}pie: the text is in given\n" if "given" in words else fault
+            cause = f'pie: line {len(text) + 1} of given, field 4 (answer): "lef"; allowed is empty\n'
+            told = f"{fault}{cause}" if "given" in words else fault
             compare(work, f"{name} with a fault:", words, text + ["depart,7,1,lef\n"], None, (1, told))
     print(f"{NAME}: {name} {len(excerpt)} records")
 

@@ -1,12 +1,15 @@
 #!/usr/bin/env python3
 """Tests pie_linux_steps on steps that were recorded on Debian 12's kernel 6.1, unmodified
-(crates/pie_linux_steps/stdin: four queues, each from its beginning or taken over while it ran).
+(crates/pie_linux_steps/stdin: four queues, each from its beginning or taken over while it ran; then a pie and an
+fq_pie with their rows mixed, a queue of which steps were lost, and one that a lower limit shortens).
 
 - Every step is decided as the kernel did.
 - If one recorded number is changed, the program names its queue, step and column, the changed number and the right
   one. For each type of step, each column that the program compares is changed once.
 - If an input is changed, a later number differs.
+- A missing row is found, and so is a queue that is not resumed after lost steps.
 - A text without a column or without a queue's first step is refused.
+- `--lost` prints each packet that an enqueue, a lower limit or a reset dropped, with its cause.
 
 usage: tests/program/linux_steps.py [PROGRAM]      PROGRAM: crates/pie_linux_steps/out/pie_linux_steps by default
 needs: pie_linux_steps
@@ -23,6 +26,7 @@ CRATE = ROOT / "crates/pie_linux_steps"
 PROGRAM = str(Path(sys.argv[1] if sys.argv[1:] else CRATE / "out/pie_linux_steps").resolve())
 TEXT = (CRATE / "stdin").read_text()
 COLUMNS, *ROWS = list(csv.reader(TEXT.splitlines()))
+LOST = [row for row in ROWS if row[0] == "lost"]
 STATE = [name for name in COLUMNS if name.startswith("a_")]
 STATS = ["packets_in", "dropped", "overlimit", "ecn_mark", "maxq"]
 COMPARED = {
@@ -40,15 +44,16 @@ INPUTS = [("deq", "a_dq_tstamp"), ("enq", "enq"), ("enq", "size"), ("enq", "pktl
           ("resume", "alpha"), ("wait", "pktlen")]
 
 
-def run(rows, columns=COLUMNS):
+def run(rows, columns=COLUMNS, words=()):
     """Returns the status and the output of the program for these rows."""
     text = "".join(",".join(row) + "\n" for row in [columns, *rows])
-    ran = subprocess.run([PROGRAM], input=text, capture_output=True, text=True, check=False, timeout=600)
+    ran = subprocess.run([PROGRAM, *words], input=text, capture_output=True, text=True, check=False, timeout=600)
     return ran.returncode, ran.stdout
 
 
 def field(row, name):
-    return row[COLUMNS.index(name)]
+    """Returns a field, of a row of lost steps an empty one."""
+    return row[COLUMNS.index(name)] if len(row) == len(COLUMNS) else ""
 
 
 def changed(at, name):
@@ -71,7 +76,10 @@ def first(kind, step):
 
 status, output = run(ROWS)
 arrivals = sum(field(row, "type") == "enq" for row in ROWS)
-check((status, output) == (0, f"{len(ROWS)} steps, {arrivals} of them arrivals: 0 differ\n"), "the recorded steps:", status, output)
+lost = sum(int(row[1]) for row in LOST)
+steps = sum(field(row, "type") not in ("", "flow", "wait") for row in ROWS)
+CLEAN = f"clean: {steps} steps, {arrivals} of them arrivals; {lost} lost\n"
+check((status, output) == (0, CLEAN) and lost > 0, "the recorded steps:", status, output)
 tried = 0
 for (kind, step), names in COMPARED.items():
     at = first(kind, step)
@@ -94,4 +102,33 @@ arrival = next(at for at, row in enumerate(ROWS) if field(row, "type") == "enq")
 check(run(ROWS[arrival:])[0] == 2, "a text that begins with an arrival is not refused")
 check(run([row[1:] for row in ROWS], COLUMNS[1:]) == (2, "the first row has no column qid\n"), "a text without the column qid is not refused so")
 check(tried >= 120, "only", tried, "numbers were changed")
+
+# two queues whose rows are mixed are decided apart; a row that is missing is found
+mixed = [row for row in ROWS if row[0] in ("rb/2:/0", "ra/3:/1")]
+check(len({row[0] for row in mixed}) == 2 and run(mixed)[0] == 0, "two queues in one text:", run(mixed))
+check(run([[mixed[0][0], *row[1:]] for row in mixed])[0] == 1, "two queues with one name are clean")
+check(run(mixed[:9] + mixed[10:]) == (1, f"queue {mixed[11][0]}, step {field(mixed[11], 'seq')}: the steps before it are missing\n"), "a missing row:", run(mixed[:9] + mixed[10:]))
+at = ROWS.index(LOST[0])
+unresumed = run([*ROWS[: at + 1], *ROWS[at + 2 :]])
+check(unresumed == (2, f"queue {LOST[0][2]}, step {field(ROWS[at + 2], 'seq')}: the queue has no row of the type init or resume before it\n"), "lost steps, not resumed:", unresumed)
+
+# the packets that were dropped
+status, output = run(ROWS, words=["--lost"])
+*lines, last = output.splitlines(keepends=True)
+dropped = [row for row in ROWS if field(row, "type") == "enq" and field(row, "ret") not in ("", "0")]
+check((status, last) == (0, CLEAN), "--lost:", status, last)
+for row in dropped:
+    start = f"{field(row, 'qid')} step {field(row, 'seq')} at {int(field(row, 'ns') or 0) // 10**9}."
+    its = [line for line in lines if line.startswith(start)]
+    prob = int(field(row, "a_prob") or 0) * 10**6 >> 56
+    parts = [f": {field(row, 'pktlen')} bytes DROPPED ", f"; probability {prob // 10**4}.{prob % 10**4:04} %, ", f" {field(row, 'qlen0') or 0} packets with {field(row, 'bl0') or 0} bytes"]
+    parts.append("over the limit;" if field(row, "early") == "255" else "the random word is below the probability" if field(row, "nrnd") == "1" else "the accumulated probability")
+    check(len(its) == 1 and all(part in its[0] for part in parts), "the drop", row[:5], "is printed as", its)
+for cause, step in (("by a lower limit;", "change"), ("by a reset;", "reset")):
+    its = [line for line in lines if cause in line]
+    check(its and {line.split(" step ")[1].split(" ")[0] for line in its} <= {field(row, "seq") for row in ROWS if field(row, "type") == step}, cause, its[:3])
+dropped_by_change = sum(int(field(row, "size") or 0) for row in ROWS if (field(row, "kind"), field(row, "type")) == ("pie", "change"))
+check(sum("by a lower limit" in line for line in lines) == dropped_by_change, "packets that a lower limit dropped:", dropped_by_change)
+check(len(lines) == len(dropped) + sum(" by a " in line for line in lines), "--lost prints other packets")
+check(subprocess.run([PROGRAM, "--lots"], input="", capture_output=True, text=True, check=False).returncode == 2, "an unknown option is accepted")
 finish()

@@ -2,7 +2,8 @@
 """Compares the manual page and the completions with the program. man/pie.1 and the completions for bash, zsh and
 fish must contain exactly the subcommands and long options of `--help`. The page's synopsis of each subcommand must
 do so too, unless it ends in dots. If bash, zsh and fish are installed, the script also tries their completions.
-The options of man/pie-report.1 and man/pie-metrics.1 must be those of `pie-report --help` and `pie-metrics --help`.
+The options of man/pie-report.1, man/pie-metrics.1 and man/pie-extcap.1 must be those of `pie-report --help`,
+`pie-metrics --help` and `pie-extcap --help`.
 The exit status is 1 if an option is missing or unknown.
 
 usage: tests/program/manual.py [PROGRAM]      PROGRAM: crates/pie/out/pie by default
@@ -60,7 +61,7 @@ def hold_script(script):
     text = (ROOT / f"man/{script}.1").read_text(encoding="utf-8").split(".SH OPTIONS\n")[1].split(".SH EXIT")[0]
     help_text = section(output([ROOT / "report" / script, "--help"]), "Options")
     wanted = {option: bool(value) for option, value in re.findall(r"^ +(?:-\w, )?--([\w-]+)( <\w+>)?", help_text, re.M)}
-    if tagged(text) != wanted or "output" not in wanted:
+    if tagged(text) != wanted or "help" not in wanted:
         fail(f"man/{script}.1: options", tagged(text), "and not", wanted)
 
 
@@ -128,7 +129,7 @@ def main():
     if f'"{version}"' not in page:
         fail("man/pie.1 is of another version than", version)
     listed, cut = synopsis(page)
-    for script in ("pie-report", "pie-metrics"):
+    for script in ("pie-report", "pie-metrics", "pie-extcap"):
         hold_script(script)
     zsh = zsh_options(names)
     for name in ["", *names]:
@@ -152,7 +153,7 @@ def main():
     if shutil.which("zsh") and subprocess.run(["zsh", "-n", ROOT / "completions/_pie"], check=False).returncode != 0:
         fail("completions/_pie: zsh can't read it")
     if shutil.which("man"):
-        for page in ("pie.1", "pie-report.1", "pie-metrics.1"):
+        for page in ("pie.1", "pie-report.1", "pie-metrics.1", "pie-extcap.1"):
             read = ["man", "--warnings", "-l", ROOT / "man" / page]
             if subprocess.run(read, stdout=subprocess.DEVNULL, stderr=subprocess.PIPE, check=False).stderr:
                 fail(f"man/{page}: man warns of it")

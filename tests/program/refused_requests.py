@@ -25,11 +25,11 @@ FAULTS = {"REFUSE_MEMORY": MEMORY, "REFUSE_READ": read_fault(errno.EIO), "REFUSE
 
 def told(words, says, errors):
     """Returns true if each line on standard error reports this fault. A fault of a file has a line with the file's name;
-    in an audit of files the line of the fault has it."""
+    in an audit of files the line of the fault has it too."""
     names = [word.encode() for word in words if word.startswith("/")]
     *reason, line = says.splitlines(keepends=True)
     if words[0] == "audit" and names:
-        lines = {*reason, *(line.replace(b"pie: ", b"pie: %s: " % name, 1) for name in names), line}
+        lines = {*reason, *(line.replace(b"pie: ", b"pie: %s: " % name, 1) for name in names), *(b"pie: the text is in %s\n" % name for name in names), line}
         return errors != b"" and set(errors.splitlines(keepends=True)) <= lines
     is_read = says == FAULTS["REFUSE_READ"]
     return errors == says + b"".join(b"pie: the text is in %s\n" % name for name in names if is_read)

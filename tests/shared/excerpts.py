@@ -1,10 +1,15 @@
 """Shared by scripts over excerpts: audits of many texts in one run, explanations compared with the whole's,
 segments, texts with a change, and records of parameters out of their ranges."""
+import re
 import subprocess
 import tempfile
 from pathlib import Path
 
 from running import PROGRAM, run
+
+
+# the lines about an event that differs: its record, and the one that the rules give
+RIGHT = re.compile(r"pie: [^:]+: (event \d+ (is recorded as|sets parameters) |the rules (give|allow) |pie explain --event \d+ )")
 
 
 def audited(texts, *words):
@@ -15,7 +20,7 @@ def audited(texts, *words):
             (Path(folder) / str(place)).write_bytes(text.encode())
         ran = subprocess.run([PROGRAM, "audit", *words, *map(str, range(len(texts)))], cwd=folder, capture_output=True, text=True, check=False)
         lines = [line.split(": ", 1) for line in ran.stdout.splitlines()]
-        told = dict(line.removeprefix("pie: ").split(": ", 1) for line in ran.stderr.splitlines())
+        told = dict(line.removeprefix("pie: ").split(": ", 1) for line in ran.stderr.splitlines() if not RIGHT.match(line))
         found = {place: [what for name, what in lines if name == str(place)] for place in range(len(texts))}
         return ran.returncode, [(" ".join(found[place]), told.get(str(place), "")) for place in range(len(texts))]
 

@@ -184,6 +184,10 @@ put = while read -r mode file place; do \
 install: $(if $(PIE_S),install-program) install-library
 install-program: program
 	@printf '%s\n' "$$PROGRAM" "$$LICENCES" | $(put)
+# (both install the licences)
+ifneq ($(filter install,$(MAKECMDGOALS)),)
+install-library: | $(if $(PIE_S),install-program)
+endif
 install-library: libraries described
 	@printf '%s\n' "$$LIBRARY" "$$LICENCES" | $(put)
 uninstall:

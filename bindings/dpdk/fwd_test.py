@@ -201,7 +201,10 @@ def audited(path):
     gap = re.search(rb"^lost,", text, re.M)
     wanted = f"pie: {path}: record {1 + text.count(NEWLINE, 0, gap.start())}: unknown kind\n" if gap else f"{path}: clean,{last}\n"
     done = subprocess.run([PIE, "audit", path], stdout=subprocess.PIPE, stderr=subprocess.STDOUT, text=True, check=False)
-    assert done.stdout == wanted, (done.stdout, wanted)
+    # one more line names the field of a fault
+    cause = f'pie: line {1 + text.count(NEWLINE, 0, gap.start())} of {path}, field 1 (kind): "lost"; allowed are ' if gap else ""
+    said = done.stdout.splitlines(keepends=True)
+    assert "".join(said[:1]) == wanted and ([line.startswith(cause) for line in said[1:]] == ([True] if gap else [])), (done.stdout, wanted)
     return before, None if gap else last
 
 

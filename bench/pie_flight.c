@@ -23,7 +23,7 @@
 #define TURN 2000    /* pairs in a turn: the kinds alternate, so that other work on the machine affects all */
 #define SIZE 1000    /* bytes of a packet */
 
-/* What is done with an event. */
+/* The record of an event: none, 40 bytes, that of least.h, or that of the flight recorder. */
 enum record { ALONE, STORED, LEAST, KEPT, RECORDS };
 static const char *const names[RECORDS] = {"alone", "stored", "least", "kept"};
 

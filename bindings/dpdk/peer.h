@@ -25,7 +25,7 @@
 
 #define PEER_BURST 32u
 
-/* What the peer records. */
+/* The record of the peer: none, its events, or sums. */
 enum peer_record { PEER_ALONE, PEER_KEPT, PEER_SUMMED };
 
 struct peer_waiting {

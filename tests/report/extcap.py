@@ -211,6 +211,12 @@ def hold_faults(folder):
                         ([history, out, "--every"], "unrecognized arguments: --every; --help tells more")):
         done = extcap(*words)
         check(done == (1, f"pie-extcap: {says}\n"), done)
+    # an output never replaces an input
+    kept = folder / "kept"
+    kept.write_text(text)
+    for words in ((kept, kept), (history, kept, "--flows", kept)):
+        done = extcap(*words)
+        check(done == (1, f"pie-extcap: {kept}: an input cannot be the output\n") and kept.read_text() == text, f"{words}: {done}")
 
 
 def main():

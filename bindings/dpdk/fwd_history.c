@@ -2,65 +2,33 @@
 
 #include "fwd_queues.h"
 
-#include <dirent.h>
 #include <errno.h>
-#include <inttypes.h>
 #include <stdlib.h>
 #include <string.h>
 
 #define ROOM 65536 /* bytes written at once */
 
-/* Writes the name of a segment. Returns false if it is too long. */
-static bool name_segment(const struct fwd_history *history, uint64_t segment, char name[PATH_MAX]) {
-    int length = history->rotate == 0 ? snprintf(name, PATH_MAX, "%s", history->path)
-                                      : snprintf(name, PATH_MAX, "%s.%" PRIu64, history->path, segment);
-    errno = ENAMETOOLONG;
-    return length < PATH_MAX;
-}
-
-/* Opens the next file, and removes the oldest one if there are too many. */
+/* Opens the next file. */
 static bool open_next(struct fwd_history *history) {
-    char name[PATH_MAX], oldest[PATH_MAX];
-    enum output_kind kind = history->rotate != 0 ? OUTPUT_WHOLE : OUTPUT_FOLLOWED;
-    history->segment++;
     history->bytes = 0;
-    if (!name_segment(history, history->segment, name) || !open_output(&history->output, name, kind, history->is_forced))
+    if (history->rotate == 0 ? !open_output(&history->output, history->segments.path, OUTPUT_FOLLOWED, history->segments.is_forced)
+                             : !segments_open(&history->segments, &history->output))
         return false;
     setvbuf(history->output.file, NULL, _IONBF, 0); // unbuffered: the text is written in large pieces
-    if (history->segments != 0 && history->segment > history->segments && name_segment(history, history->segment - history->segments, oldest))
-        remove(oldest);
     return true;
 }
 
 bool fwd_history_segment_there(const char *path, uint32_t queue, char name[PATH_MAX]) {
-    char folder[PATH_MAX], start[PATH_MAX];
-    const struct dirent *entry;
-    if (!fwd_queue_name(start, path, queue))
-        return false;
-    char *slash = strrchr(start, '/');
-    const char *base = slash != NULL ? slash + 1 : start;
-    size_t length = strlen(base);
-    snprintf(folder, sizeof folder, "%.*s", slash != NULL ? (int)(slash - start) + 1 : 1, slash != NULL ? start : ".");
-    DIR *names = opendir(folder);
-    bool is_there = false;
-    while (names != NULL && !is_there && (entry = readdir(names)) != NULL) {
-        const char *digits = entry->d_name + length + 1;
-        is_there = strncmp(entry->d_name, base, length) == 0 && entry->d_name[length] == '.' && *digits != '\0' &&
-                   strspn(digits, "0123456789") == strlen(digits);
-        if (is_there && snprintf(name, PATH_MAX, "%s.%s", start, digits) >= PATH_MAX)
-            is_there = false;
-    }
-    if (names != NULL)
-        closedir(names);
-    return is_there;
+    char start[PATH_MAX];
+    return fwd_queue_name(start, path, queue) && segments_there(start, name);
 }
 
 bool fwd_history_open(struct fwd_history *history, const char *path, uint32_t queue, uint64_t rotate, uint64_t segments, bool is_forced) {
-    *history = (struct fwd_history){.rotate = rotate, .segments = segments, .is_forced = is_forced};
+    *history = (struct fwd_history){.rotate = rotate, .segments = {.kept = segments, .is_forced = is_forced}};
     if (path == NULL)
         return true;
     history->text = malloc(ROOM);
-    return history->text != NULL && fwd_queue_name(history->path, path, queue) && open_next(history);
+    return history->text != NULL && fwd_queue_name(history->segments.path, path, queue) && open_next(history);
 }
 
 static void say_broken(struct fwd_history *history) {

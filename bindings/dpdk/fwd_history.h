@@ -2,16 +2,13 @@
 #ifndef FWD_HISTORY_H
 #define FWD_HISTORY_H
 
-#include "output.h"
 #include "pie_stage.h"
+#include "segments.h"
 
 struct fwd_history {
-    struct output output;  /* PATH, or PATH.<segment>; no file is open if no history is written any more */
-    char path[PATH_MAX];
-    bool is_forced;        /* existing files are replaced */
+    struct output output;  /* FILE, or its present segment; no file is open if no history is written any more */
+    struct segments segments;
     uint64_t rotate;       /* a segment ends after this number of bytes; 0: one text */
-    uint64_t segments;     /* number of last segments to keep; 0: all */
-    uint64_t segment;      /* number of the present segment, counted from 1 */
     uint64_t bytes, lost;  /* bytes of the present segment; events that were lost when it began */
     bool is_broken;        /* a write failed */
     unsigned char *text;

@@ -2,11 +2,11 @@
 # Boots a kernel of Debian under qemu with two processors, and sends TCP and UDP through its own pie and fq_pie, whose steps pie-watch records
 # (boot_init.sh): a queue that exists before pie-watch, a created one with the rate estimator beside another device's, one with flows, and one with a ring
 # buffer that is too small. pie_linux_steps decides each of at least ENQUEUES enqueues again. sums.py compares the steps with the counters of tc: no number
-# may be missing, and each lost step must be counted. Then pie-watch must refuse to record without root, types or the module. It takes three minutes of a
+# may be missing, and each lost step must be counted. Segments are decided alone. Then pie-watch must refuse what it does not know. It takes 3.4 minutes of a
 # processor.
 #
 # --kernel 6.12
-#           boots the kernel of Debian 12's backports, with `pie-watch --anyway`. If ROOT (build/debian-6.12 by default) does not exist, bindings/kernel/packages.sh makes it
+#           boots the kernel of Debian 12's backports. If ROOT (build/debian-6.12 by default) does not exist, bindings/kernel/packages.sh makes it
 # STEPS     the program that decides the steps of standard input again; the status is 0 if none differs
 # BYTES     the bytes of TCP, and of UDP, of one phase
 # PACKETS   the packets of the kernel's packet generator that one flood queues; it sends a packet that was dropped again
@@ -18,9 +18,9 @@
 # usage: [STEPS=program] [BYTES=1M] [PACKETS=10000] [ENQUEUES=200000] [HEADERS=folder] [KEEP=folder for all files] bindings/linux/boot.sh [--kernel 6.12] [ROOT]
 set -eu
 cd "$(dirname "$0")/../.."
-me=bindings/linux/boot.sh anyway=
+me=bindings/linux/boot.sh
 if [ "${1-}" = --kernel ]; then
-    version=${2:?} anyway=--anyway
+    version=${2:?}
     shift 2
     [ $# != 0 ] || set -- "$PWD/build/debian-$version"
     [ -e "$1" ] || bindings/kernel/packages.sh "$version" "$1"
@@ -36,11 +36,12 @@ done
 # shellcheck source=guest.sh
 . bindings/linux/guest.sh
 fill_watch
+fill_refusals
 fill_root bindings/linux/boot_init.sh veth dummy sch_htb sch_tbf sch_netem sch_pie sch_fq_pie pktgen
 truncate -s 1G "$work/disk"
 # a slow machine stalls the guest, which is no error of it
 # shellcheck disable=SC2086
-boot "${anyway:+anyway=$anyway }bytes=${BYTES:-1M} packets=${PACKETS:-10000} no_timer_check nowatchdog rcupdate.rcu_cpu_stall_suppress=1" -m 1024 -smp 2 -accel tcg,thread=multi \
+boot "bytes=${BYTES:-1M} packets=${PACKETS:-10000} no_timer_check nowatchdog rcupdate.rcu_cpu_stall_suppress=1" -m 1024 -smp 2 -accel tcg,thread=multi \
     $machine -drive "file=$work/disk,format=raw,if=virtio"
 mkdir "$work/steps"
 tar -C "$work/steps" -xf "$work/disk"
@@ -57,4 +58,18 @@ for compact in "$work"/steps/*.steps; do
     refused=$(awk -F, '$3 == "enq" && $17 != "0"' "$text" | wc -l)
     [ "$refused" = "$(grep -c -E 'DROPPED (early|over)' "$work/lost")" ] || { echo "$me: $text: $refused enqueues were refused, with other causes" >&2; exit 1; }
 done
+# each segment begins with its queues, and no step is missing between segments
+mkdir "$work/segments"
+number=1
+while [ -e "$work/steps/segments.$number" ]; do
+    bindings/linux/out/pie-watch text -o "$work/segments/$number.csv" "$work/steps/segments.$number"
+    "$steps" < "$work/segments/$number.csv" > "$work/decided" || { echo "$me: segment $number: $(cat "$work/decided")" >&2; exit 1; }
+    number=$((number + 1))
+done
+find "$work/segments" -name '*.csv' | sort -V | xargs awk -F, '
+    $1 == "qid" { split("", begun); files++; next }
+    !($1 in begun) && $3 != "init" && $3 != "resume" { print "the first row of a queue: " $0; bad = 1; exit }
+    ($1 in last) && $4 != last[$1] && $4 != last[$1] + 1 { print "a step is missing before " $0; bad = 1; exit }
+    { begun[$1]; last[$1] = $4; rows++ }
+    END { print "  " files " segments: " rows " rows, each segment clean alone"; exit bad || files < 3 }'
 bindings/linux/sums.py "$work/steps" "${ENQUEUES:-200000}"

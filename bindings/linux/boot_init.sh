@@ -111,8 +111,22 @@ keeps
 stops 2
 /bin/tc -n r qdisc del dev rb root
 
-# some of many queues
-watches sampled --all --every 4 -o /tmp/sampled.text
+# segments, each of which begins with the resumed queues; the queue of ra has no packets
+watches segments --all --compact --rotate 1mb -o /tmp/segments
+/bin/tc -n r qdisc add dev ra root handle 3: pie || echo "FAILED tc ra"
+queues fq_pie limit 400 flows 64 ecn
+carries $bytes
+floods $packets 300
+$box sleep 0.5
+ends 0
+/bin/tc -n r qdisc del dev ra root
+/bin/tc -n r qdisc del dev rb root
+
+# some of many queues, by a user other than root with CAP_PERFMON, CAP_BPF and CAP_SYS_ADMIN
+$box chmod 1777 /tmp
+run_as="/bin/as_nobody 38 39 21 --"
+watches sampled --anyway --all --every 4 -o /tmp/sampled.text
+run_as=
 for number in 1 2 3 4 5 6 7 8 9 10 11 12 13 14 15 16; do
     /bin/ip -n r link add d$number type dummy
     /bin/tc -n r qdisc add dev d$number root pie
@@ -124,27 +138,48 @@ for number in 1 2 3 4 5 6 7 8 9 10 11 12 13 14 15 16; do
     /bin/ip -n r link del d$number
 done
 
-# refuses NAME WORDS TEXT: pie-watch with WORDS fails, and its only line contains TEXT. A kernel that is not known is refused in a line of its own
+# refuses NAME WORDS TEXT: pie-watch with WORDS fails, and its only line contains TEXT
 refuses() {
-    [ -z "${anyway-}" ] || return 0
     $2 > /tmp/refused 2>&1 && echo "FAILED: $1 is not refused"
     $box sed "s/^/TOLD $1: /" /tmp/refused
     $box grep -q "$3" /tmp/refused && [ "$($box wc -l < /tmp/refused)" = 1 ] || echo "FAILED: $1"
 }
+
+# over FILE WITH: another file in the place of a file of the kernel
+over() {
+    $box mount -o bind $2 $1
+}
 refuses device "/bin/pie-watch none" 'no such device'
-echo nobody:x:65534:65534::/: > /etc/passwd
-refuses root "$box start-stop-daemon -S -c nobody -x /bin/pie-watch -- lo" 'CAP_PERFMON, CAP_BPF'
 refuses file "/bin/pie-watch -o /tmp/small.steps lo" 'the file exists'
+refuses segment "/bin/pie-watch --rotate 1mb -o /tmp/segments lo" '/tmp/segments.[0-9]*: the file exists'
+refuses capabilities "/bin/as_nobody -- /bin/pie-watch lo" 'missing: CAP_PERFMON, CAP_BPF, CAP_SYS_ADMIN'
+refuses capability "/bin/as_nobody 38 39 -- /bin/pie-watch lo" 'missing: CAP_SYS_ADMIN'
+refuses version "/bin/setarch x86_64 --uname-2.6 /bin/pie-watch lo" 'Linux 2.6.* was not tested; tested: Linux 6.1 and 6.12'
+
+$box grep -v ' pie_reset' /proc/kallsyms > /tmp/symbols
+over /proc/kallsyms /tmp/symbols
+refuses hook "/bin/pie-watch --anyway lo" 'no function pie_reset'
+$box umount /proc/kallsyms
+$box sed 's/^[0-9a-f]* T get_random_bytes$/ffffffff81000000 T get_random_bytes/' /proc/kallsyms > /tmp/symbols
+over /proc/kallsyms /tmp/symbols
+refuses inlined "/bin/pie-watch lo" 'pie_drop_early does not call get_random_bytes in this kernel'
+$box umount /proc/kallsyms
+over /sys/kernel/btf/sch_pie /mods/changed.btf
+refuses field "/bin/pie-watch --anyway lo" 'struct pie_stats has no field overlimit'
+$box umount /sys/kernel/btf/sch_pie
 $box mount -t tmpfs none /sys/kernel/btf
 refuses types "/bin/pie-watch lo" 'CONFIG_DEBUG_INFO_BTF'
 $box umount /sys/kernel/btf
 $box rmmod sch_fq_pie
 $box rmmod sch_pie
 refuses module "/bin/pie-watch lo" 'sch_pie is not loaded'
+$box mount -t securityfs none /sys/kernel/security
+echo confidentiality > /sys/kernel/security/lockdown
+refuses lockdown "/bin/pie-watch lo" 'locked down'
 
 $box dmesg | $box grep -E 'WARNING|BUG|Oops|Call Trace'
 cd /tmp
-$box tar -cf - *.steps *.json *.later > /dev/vda || echo "FAILED tar"
+$box tar -cf - *.steps *.json *.later segments.* > /dev/vda || echo "FAILED tar"
 $box sync
 echo ended
 $box poweroff -f

@@ -1,6 +1,6 @@
 #!/usr/bin/env bash
 # Builds pie-watch and its BPF programs without warnings, and runs it without root: --version prints the version of pie.h, and
-# a device that does not exist is refused in one line. boot.sh records a kernel's queues.
+# a device that does not exist and wrong options of segments are refused in one line. boot.sh records a kernel's queues.
 #
 # usage: bindings/linux/check.sh
 # needs: nothing
@@ -20,8 +20,21 @@ if [ -s "$work/warnings" ]; then
 fi
 version=$(sed -n 's/^#define PIE_VERSION "\(.*\)"$/\1/p' include/pie.h)
 [ "$("$work/pie-watch" --version)" = "pie-watch $version" ] || { echo "$me: another version than $version" >&2; exit 1; }
-if "$work/pie-watch" no_such_device -o "$work/steps.csv" 2> "$work/refusal" || [ "$(wc -l < "$work/refusal")" != 1 ] || [ -e "$work/steps.csv" ]; then
-    echo "$me: a device that does not exist: $(cat "$work/refusal")" >&2
-    exit 1
-fi
+
+# refuses TEXT WORD..: pie-watch with these words prints one line with this text, and writes no file
+refuses() {
+    local text=$1
+    shift
+    if "$work/pie-watch" "$@" 2> "$work/refusal" || ! grep -q -e "$text" "$work/refusal" || [ "$(wc -l < "$work/refusal")" != 1 ] || [ -e "$work/steps.csv" ]; then
+        echo "$me: $*: $(cat "$work/refusal")" >&2
+        exit 1
+    fi
+}
+refuses 'a size of at least 64kb, such as 64mb: 65535b' --rotate 65535b -o "$work/steps.csv" lo
+refuses 'a size of at least 64kb, such as 64mb: 64k' --rotate 64k -o "$work/steps.csv" lo
+refuses '--rotate needs -o FILE' --rotate 64kb lo
+refuses '--segments needs --rotate' --segments 2 -o "$work/steps.csv" lo
+touch "$work/steps.csv.07"
+refuses 'steps.csv.07: the file exists' --rotate 64kb -o "$work/steps.csv" lo
+refuses 'no such device' no_such_device -o "$work/steps.csv"
 echo "$me: pie-watch $version builds without warnings, and refuses: $(cat "$work/refusal")"

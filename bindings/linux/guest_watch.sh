@@ -1,13 +1,13 @@
 # For the first processes of the kernels that scripts boot here (boot_init.sh, measure.sh, mutants.sh). guest.sh copies this file to /watch.sh, and each
 # reads it by `.` after /net.sh.
 in_queue="/bin/ip netns exec r"
+run_as=
 
-# watches NAME WORDS..: starts pie-watch, by `in_queue` in the namespace of the queue, with the option `anyway` of the kernel's parameters, and waits until
-# it records
+# watches NAME WORDS..: starts pie-watch, by `in_queue` in the namespace of the queue and by `run_as` as another user, and waits until it records
 watches() {
     watched=$1
     shift
-    $in_queue /bin/pie-watch ${anyway-} "$@" 2> /tmp/$watched.said &
+    $in_queue $run_as /bin/pie-watch "$@" 2> /tmp/$watched.said &
     watch=$!
     until $box grep -q '^pie-watch: recording' /tmp/$watched.said; do
         $box kill -0 $watch 2> /dev/null || { echo "FAILED: pie-watch $watched"; $box cat /tmp/$watched.said; break; }

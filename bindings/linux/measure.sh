@@ -1,11 +1,11 @@
 #!/usr/bin/env bash
 # Counts instructions of enqueue and dequeue (bindings/kernel/measure/pie_measure.c) of the kernel's own pie and fq_pie, without pie-watch and with it.
 # Under qemu -icount one instruction is one tick of the time stamp counter. Arrivals are in a burst allowance, or considered for an early drop. Prints a
-# table, and fails if an enqueue and a dequeue with pie-watch need more than MOST instructions. ROOT and HEADERS are those of boot.sh. It takes a minute
-# of one processor.
+# table, and fails if an enqueue and a dequeue with pie-watch need more than MOST instructions, or more than MOST_FLOWS if sch_fq_pie is loaded. ROOT and
+# HEADERS are those of boot.sh. It takes a minute of one processor.
 # needs: a request
 #
-# usage: [MOST=2300] [HEADERS=folder] [KEEP=folder for all files] bindings/linux/measure.sh [ROOT]
+# usage: [MOST=2300] [MOST_FLOWS=2750] [HEADERS=folder] [KEEP=folder for all files] bindings/linux/measure.sh [ROOT]
 set -eu
 cd "$(dirname "$0")/../.."
 me=bindings/linux/measure.sh
@@ -20,7 +20,7 @@ cat > "$work/init" <<'END'
 . /watch.sh
 in_queue=
 begins
-loads dummy sch_pie sch_fq_pie
+loads dummy sch_pie
 $box sysctl -q -w net.ipv6.conf.all.disable_ipv6=1
 $box sysctl -q -w net.ipv6.conf.default.disable_ipv6=1
 # measured NAME WORDS..: counts a queue
@@ -34,13 +34,15 @@ measured() {
     $box rmmod pie_measure
     /bin/ip link del dummy0
 }
-for queue in pie fq_pie; do
-    measured $queue $queue ecn
-done
-watches all --all --compact -o /dev/null --force
-for queue in pie fq_pie; do
-    measured ${queue}_recorded $queue ecn
-done
+measured pie pie ecn
+watches pie --all --compact -o /dev/null --force
+measured pie_recorded pie ecn
+ends 0
+loads sch_fq_pie
+measured fq_pie fq_pie ecn
+watches both --all --compact -o /dev/null --force
+measured fq_pie_recorded fq_pie ecn
+measured pie_recorded_beside_fq_pie pie ecn
 ends 0
 $box dmesg | $box grep -o 'COUNT.*'
 echo ended
@@ -53,4 +55,4 @@ boot "clocksource=tsc tsc=reliable" $SIMULATED
 echo "$me: instructions of enqueue and dequeue, Linux $release"
 grep -E '^TOLD' "$work/console" | tr -d '\r' | sed 's/^TOLD/ /'
 sed -n 's/^COUNT/ /p' "$work/console" | tr -d '\r'
-awk -v most="${MOST:-2300}" '/^COUNT .*_recorded/ && $5 + $7 > most { print "more than " most ": " $0; bad = 1 } END { exit bad }' "$work/console"
+awk -v most="${MOST:-2300}" -v most_flows="${MOST_FLOWS:-2750}" '/^COUNT .*recorded/ && $5 + $7 > ($2 == "pie_recorded" ? most : most_flows) { print "too many: " $0; bad = 1 } END { exit bad }' "$work/console"

@@ -1,7 +1,7 @@
 #!/usr/bin/env bash
-# Boots Debian's kernel with a sch_pie that is built from its source with the faults of mutants.txt, and records the traffic of each fault by pie-watch, once
-# without the fault and once with it. pie_linux_steps must decide the first as the kernel did, and name a step of the second. pahole makes the module's
-# types. Prints the step of each fault.
+# Boots Debian's kernel with a sch_pie that is built from its source with the faults of mutants.txt. pie-watch records the traffic of each fault twice,
+# without the fault and with it. pie_linux_steps must decide the first as the kernel did, and name a step of the second. pahole makes the module's
+# types. Prints the step of each fault. Faults that need minutes of rest are tried in simulated time.
 #
 # STEPS, ROOT and HEADERS are those of boot.sh. SOURCE is Debian's linux-source of this kernel.
 # needs: pie_linux_steps, a request
@@ -36,53 +36,91 @@ begins
 finds_disk
 loads veth sch_htb pktgen
 connects 1
-# tries NAME FAULT PACKETS SIZE WORDS..: records the queue of these words
+for at in a:a0 r:ra r:rb b:b0; do
+    /bin/ip netns exec ${at%:*} $box sysctl -q -w net.ipv6.conf.${at#*:}.disable_ipv6=1
+done
+
+# asks: sends a packet through the queue
+asks() {
+    /bin/ip netns exec a $box ping -q -c 1 -W 1 10.0.2.1 > /dev/null
+}
+
+# rests SECONDS: two packets with this time between them. The queue's first calculation is over
+rests() {
+    $box sleep 1
+    asks
+    $box sleep $1
+    asks
+}
+
+# crawls COUNT SIZE SECONDS: packets that leave at 1 kB/s, for this time
+crawls() {
+    asks
+    /bin/tc -n r class change dev rb parent 1: classid 1:1 htb rate 8kbit
+    floods $1 $2
+    $box sleep $3
+}
+
+# tries FAULT TRAFFIC WORDS..: the traffic through the queue of these words
 tries() {
-    recorded=$1
-    $box insmod /mods/sch_pie.ko ${2:+fault=$2} || echo "FAILED insmod"
-    watches $recorded --rate-estimator -o /tmp/$recorded.csv rb
-    shift 2
-    count=$1 size=$2
+    traffic=$2
+    $box printf %s "$1" > /sys/module/sch_pie/parameters/fault
     shift 2
     queues "$@"
-    floods $count $size
+    $traffic
     $box sleep 0.5
-    ends 0
     /bin/tc -n r qdisc del dev rb root
-    $box rmmod sch_pie
 }
-while read -r fault words; do
-    tries ${fault}.right "" $words < /dev/null
-    tries $fault $fault $words < /dev/null
+$box insmod /mods/sch_pie.ko || echo "FAILED insmod"
+watches faults --rate-estimator --compact -o /tmp/faults.steps rb
+tab=$($box printf '\t')
+while IFS=$tab read -r fault traffic words; do
+    IFS=' '
+    tries none "$traffic" $words < /dev/null
+    tries $fault "$traffic" $words < /dev/null
 done < /mods/faults
+ends 0
 cd /tmp
-$box tar -cf - *.csv > /dev/vda || echo "FAILED tar"
+$box tar -cf - faults.steps > /dev/vda || echo "FAILED tar"
 $box sync
 echo ended
 $box poweroff -f
 END
 fill_watch
-bindings/linux/mutant.py --list > "$work/root/mods/faults"
 cp "$work/mutants/sch_pie.ko" "$work/root/mods/"
-fill_root "$work/init" veth sch_htb pktgen
-truncate -s 1G "$work/disk"
-# shellcheck disable=SC2086
-boot "no_timer_check nowatchdog rcupdate.rcu_cpu_stall_suppress=1" -m 1024 -smp 2 -accel tcg,thread=multi $machine \
-    -drive "file=$work/disk,format=raw,if=virtio"
-mkdir "$work/steps"
-tar -C "$work/steps" -xf "$work/disk"
+
+# tries KIND OPTION..: boots with the faults of this kind, and finds each
+tries() {
+    local kind=$1 number=0 fault found right
+    shift
+    bindings/linux/mutant.py --list "$kind" > "$work/root/mods/faults"
+    fill_root "$work/init" veth sch_htb pktgen
+    truncate -s 2G "$work/disk"
+    boot "no_timer_check nowatchdog rcupdate.rcu_cpu_stall_suppress=1" "$@" -drive "file=$work/disk,format=raw,if=virtio"
+    mkdir "$work/$kind"
+    tar -C "$work/$kind" -xf "$work/disk"
+    rm "$work/disk"
+    bindings/linux/out/pie-watch text -o "$work/$kind/faults.csv" "$work/$kind/faults.steps"
+    # a file for each queue, whose number ends its name
+    awk -F, -v folder="$work/$kind" 'NR == 1 { names = $0; next } { n = $1; sub(".*/", "", n); file = folder "/" n ".csv" }
+        !(n in begun) { begun[n]; print names > file } { print > file }' "$work/$kind/faults.csv"
+    while IFS=$'\t' read -r fault _; do
+        right=$("$steps" < "$work/$kind/$number.csv" | tail -n 1) || true
+        found=$("$steps" < "$work/$kind/$((number + 1)).csv" | tail -n 1) || true
+        echo "  $fault: $found (without it: $right)"
+        case "$found, $right" in
+            *" is recorded as "*", clean: "*) ;;
+            *)
+                echo "$me: the fault $fault is not found" >&2
+                failed=1
+                ;;
+        esac
+        number=$((number + 2))
+    done < "$work/root/mods/faults"
+}
 failed=0
-while read -r fault _; do
-    status=0
-    found=$("$steps" < "$work/steps/$fault.csv" | tail -n 1) || status=$?
-    right=$("$steps" < "$work/steps/$fault.right.csv" | tail -n 1)
-    echo "  $fault: $found (without it: $right)"
-    case "$found" in
-        *" is recorded as "*) ;;
-        *)
-            echo "$me: the fault $fault is not found" >&2
-            failed=1
-            ;;
-    esac
-done < "$work/root/mods/faults"
+# shellcheck disable=SC2086
+tries live -m 1024 -smp 2 -accel tcg,thread=multi $machine
+# shellcheck disable=SC2086
+tries simulated $SIMULATED
 exit $failed

@@ -12,6 +12,9 @@
 
 #include "watch_queue.h"
 
+#define MOST_QUEUES 1024
+#define PROBES 64             /* places among which a queue is searched */
+#define NO_PLACE WATCH_PLACES
 #define MOST_WAITING 65536    /* waiting packets of a resumed queue */
 #define MOST_FLOWS 65536
 #define INTERRUPTED 6         /* values among which the second program finds that of the first */
@@ -39,12 +42,10 @@ struct drawn {
     } at[DRAWS];
 };
 
-struct {
-    __uint(type, BPF_MAP_TYPE_HASH);
-    __uint(max_entries, 1024);
-    __type(key, u64); /* the address of the queue's parameters */
-    __type(value, struct queue);
-} queues SEC(".maps");
+/* A hash table with linear probing. A map of the kernel costs ten times the instructions. */
+struct queue queues[WATCH_PLACES];
+u32 queues_now; /* the number of queues in the table */
+u32 segment;    /* of the output. The program in user space increments it, and each queue is resumed once */
 
 struct {
     __uint(type, BPF_MAP_TYPE_ARRAY);
@@ -58,13 +59,14 @@ struct {
     __uint(max_entries, 1 << 25);
 } ring SEC(".maps");
 
-const struct queue new_queue;
-
 #define OFFSET(type, field) bpf_core_field_offset(struct type, field)
 #define PIE_OF(sch) ((struct pie_sched_data *)((void *)(sch) + OFFSET(Qdisc, privdata)))
 #define FQ_PIE_OF(sch) ((struct fq_pie_sched_data *)((void *)(sch) + OFFSET(Qdisc, privdata)))
 #define PIE_KEY(sch) ((u64)(sch) + OFFSET(Qdisc, privdata) + OFFSET(pie_sched_data, params))
 #define FQ_PIE_KEY(sch) ((u64)(sch) + OFFSET(Qdisc, privdata) + OFFSET(fq_pie_sched_data, p_params))
+
+/* Reads a field of a struct whose address is a number. */
+#define READ(to, from, type, field) bpf_probe_read_kernel(&(to), sizeof(to), (void *)((from) + OFFSET(type, field)))
 
 /* ---- records */
 
@@ -72,8 +74,51 @@ static __always_inline bool is_fq_pie(const struct queue *queue) {
     return has_fq_pie && queue->kind == WATCH_FQ_PIE;
 }
 
+/* Returns the hash of a queue's key. The verifier allows no arithmetic of an address, but a copy of its lower half. */
+static __always_inline u32 hash_of(u64 key) {
+    return (u32)key * 0x9e3779b1u >> 16;
+}
+
+/* Returns the place of a key in the table after its first place, or NO_PLACE. This function and the others that are not static are verified once, instead of
+ * once for each state of their callers. */
+__noinline u32 search(const u64 *key) {
+    if (key == NULL)
+        return NO_PLACE;
+    for (u32 i = 1; i < PROBES; i++) {
+        u32 place = (hash_of(*key) + i) % WATCH_PLACES;
+        if (queues[place].key == *key)
+            return place;
+        if (queues[place].key == NO_QUEUE)
+            break;
+    }
+    return NO_PLACE;
+}
+
+/* Returns the queue of a key: the address of the queue's parameters. NULL: it is not recorded. */
 static __always_inline struct queue *find(u64 key) {
-    return is_on ? bpf_map_lookup_elem(&queues, &key) : NULL;
+    struct queue *queue;
+    u32 place;
+    if (!is_on)
+        return NULL;
+    queue = &queues[hash_of(key) % WATCH_PLACES];
+    if (queue->key == key)
+        return queue;
+    place = queue->key != NO_QUEUE ? search(&key) : NO_PLACE;
+    return place < WATCH_PLACES ? &queues[place] : NULL;
+}
+
+/* Takes a free place of the table for a key. Returns NO_PLACE if there is none. */
+__noinline u32 take_place(const u64 *key) {
+    if (key != NULL && __sync_fetch_and_add(&queues_now, 1) < MOST_QUEUES) {
+        for (u32 i = 0; i < PROBES; i++) {
+            u32 place = (hash_of(*key) + i) % WATCH_PLACES;
+            u64 free = queues[place].key;
+            if (free <= FREED && __sync_val_compare_and_swap(&queues[place].key, free, TAKEN) == free)
+                return place;
+        }
+    }
+    __sync_fetch_and_add(&queues_now, -1);
+    return NO_PLACE;
 }
 
 static __always_inline void fill_head(struct watch_head *head, const struct queue *queue, enum watch_type type, u32 seq, u64 ns) {
@@ -89,19 +134,46 @@ static __always_inline void fill_head(struct watch_head *head, const struct queu
 #define NOW bpf_ktime_get_ns()
 #define IN_RECORD 0 /* another field of the record has the moment */
 
-/* Reserves the record of a step, which has the queue's next number. Returns NULL if the step is lost. */
-#define STEP(queue, type, size, ns)                                                    \
-    ({                                                                                 \
-        u32 seq_ = (queue)->seq;                                                       \
-        (queue)->seq = seq_ + 1;                                                       \
-        void *record_ = (queue)->is_broken ? NULL : bpf_ringbuf_reserve(&ring, size, 0); \
-        if (record_ != NULL) {                                                         \
-            fill_head(record_, queue, type, seq_, ns);                                   \
-        } else {                                                                       \
-            (queue)->is_broken = true;                                                 \
-            (queue)->lost++;                                                           \
-        }                                                                              \
-        record_;                                                                       \
+/* Writes the records that a queue holds to the ring. If it is full, their steps are lost. */
+__noinline int flush(u32 place) {
+    struct queue *queue = &queues[place % WATCH_PLACES];
+    u32 held = queue->held, bytes = held * WATCH_MOST;
+    queue->held = 0;
+    if (held == 0 || held > WATCH_HELD)
+        return 0;
+    if (bpf_ringbuf_output(&ring, queue->records, bytes, BPF_RB_NO_WAKEUP) != 0) {
+        queue->is_broken = true;
+        queue->lost += queue->steps;
+    }
+    queue->steps = 0;
+    return 0;
+}
+
+/* Returns the place of the queue's next record, until `hold` is called. */
+static __always_inline void *next_record(struct queue *queue) {
+    return &queue->records[queue->held % WATCH_HELD];
+}
+
+/* Holds the next record. Several records are written at once, since a place in the ring costs more instructions than a record. */
+static __always_inline void hold(struct queue *queue) {
+    if (++queue->held >= WATCH_HELD)
+        flush(queue->place);
+}
+
+/* Begins the record of a step, which has the queue's next number. Returns NULL if the step is lost. */
+#define STEP(queue, type, ns)                        \
+    ({                                               \
+        u32 seq_ = (queue)->seq;                     \
+        void *record_ = NULL;                        \
+        (queue)->seq = seq_ + 1;                     \
+        if ((queue)->is_broken) {                    \
+            (queue)->lost++;                         \
+        } else {                                     \
+            record_ = next_record(queue);            \
+            fill_head(record_, queue, type, seq_, ns); \
+            (queue)->steps++;                        \
+        }                                            \
+        record_;                                     \
     })
 
 static __always_inline void write(void *record) {
@@ -143,59 +215,7 @@ static __always_inline u32 flow_of(struct queue *queue, const struct pie_vars *v
     return is_fq_pie(queue) ? (u32)((number_of(queue, vars) - queue->flows) / bpf_core_type_size(struct fq_pie_flow)) : WATCH_FLOW_NONE;
 }
 
-static __always_inline void copy_params(struct watch_whole *record, const struct pie_params *params) {
-    record->target = params->target;
-    record->tupdate = params->tupdate;
-    record->alpha = params->alpha;
-    record->beta = params->beta;
-    record->head.bits = (params->ecn ? WATCH_ECN : 0) | (params->bytemode ? WATCH_BYTEMODE : 0) | (params->dq_rate_estimator ? WATCH_DQ_RATE : 0);
-}
-
-/* Fills a record with the whole queue, on which later WATCH_ENQUEUE records build. */
-static __always_inline void fill_whole(struct watch_whole *record, struct queue *queue, struct Qdisc *sch, enum watch_kind kind) {
-    if (kind == WATCH_PIE) {
-        struct pie_sched_data *q = PIE_OF(sch);
-        copy_vars(&record->vars, &q->vars);
-        copy_params(record, &q->params);
-        copy_stats(&record->stats, &q->stats);
-    } else {
-        struct fq_pie_sched_data *q = FQ_PIE_OF(sch);
-        __builtin_memset(&record->vars, 0, sizeof record->vars);
-        record->fq.ecn_prob = q->ecn_prob;
-        record->fq.flows = q->flows_cnt;
-        record->fq.quantum = q->quantum;
-        record->fq.memory_limit = q->memory_limit;
-        record->fq.memory = q->memory_usage;
-        record->fq.overmemory = q->overmemory;
-        record->fq.cursor = q->flows_cursor;
-        record->fq.new_flows = q->new_flow_count;
-        queue->memory = record->fq.memory;
-        queue->overmemory = record->fq.overmemory;
-        copy_params(record, &q->p_params);
-        copy_stats(&record->stats, &q->stats);
-    }
-    record->limit = queue->limit = sch->limit;
-    record->mtu = queue->mtu = mtu_of(sch);
-    record->qlen = sch->q.qlen;
-    record->backlog = sch->qstats.backlog;
-    queue->stats = record->stats;
-    record->dropped_packets = record->dropped_bytes = 0;
-}
-
-static __always_inline void write_whole(struct queue *queue, struct Qdisc *sch, enum watch_kind kind, enum watch_type type, u32 packets, u32 bytes) {
-    struct watch_whole *record = STEP(queue, type, sizeof *record, NOW);
-    if (record == NULL)
-        return;
-    fill_whole(record, queue, sch, kind);
-    record->dropped_packets = packets;
-    record->dropped_bytes = bytes;
-    write(record);
-}
-
-static __always_inline bool write_base(struct queue *queue, enum watch_type type, u32 lost) {
-    struct watch_base *record = bpf_ringbuf_reserve(&ring, sizeof *record, 0);
-    if (record == NULL)
-        return false;
+static __always_inline void fill_base(struct watch_base *record, const struct queue *queue, enum watch_type type, u32 lost) {
     fill_head(&record->head, queue, type, queue->seq, NOW);
     record->stats = queue->stats;
     record->limit = queue->limit;
@@ -203,166 +223,102 @@ static __always_inline bool write_base(struct queue *queue, enum watch_type type
     record->memory = queue->memory;
     record->overmemory = queue->overmemory;
     record->lost = lost;
-    write(record);
-    return true;
 }
 
-static __always_inline bool write_name(struct queue *queue, struct Qdisc *sch, u64 key) {
+/* Returns the address of a queue's device. */
+static __always_inline u64 device_of(const struct queue *queue) {
+    u64 dev_queue = 0, device = 0;
+    READ(dev_queue, queue->sch, Qdisc, dev_queue);
+    READ(device, dev_queue, netdev_queue, dev);
+    return device;
+}
+
+/* Fills a record with the whole queue, on which later WATCH_ENQUEUE records build. */
+static __always_inline void read_whole(struct watch_whole *record, struct queue *queue) {
+    u64 sch = queue->sch, own = sch + OFFSET(Qdisc, privdata), params, stats, device = device_of(queue);
+    u8 ecn = 0, bytemode = 0, rate = 0;
+    u16 header = 0;
+    u32 mtu = 0;
+    if (is_fq_pie(queue)) {
+        __builtin_memset(&record->vars, 0, sizeof record->vars);
+        READ(record->fq.ecn_prob, own, fq_pie_sched_data, ecn_prob);
+        READ(record->fq.flows, own, fq_pie_sched_data, flows_cnt);
+        READ(record->fq.quantum, own, fq_pie_sched_data, quantum);
+        READ(record->fq.memory_limit, own, fq_pie_sched_data, memory_limit);
+        READ(record->fq.memory, own, fq_pie_sched_data, memory_usage);
+        READ(record->fq.overmemory, own, fq_pie_sched_data, overmemory);
+        READ(record->fq.cursor, own, fq_pie_sched_data, flows_cursor);
+        READ(record->fq.new_flows, own, fq_pie_sched_data, new_flow_count);
+        stats = own + OFFSET(fq_pie_sched_data, stats);
+        queue->memory = record->fq.memory;
+        queue->overmemory = record->fq.overmemory;
+        params = own + OFFSET(fq_pie_sched_data, p_params);
+    } else {
+        READ(record->vars, own, pie_sched_data, vars);
+        stats = own + OFFSET(pie_sched_data, stats);
+        params = own + OFFSET(pie_sched_data, params);
+    }
+    READ(record->stats.packets_in, stats, pie_stats, packets_in);
+    READ(record->stats.dropped, stats, pie_stats, dropped);
+    READ(record->stats.overlimit, stats, pie_stats, overlimit);
+    READ(record->stats.ecn_mark, stats, pie_stats, ecn_mark);
+    READ(record->stats.maxq, stats, pie_stats, maxq);
+    READ(record->target, params, pie_params, target);
+    READ(record->tupdate, params, pie_params, tupdate);
+    READ(record->alpha, params, pie_params, alpha);
+    READ(record->beta, params, pie_params, beta);
+    READ(ecn, params, pie_params, ecn);
+    READ(bytemode, params, pie_params, bytemode);
+    READ(rate, params, pie_params, dq_rate_estimator);
+    record->head.bits = (ecn ? WATCH_ECN : 0) | (bytemode ? WATCH_BYTEMODE : 0) | (rate ? WATCH_DQ_RATE : 0);
+    READ(record->limit, sch, Qdisc, limit);
+    READ(record->qlen, sch, Qdisc, q.qlen);
+    READ(record->backlog, sch, Qdisc, qstats.backlog);
+    READ(mtu, device, net_device, mtu);
+    READ(header, device, net_device, hard_header_len);
+    record->mtu = queue->mtu = mtu + header;
+    queue->limit = record->limit;
+    queue->stats = record->stats;
+    record->dropped_packets = record->dropped_bytes = 0;
+}
+
+/* Writes a step that has the whole queue. */
+__noinline int write_whole(u32 at, u32 type, u32 packets, u32 bytes) {
+    struct queue *queue = &queues[at % WATCH_PLACES];
+    struct watch_whole *record = STEP(queue, type, NOW);
+    if (record == NULL)
+        return 0;
+    read_whole(record, queue);
+    record->dropped_packets = packets;
+    record->dropped_bytes = bytes;
+    hold(queue);
+    flush(queue->place);
+    return 0;
+}
+
+static __always_inline bool write_name(struct queue *queue) {
     struct watch_queue *record = bpf_ringbuf_reserve(&ring, sizeof *record, 0);
-    struct net_device *dev = sch->dev_queue->dev;
+    u64 device = device_of(queue), net = 0;
+    u32 namespace = 0;
     if (record == NULL)
         return false;
     fill_head(&record->head, queue, WATCH_QUEUE, queue->seq, NOW);
-    record->address = key;
+    record->address = queue->key;
     record->kind = queue->kind;
-    record->ifindex = dev->ifindex;
-    record->handle = sch->handle;
-    record->parent = sch->parent;
-    record->netns = dev->nd_net.net->ns.inum;
-    bpf_probe_read_kernel(record->device, sizeof record->device, dev->name);
+    READ(record->ifindex, device, net_device, ifindex);
+    READ(record->handle, queue->sch, Qdisc, handle);
+    READ(record->parent, queue->sch, Qdisc, parent);
+    READ(net, device, net_device, nd_net.net);
+    READ(namespace, net, net, ns.inum);
+    record->netns = namespace;
+    READ(record->device, device, net_device, name);
     write(record);
     return true;
 }
 
-/* ---- queues that worked before, or whose steps were lost */
+#include "watch_resume.bpf.h"
 
-/* The functions of this part that are not static are verified once, instead of once for each state of their callers. */
-
-#define READ(to, from, type, field) bpf_probe_read_kernel(&(to), sizeof(to), (void *)((from) + OFFSET(type, field)))
-#define PEEKED 0x10000u /* beside the number of a queue: its packets were dequeued */
-#define FLOWS_SHIFT 17  /* beside the number of a queue: its list of flows, plus 1; 0 for pie */
-
-struct walk {
-    u64 next, end; /* the next packet or flow, and the end of the list */
-    u64 flows;
-    u32 seq, flow, which, is_full;
-};
-
-static __always_inline void head_of_walk(struct watch_head *head, const struct walk *walk, enum watch_type type) {
-    struct queue queue = {.number = walk->which};
-    fill_head(head, &queue, type, walk->seq, NOW);
-    head->flow = walk->flow;
-}
-
-/* Writes a packet of a list. Returns 1 at its end. */
-static long write_waiting(u32 number, struct walk *walk) {
-    u64 skb = walk->next, cb = skb + OFFSET(sk_buff, cb), own = cb + OFFSET(qdisc_skb_cb, data);
-    struct watch_wait *record;
-    if (skb == 0 || skb == walk->end)
-        return 1;
-    record = bpf_ringbuf_reserve(&ring, sizeof *record, 0);
-    if (record == NULL) {
-        walk->is_full = 1;
-        return 1;
-    }
-    head_of_walk(&record->head, walk, WATCH_WAIT);
-    READ(record->size, skb, sk_buff, len);
-    READ(record->pkt_len, cb, qdisc_skb_cb, pkt_len);
-    READ(record->enqueued, own, pie_skb_cb, enqueue_time);
-    READ(record->memory, own, pie_skb_cb, mem_usage);
-    record->is_peeked = (walk->which & PEEKED) != 0;
-    write(record);
-    READ(walk->next, skb, sk_buff, next);
-    return 0;
-}
-
-/* Writes the packets of a list. Returns 1 if the ring is full, and 0 otherwise. */
-__noinline int write_packets(u64 next, u64 end, u32 seq, u32 flow, u32 which) {
-    struct walk walk = {.next = next, .end = end, .seq = seq, .flow = flow, .which = which};
-    bpf_loop(MOST_WAITING, write_waiting, &walk, 0);
-    return walk.is_full;
-}
-
-/* Writes a flow of fq_pie and its packets. Returns 1 if the ring is full, and 0 otherwise. */
-__noinline int write_flow(u64 flow, u32 number, u32 seq, u32 which) {
-    struct walk walk = {.flow = number, .seq = seq, .which = which};
-    struct watch_flow *record = bpf_ringbuf_reserve(&ring, sizeof *record, 0);
-    u64 packets = 0;
-    if (record == NULL)
-        return 1;
-    head_of_walk(&record->head, &walk, WATCH_FLOW);
-    READ(record->vars, flow, fq_pie_flow, vars);
-    READ(record->deficit, flow, fq_pie_flow, deficit);
-    READ(record->backlog, flow, fq_pie_flow, backlog);
-    READ(record->qlen, flow, fq_pie_flow, qlen);
-    record->list = (which >> FLOWS_SHIFT) - 1;
-    write(record);
-    READ(packets, flow, fq_pie_flow, head);
-    return write_packets(packets, 0, seq, number, which);
-}
-
-/* Writes the next flow of a list. */
-static long write_listed(u32 number, struct walk *walk) {
-    u64 flow = walk->next - OFFSET(fq_pie_flow, flowchain);
-    if (walk->next == walk->end)
-        return 1;
-    if (write_flow(flow, (flow - walk->flows) / bpf_core_type_size(struct fq_pie_flow), walk->seq, walk->which) != 0) {
-        walk->is_full = 1;
-        return 1;
-    }
-    READ(walk->next, flow, fq_pie_flow, flowchain.next);
-    return 0;
-}
-
-/* Writes a flow that is in no list, if its state is not the initial one. */
-static long write_unlisted(u32 number, struct walk *walk) {
-    u64 flow = walk->flows + (u64)number * bpf_core_type_size(struct fq_pie_flow), next = 0;
-    struct watch_vars vars;
-    READ(next, flow, fq_pie_flow, flowchain.next);
-    if (next != flow + OFFSET(fq_pie_flow, flowchain))
-        return 0;
-    READ(vars, flow, fq_pie_flow, vars);
-    if (vars.dq_tstamp == ~0ull && (vars.qdelay | vars.qdelay_old | vars.prob | vars.accu_prob | vars.backlog_old) == 0)
-        return 0;
-    if (write_flow(flow, number, walk->seq, walk->which) != 0) {
-        walk->is_full = 1;
-        return 1;
-    }
-    return 0;
-}
-
-/* Writes the flows of a list, the first of which is `next`; or the flows of no list, `end` in number. Returns 1 if the ring is full, and 0 otherwise. */
-__noinline int write_flows(u64 next, u64 end, u64 flows, u32 seq, u32 which) {
-    struct walk walk = {.next = next, .end = end, .flows = flows, .seq = seq, .which = which};
-    if (which >> FLOWS_SHIFT == 1)
-        bpf_loop(end < MOST_FLOWS ? (u32)end : MOST_FLOWS, write_unlisted, &walk, 0);
-    else
-        bpf_loop(MOST_FLOWS, write_listed, &walk, 0);
-    return walk.is_full;
-}
-
-/* Writes the queue as it is before a step: WATCH_RESUME, its flows and its packets, if the ring has a place for them. Until then, steps are lost. */
-static __always_inline void resume(struct queue *queue, struct Qdisc *sch, u64 key, enum watch_kind kind) {
-    u32 flows = kind == WATCH_FQ_PIE ? FQ_PIE_OF(sch)->flows_cnt : 0, seq = queue->seq, which = queue->number, is_full;
-    u64 needed = ((u64)sch->q.qlen + 2 * (u64)flows + 8) * (WATCH_MOST + 8);
-    if (bpf_ringbuf_query(&ring, BPF_RB_RING_SIZE) < needed + bpf_ringbuf_query(&ring, BPF_RB_AVAIL_DATA))
-        return;
-    if (!queue->is_named && !write_name(queue, sch, key))
-        return;
-    queue->is_named = true;
-    if (queue->lost != 0) {
-        if (!write_base(queue, WATCH_LOST, queue->lost))
-            return;
-        queue->lost = 0;
-    }
-    struct watch_whole *record = bpf_ringbuf_reserve(&ring, sizeof *record, 0);
-    if (record == NULL)
-        return;
-    queue->seq = seq + 1;
-    fill_head(&record->head, queue, WATCH_RESUME, seq, NOW);
-    fill_whole(record, queue, sch, kind);
-    write(record);
-    is_full = write_packets(number_of(queue, sch->gso_skb.next), queue->sch + OFFSET(Qdisc, gso_skb), seq, WATCH_FLOW_NONE, which | PEEKED);
-    if (kind == WATCH_FQ_PIE) {
-        struct fq_pie_sched_data *q = FQ_PIE_OF(sch);
-        is_full |= write_flows(number_of(queue, q->new_flows.next), number_of(queue, &q->new_flows), queue->flows, seq, which | 2 << FLOWS_SHIFT);
-        is_full |= write_flows(number_of(queue, q->old_flows.next), number_of(queue, &q->old_flows), queue->flows, seq, which | 3 << FLOWS_SHIFT);
-        is_full |= write_flows(0, flows, queue->flows, seq, which | 1 << FLOWS_SHIFT);
-    } else {
-        is_full |= write_packets(number_of(queue, sch->q.head), 0, seq, WATCH_FLOW_NONE, which);
-    }
-    queue->is_broken = is_full != 0;
-}
+/* ---- queues */
 
 static __always_inline bool is_wanted(struct Qdisc *sch) {
     struct net_device *dev = sch->dev_queue->dev;
@@ -374,20 +330,31 @@ static __always_inline bool is_wanted(struct Qdisc *sch) {
 /* Gives a wanted queue a place in the map. Returns NULL if it is not wanted, or the map is full. */
 static __always_inline struct queue *add(struct Qdisc *sch, u64 key, enum watch_kind kind) {
     struct queue *queue;
+    u32 place;
     if (!is_on || !is_wanted(sch))
         return NULL;
-    queue = bpf_map_lookup_elem(&queues, &key);
-    if (queue != NULL)
+    queue = find(key);
+    if (queue != NULL) {
+        flush(queue->place);
         __sync_fetch_and_add(&lost_elsewhere, queue->lost);
-    if (bpf_map_update_elem(&queues, &key, &new_queue, BPF_ANY) != 0 || (queue = bpf_map_lookup_elem(&queues, &key)) == NULL) {
-        __sync_fetch_and_add(&queues_missed, 1);
-        return NULL;
+        queue->key = TAKEN;
+    } else {
+        place = take_place(&key);
+        if (place >= WATCH_PLACES) {
+            __sync_fetch_and_add(&queues_missed, 1);
+            return NULL;
+        }
+        queue = &queues[place];
+        queue->place = place;
     }
+    __builtin_memset((void *)queue + __builtin_offsetof(struct queue, sch), 0, __builtin_offsetof(struct queue, records) - __builtin_offsetof(struct queue, sch));
     queue->sch = (u64)sch;
     queue->number = __sync_fetch_and_add(&queues_seen, 1);
     queue->kind = kind;
+    queue->segment = segment;
     if (kind == WATCH_FQ_PIE)
         queue->flows = (u64)FQ_PIE_OF(sch)->flows;
+    __sync_lock_test_and_set(&queue->key, key);
     return queue;
 }
 
@@ -427,19 +394,14 @@ static __always_inline u64 is_not_0(u64 number) {
     return number;
 }
 
-/* Copies the values that the step drew itself, since the count was `since`, to the queue's `values`. Returns the number of these values, or DRAWS if values
- * were overwritten.
+/* Copies the values that the step of the queue at a place drew itself, since the count was `since`, to the queue's `values`. Returns the number of these
+ * values.
  *
  * An interrupt in the step draws values too, for the same task, but deeper on the stack or on another stack. All calls of the step have one distance from
- * the beginning of the step, the `least` one. No branch depends on a value: the verifier would follow each way through the loops. */
-static __always_inline u32 own_values(void *map, struct queue *queue, u32 since, u64 *least) {
-    struct drawn *drawn = drawn_here(map);
+ * the beginning of the step, the least one. No branch depends on a value: the verifier would follow each way through the loops. */
+static __always_inline u32 select_own(struct drawn *drawn, struct queue *queue, u32 since, u64 *least) {
     u64 task = bpf_get_current_task(), stack = queue->stack, distance = *least;
-    u32 own = 0, count;
-    if (drawn == NULL || (count = drawn->count - since) == 0)
-        return 0;
-    if (count > DRAWS)
-        return DRAWS;
+    u32 own = 0, count = drawn->count - since;
     if (distance == 0)
         distance = FAR;
     for (u32 i = 0; i < DRAWS; i++) {
@@ -458,11 +420,48 @@ static __always_inline u32 own_values(void *map, struct queue *queue, u32 since,
     return own;
 }
 
+__noinline u32 select_words(u32 place, u32 since) {
+    struct queue *queue = &queues[place % WATCH_PLACES];
+    struct drawn *drawn = drawn_here(&words);
+    return drawn != NULL ? select_own(drawn, queue, since, &queue->least_word) : 0;
+}
+
+__noinline u32 select_readings(u32 place, u32 since) {
+    struct queue *queue = &queues[place % WATCH_PLACES];
+    struct drawn *drawn = drawn_here(&readings);
+    return drawn != NULL ? select_own(drawn, queue, since, &queue->least_reading) : 0;
+}
+
+/* Copies the random words that the step drew itself to the queue's `values`. Returns their number, or DRAWS if words were overwritten. */
+static __always_inline u32 own_words(struct queue *queue) {
+    struct drawn *drawn = drawn_here(&words);
+    u32 since = queue->draws, count, at = since % DRAWS;
+    if (drawn == NULL || (count = drawn->count - since) == 0)
+        return 0;
+    if (count > DRAWS)
+        return DRAWS;
+    if (count == 1 && drawn->at[at].task == bpf_get_current_task() && queue->stack - drawn->at[at].stack == queue->least_word) { /* the usual case */
+        queue->values[0] = drawn->at[at].value;
+        return 1;
+    }
+    return select_words(queue->place, since);
+}
+
+/* As own_words, for readings of the clock. */
+static __always_inline u32 own_readings(struct queue *queue) {
+    struct drawn *drawn = drawn_here(&readings);
+    u32 count = drawn != NULL ? drawn->count - queue->readings : 0;
+    return count == 0 ? 0 : count > DRAWS ? DRAWS : select_readings(queue->place, queue->readings);
+}
+
+/* Returns false if pie can neither mark nor drop the packet early: there is burst allowance left, or the sum of probabilities is below 0.5. */
+static __always_inline bool may_pick(const struct pie_vars *vars) {
+    return vars->burst_time == 0 && vars->accu_prob + vars->prob >= 1ull << 55;
+}
+
 /* The network header is an input only if a picked packet may be marked. */
 static __always_inline void begin_enqueue(struct queue *queue, struct sk_buff *skb, struct Qdisc *sch, enum watch_kind kind, const void *stack) {
     struct drawn *drawn = drawn_here(&words);
-    u16 protocol = skb->protocol;
-    u32 at = skb->network_header;
     queue->qlen = sch->q.qlen;
     queue->backlog = sch->qstats.backlog;
     queue->draws = drawn != NULL ? drawn->count : 0;
@@ -470,10 +469,13 @@ static __always_inline void begin_enqueue(struct queue *queue, struct sk_buff *s
     queue->early = WATCH_EARLY_NONE;
     queue->flow = WATCH_FLOW_NONE;
     queue->network = 0;
-    if (kind == WATCH_PIE ? PIE_OF(sch)->params.ecn : FQ_PIE_OF(sch)->p_params.ecn)
-        bpf_probe_read_kernel(&queue->network, sizeof queue->network, skb->head + at);
-    queue->room = at + (protocol == __builtin_bswap16(0x86dd) ? 40 : 20) <= skb->tail;
+    queue->room = 0;
     queue->is_enqueue = true;
+    if (kind == WATCH_PIE ? PIE_OF(sch)->params.ecn && may_pick(&PIE_OF(sch)->vars) : FQ_PIE_OF(sch)->p_params.ecn) {
+        u32 at = skb->network_header;
+        bpf_probe_read_kernel(&queue->network, sizeof queue->network, skb->head + at);
+        queue->room = at + (skb->protocol == __builtin_bswap16(0x86dd) ? 40 : 20) <= skb->tail;
+    }
 }
 
 /* Returns the bits of counters that the enqueue increased, or -1 if one changed otherwise. */
@@ -490,6 +492,7 @@ static __always_inline void end_enqueue(struct queue *queue, struct sk_buff *skb
     struct qdisc_skb_cb *cb = (struct qdisc_skb_cb *)skb->cb;
     struct watch_stats stats;
     u32 overmemory = 0, memory = 0, limit = sch->limit, mtu = mtu_of(sch), bits, own;
+    bool is_timed; /* the kernel wrote the moment to the packet */
     int counts;
     if (!queue->is_enqueue) {
         __sync_fetch_and_add(&steps_missed, 1);
@@ -512,13 +515,16 @@ static __always_inline void end_enqueue(struct queue *queue, struct sk_buff *skb
             queue->overmemory = overmemory;
             counts = 0;
         }
-        if (!queue->is_broken && !write_base(queue, WATCH_BASE, 0))
-            queue->is_broken = true;
+        if (!queue->is_broken) {
+            fill_base(next_record(queue), queue, WATCH_BASE, 0);
+            hold(queue);
+        }
     }
-    own = own_values(&words, queue, queue->draws, &queue->least_word);
+    own = own_words(queue);
     if (own > 1) /* this step cannot be recorded */
         queue->is_broken = true;
-    struct watch_enqueue *record = STEP(queue, WATCH_ENQUEUE, sizeof *record, NOW);
+    is_timed = counts & WATCH_COUNT_IN && !(kind == WATCH_PIE ? PIE_OF(sch)->params.dq_rate_estimator : FQ_PIE_OF(sch)->p_params.dq_rate_estimator);
+    struct watch_enqueue *record = STEP(queue, WATCH_ENQUEUE, is_timed ? IN_RECORD : NOW);
     if (record == NULL)
         return;
     queue->stats = stats;
@@ -545,9 +551,9 @@ static __always_inline void end_enqueue(struct queue *queue, struct sk_buff *skb
     record->qlen = sch->q.qlen;
     record->backlog = sch->qstats.backlog;
     record->decided_backlog = queue->decided_backlog;
-    record->hash = skb->hash;
-    record->truesize = skb->truesize;
-    record->priority = skb->priority;
+    record->hash = kind == WATCH_FQ_PIE ? skb->hash : 0;
+    record->truesize = kind == WATCH_FQ_PIE ? skb->truesize : 0;
+    record->priority = kind == WATCH_FQ_PIE ? skb->priority : 0;
     record->memory = memory;
     record->protocol = skb->protocol;
     record->network = queue->network;
@@ -556,7 +562,7 @@ static __always_inline void end_enqueue(struct queue *queue, struct sk_buff *skb
     record->random = own != 0 ? queue->values[0] : 0;
     bits |= own << 3;
     record->head.bits = bits;
-    write(record);
+    hold(queue);
 }
 
 static __always_inline int enqueue(struct sk_buff *skb, struct Qdisc *sch, u64 key, enum watch_kind kind, const void *stack) {
@@ -567,8 +573,7 @@ static __always_inline int enqueue(struct sk_buff *skb, struct Qdisc *sch, u64 k
             return 0;
         queue->is_broken = true;
     }
-    if (queue->is_broken)
-        resume(queue, sch, key, kind);
+    resume_if_due(queue);
     begin_enqueue(queue, skb, sch, kind, stack);
     return 0;
 }
@@ -616,12 +621,6 @@ static __always_inline void read_lengths(const struct queue *queue, u32 *qlen, u
         bpf_probe_read_kernel(bytes, sizeof *bytes, (void *)(queue->sch + OFFSET(Qdisc, qstats.backlog)));
 }
 
-static __always_inline u32 memory_of(u64 params) {
-    u32 memory = 0;
-    READ(memory, params - OFFSET(fq_pie_sched_data, p_params), fq_pie_sched_data, memory_usage);
-    return memory;
-}
-
 SEC("fentry/pie_process_dequeue")
 int BPF_PROG(dequeue_begins, struct sk_buff *skb, struct pie_params *params) {
     struct queue *queue = find((u64)params);
@@ -643,8 +642,7 @@ static __always_inline void fill_dequeue(struct watch_dequeue *record, struct qu
     record->pkt_len = cb->pkt_len;
     record->decided_backlog = backlog;
     read_lengths(queue, &record->qlen, &record->backlog, backlog);
-    record->memory = is_fq_pie(queue) ? memory_of((u64)params) : 0;
-    queue->memory = record->memory;
+    record->memory = queue->memory -= is_fq_pie(queue) ? ((struct pie_skb_cb *)cb->data)->mem_usage : 0;
     record->enqueued = ((struct pie_skb_cb *)cb->data)->enqueue_time;
 }
 
@@ -655,16 +653,16 @@ int BPF_PROG(dequeue_ends, struct sk_buff *skb, struct pie_params *params, struc
     if (queue == NULL)
         return 0;
     if (!params->dq_rate_estimator) {
-        record = STEP(queue, WATCH_DEQUEUE, __builtin_offsetof(struct watch_dequeue, at), IN_RECORD);
+        record = STEP(queue, WATCH_DEQUEUE, IN_RECORD);
         if (record == NULL)
             return 0;
         fill_dequeue(record, queue, skb, params, vars, backlog);
     } else {
-        u32 own = has_clock && queue->is_dequeue ? own_values(&readings, queue, queue->readings, &queue->least_reading) : 0;
+        u32 own = has_clock && queue->is_dequeue ? own_readings(queue) : 0;
         if (own == 0 || own > 3) /* this step cannot be recorded */
             queue->is_broken = true;
         queue->is_dequeue = false;
-        record = STEP(queue, WATCH_DEQUEUE, sizeof *record, NOW);
+        record = STEP(queue, WATCH_DEQUEUE, NOW);
         if (record == NULL)
             return 0;
         fill_dequeue(record, queue, skb, params, vars, backlog);
@@ -673,7 +671,7 @@ int BPF_PROG(dequeue_ends, struct sk_buff *skb, struct pie_params *params, struc
         record->at[2] = own > 2 ? queue->values[2] : 0;
         record->head.bits = WATCH_HAS_CLOCK | own;
     }
-    write(record);
+    hold(queue);
     return 0;
 }
 
@@ -707,15 +705,19 @@ int BPF_PROG(calculation_ends, struct pie_params *params, struct pie_vars *vars,
     copy_vars(&after, vars);
     if (is_fq_pie(queue) && is_same(&after, &queue->vars))
         return 0;
-    record = STEP(queue, WATCH_CALC, sizeof *record, NOW);
-    if (record == NULL)
-        return 0;
-    record->head.flow = flow_of(queue, vars);
-    record->vars = after;
-    record->decided_backlog = backlog;
-    record->spare = 0;
-    read_lengths(queue, &record->qlen, &record->backlog, backlog);
-    write(record);
+    record = STEP(queue, WATCH_CALC, NOW);
+    if (record != NULL) {
+        record->head.flow = flow_of(queue, vars);
+        record->vars = after;
+        record->decided_backlog = backlog;
+        record->spare = 0;
+        read_lengths(queue, &record->qlen, &record->backlog, backlog);
+        hold(queue);
+    }
+    if (!is_fq_pie(queue)) {
+        flush(queue->place);
+        resume_if_due(queue);
+    }
     return 0;
 }
 
@@ -731,7 +733,7 @@ static __always_inline int begin_change(u64 key) {
 static __always_inline int make_change(struct Qdisc *sch, u64 key, enum watch_kind kind, u32 packets, u32 bytes) {
     struct queue *queue = find(key);
     if (queue != NULL && queue->kind == kind && queue->sch == (u64)sch && queue->changing == bpf_get_current_task())
-        write_whole(queue, sch, kind, WATCH_CHANGE, packets, bytes);
+        write_whole(queue->place, WATCH_CHANGE, packets, bytes);
     return 0;
 }
 
@@ -746,27 +748,29 @@ static __always_inline int end_init(struct Qdisc *sch, u64 key, enum watch_kind 
     struct queue *queue = ret == 0 ? add(sch, key, kind) : NULL;
     if (queue == NULL)
         return 0;
-    queue->is_named = write_name(queue, sch, key);
+    queue->is_named = write_name(queue);
     queue->is_broken = !queue->is_named;
-    write_whole(queue, sch, kind, WATCH_INIT, 0, 0);
+    write_whole(queue->place, WATCH_INIT, 0, 0);
     return 0;
 }
 
-static __always_inline int end_reset(struct Qdisc *sch, u64 key, enum watch_kind kind) {
+static __always_inline int end_reset(u64 key) {
     struct queue *queue = find(key);
     if (queue != NULL)
-        write_whole(queue, sch, kind, WATCH_RESET, 0, 0);
+        write_whole(queue->place, WATCH_RESET, 0, 0);
     return 0;
 }
 
-static __always_inline int end_destroy(struct Qdisc *sch, u64 key, enum watch_kind kind) {
+static __always_inline int end_destroy(u64 key) {
     struct queue *queue = find(key);
     if (queue == NULL)
         return 0;
-    write_whole(queue, sch, kind, WATCH_DESTROY, 0, 0);
+    write_whole(queue->place, WATCH_DESTROY, 0, 0);
     queue->is_gone = queue->lost != 0;
-    if (!queue->is_gone)
-        bpf_map_delete_elem(&queues, &key);
+    if (!queue->is_gone) {
+        __sync_lock_test_and_set(&queue->key, FREED);
+        __sync_fetch_and_add(&queues_now, -1);
+    }
     return 0;
 }
 
@@ -793,12 +797,12 @@ int BPF_PROG(pie_init_ends, struct Qdisc *sch, void *options, void *answer, int 
 
 SEC("fexit/pie_reset")
 int BPF_PROG(pie_reset_ends, struct Qdisc *sch) {
-    return end_reset(sch, PIE_KEY(sch), WATCH_PIE);
+    return end_reset(PIE_KEY(sch));
 }
 
 SEC("fexit/pie_destroy")
 int BPF_PROG(pie_destroy_ends, struct Qdisc *sch) {
-    return end_destroy(sch, PIE_KEY(sch), WATCH_PIE);
+    return end_destroy(PIE_KEY(sch));
 }
 
 /* ---- fq_pie */
@@ -844,10 +848,12 @@ int BPF_PROG(calculation_begins, struct pie_params *params, struct pie_vars *var
         return 0;
     if (queue->is_round) {
         queue->is_round = false;
-        struct watch_head *record = STEP(queue, WATCH_TIMER, sizeof *record, NOW);
+        resume_if_due(queue);
+        struct watch_head *record = STEP(queue, WATCH_TIMER, NOW);
         if (record != NULL) {
             record->flow = flow_of(queue, vars);
-            write(record);
+            hold(queue);
+            flush(queue->place);
         }
     }
     copy_vars(&queue->vars, vars);
@@ -876,11 +882,11 @@ int BPF_PROG(fq_pie_init_ends, struct Qdisc *sch, void *options, void *answer, i
 
 SEC("fexit/fq_pie_reset")
 int BPF_PROG(fq_pie_reset_ends, struct Qdisc *sch) {
-    return end_reset(sch, FQ_PIE_KEY(sch), WATCH_FQ_PIE);
+    return end_reset(FQ_PIE_KEY(sch));
 }
 
 /* fq_pie_destroy releases its flows, which the record of fq_pie does not read. */
 SEC("fexit/fq_pie_destroy")
 int BPF_PROG(fq_pie_destroy_ends, struct Qdisc *sch) {
-    return end_destroy(sch, FQ_PIE_KEY(sch), WATCH_FQ_PIE);
+    return end_destroy(FQ_PIE_KEY(sch));
 }

@@ -1,10 +1,9 @@
 /* pie-watch: records each step of the kernel's own queue disciplines pie and fq_pie, by BPF programs (pie_watch.bpf.c). README.md describes it, and
  * `pie-watch --help` has the options. */
 #define _GNU_SOURCE
-#include "../../examples/shared/output.h"
 #include "watch_check.h"
+#include "watch_output.h"
 #include "watch_queue.h"
-#include "watch_text.h"
 
 #include "pie_watch.skel.h"
 #include "pie.h"
@@ -22,6 +21,8 @@
 
 #define PROGRAM "pie-watch"
 #define MOST_RING 2048 /* MiB */
+#define LEAST_SEGMENT 65536 /* bytes */
+#define MOST_SEGMENT (1ull << 50)
 #define VERIFIER_COUNTS 4 /* log level: the verifier prints the instructions that it processed */
 
 static const char usage[] =
@@ -41,6 +42,8 @@ static const char usage[] =
     "  -e, --rate-estimator\n"
     "                      Read the clock from the beginning, as queues with dq_rate_estimator need it. Otherwise their first steps are lost\n"
     "  -c, --compact       Write compact steps, of which `pie-watch text` makes text\n"
+    "      --rotate SIZE   Write in segments of this size (64mb), FILE.1, FILE.2 and so on; each can be read alone\n"
+    "      --segments N    Keep N segments, and remove older ones. Default: all\n"
     "  -r, --ring MIB      Size of the ring buffer, a power of two. A larger one loses no steps when this program has to wait. Default: 32\n"
     "      --anyway        Record on a kernel that is not known\n"
     "      --force         Replace an existing file\n"
@@ -56,6 +59,7 @@ static const char usage[] =
 struct options {
     const char *device, *output, *steps;
     unsigned ifindex, handle, ring, part;
+    u64 rotate, segments; /* bytes of a segment, and the number of last ones that are kept; 0: one file, and all */
     bool is_all, is_compact, is_anyway, is_forced, is_verbose, is_text, has_clock;
 };
 
@@ -65,9 +69,7 @@ struct recording {
     struct pie_watch_bpf *bpf;
     struct bpf_link *links[MOST_PROGRAMS];
     size_t links_count;
-    struct output output;
-    struct watch_text text;
-    FILE *nowhere;
+    struct watch_output output;
     bool needs_clock; /* a queue has the rate estimator */
     const char *fault;
 };
@@ -92,44 +94,51 @@ static void fail_file(const char *name) {
 
 /* ---- records */
 
-/* Writes a record to the output. The text, or its counters, are updated in any case. */
-static int take(void *user, void *record, size_t bytes) {
-    struct recording *recording = user;
-    const struct watch_head *head = record;
-    if (recording->fault != NULL)
-        return 0;
-    if (bytes < sizeof *head || watch_bytes(head) != bytes || !watch_text_add(&recording->text, record))
+/* Writes a record to the output. */
+static void take_record(struct recording *recording, const struct watch_head *head, size_t bytes) {
+    size_t size = bytes >= sizeof *head ? watch_bytes(head) : 0;
+    if (size == 0 || size > bytes || !watch_output_add(&recording->output, head)) {
         recording->fault = "the recorder wrote a record that is not possible; please report this";
-    else if (recording->options->is_compact)
-        fwrite(record, 1, bytes, recording->output.file);
+        return;
+    }
     if ((head->type == WATCH_INIT || head->type == WATCH_RESUME || head->type == WATCH_CHANGE) && head->bits & WATCH_DQ_RATE)
         recording->needs_clock = true;
-    if (head->type == WATCH_QUEUE && recording->fault == NULL)
-        fprintf(stderr, PROGRAM ": %s: %s\n", watch_text_name(&recording->text, head->queue),
-                ((const struct watch_queue *)record)->kind == WATCH_PIE ? "pie" : "fq_pie");
-    return 0;
+    if (head->type == WATCH_QUEUE)
+        fprintf(stderr, PROGRAM ": %s: %s\n", watch_text_name(&recording->output.text, head->queue),
+                ((const struct watch_queue *)head)->kind == WATCH_PIE ? "pie" : "fq_pie");
 }
 
-static const char compact_magic[16] = "pie-watch steps1";
+/* Writes the records of an item of the ring. Each queue is resumed if a segment of the output begins then. */
+static int take(void *user, void *records, size_t bytes) {
+    struct recording *recording = user;
+    int turned;
+    for (size_t at = 0; at < bytes && recording->fault == NULL; at += WATCH_MOST)
+        take_record(recording, (const struct watch_head *)((const char *)records + at), bytes - at < WATCH_MOST ? bytes - at : WATCH_MOST);
+    turned = watch_output_turn(&recording->output);
+    if (turned < 0)
+        fail_file(recording->options->output);
+    recording->bpf->bss->segment += turned;
+    return 0;
+}
 
 /* Reads a compact file, and writes its text. */
 static int write_text(const struct options *options) {
     struct output output;
-    struct watch_text text;
+    struct watch_text text = {0};
     union {
         struct watch_head head;
         unsigned char bytes[WATCH_MOST];
     } record;
-    char magic[sizeof compact_magic];
+    char magic[sizeof WATCH_MAGIC - 1];
     const char *fault = NULL;
     FILE *steps = strcmp(options->steps, "-") == 0 ? stdin : fopen(options->steps, "rb");
     if (steps == NULL)
         fail_file(options->steps);
-    if (fread(magic, 1, sizeof magic, steps) != sizeof magic || memcmp(magic, compact_magic, sizeof magic) != 0)
+    if (fread(magic, 1, sizeof magic, steps) != sizeof magic || memcmp(magic, WATCH_MAGIC, sizeof magic) != 0)
         fail("this is no file of `pie-watch --compact`: ", options->steps);
     if (!open_output(&output, options->output != NULL ? options->output : "-", OUTPUT_WHOLE, options->is_forced))
         fail_file(options->output);
-    watch_text_begin(&text, output.file);
+    watch_text_head(&text, output.file);
     while (fault == NULL && fread(&record.head, sizeof record.head, 1, steps) == 1) {
         size_t rest = watch_bytes(&record.head) - sizeof record.head;
         if (watch_bytes(&record.head) == 0)
@@ -235,17 +244,16 @@ static void detach(struct recording *recording) {
         bpf_link__destroy(recording->links[--recording->links_count]);
 }
 
-/* Writes the number of steps that were lost at the end. */
-static void write_last_losses(struct recording *recording) {
-    int queues = bpf_map__fd(recording->bpf->maps.queues);
-    size_t bytes = bpf_map__value_size(recording->bpf->maps.queues);
-    unsigned char *value = malloc(bytes);
-    u64 key, *before = NULL;
+/* Writes the records that the queues hold, and the number of steps that were lost at the end. */
+static void write_last_records(struct recording *recording) {
     struct watch_base lost;
-    while (value != NULL && bpf_map_get_next_key(queues, before, &key) == 0) {
-        const struct queue *queue = (const struct queue *)value;
-        before = &key;
-        if (bpf_map_lookup_elem(queues, &key, value) != 0 || queue->lost == 0)
+    for (size_t i = 0; i < WATCH_PLACES; i++) {
+        struct queue *queue = &recording->bpf->bss->queues[i];
+        if (queue->key <= TAKEN)
+            continue;
+        if (queue->held <= WATCH_HELD)
+            take(recording, queue->records, queue->held * WATCH_MOST);
+        if (queue->lost == 0)
             continue;
         memset(&lost, 0, sizeof lost);
         lost.head.type = WATCH_LOST;
@@ -253,24 +261,44 @@ static void write_last_losses(struct recording *recording) {
         lost.head.seq = queue->seq;
         lost.lost = queue->lost;
         if (queue->is_named)
-            take(recording, &lost, sizeof lost);
+            take_record(recording, &lost.head, sizeof lost);
         else
-            recording->text.lost += queue->lost;
+            recording->output.text.lost += queue->lost;
     }
-    free(value);
+}
+
+/* Prints the numbers of the recording. Returns the status. */
+static int report(const struct recording *recording) {
+    const struct watch_text *text = &recording->output.text;
+    u64 missing = text->missing + recording->bpf->bss->steps_missed, lost = text->lost + recording->bpf->bss->lost_elsewhere + missing;
+    unsigned queues = recording->bpf->bss->queues_seen, queues_missed = recording->bpf->bss->queues_missed;
+    fprintf(stderr, PROGRAM ": %u queue%s, %llu steps, %llu lost\n", queues, queues == 1 ? "" : "s", (unsigned long long)text->steps,
+            (unsigned long long)lost);
+    if (missing != 0)
+        fprintf(stderr, PROGRAM ": %llu steps are missing without a row; please report this\n", (unsigned long long)missing);
+    if (queues_missed != 0)
+        fprintf(stderr, PROGRAM ": queues beyond the first 1024 were not recorded\n");
+    return lost != 0 || queues_missed != 0 ? 2 : 0;
+}
+
+/* Reads records from the ring until a signal comes or an error occurs. */
+static void read_ring_buffer(struct recording *recording, struct ring_buffer *ring) {
+    while (!is_ended && recording->fault == NULL && !watch_output_failed(&recording->output)) {
+        int count = ring_buffer__consume(ring);
+        if (recording->needs_clock)
+            attach_clock(recording);
+        if (count == 0)
+            nanosleep(&(struct timespec){.tv_nsec = 2000000}, NULL);
+    }
 }
 
 static int record(const struct options *options, const struct watch_checked *checked) {
     struct recording recording = {.options = options};
     struct ring_buffer *ring;
     load(&recording, checked);
-    if (!open_output(&recording.output, options->output != NULL ? options->output : "-", OUTPUT_WHOLE, options->is_forced))
+    if (!watch_output_open(&recording.output, options->output != NULL ? options->output : "-", options->rotate, options->segments, options->is_compact,
+                           options->is_forced))
         fail_file(options->output);
-    if (options->is_compact) {
-        fwrite(compact_magic, 1, sizeof compact_magic, recording.output.file);
-        recording.nowhere = fopen("/dev/null", "w");
-    }
-    watch_text_begin(&recording.text, options->is_compact ? recording.nowhere : recording.output.file);
     ring = ring_buffer__new(bpf_map__fd(recording.bpf->maps.ring), take, &recording, NULL);
     if (ring == NULL)
         fail("the ring buffer cannot be mapped: ", strerror(errno));
@@ -280,30 +308,16 @@ static int record(const struct options *options, const struct watch_checked *che
     signal(SIGPIPE, SIG_IGN);
     recording.bpf->bss->is_on = true;
     fprintf(stderr, PROGRAM ": recording %s\n", options->is_all ? "all devices" : options->device);
-    while (!is_ended && recording.fault == NULL && !ferror(recording.output.file)) {
-        int count = ring_buffer__consume(ring);
-        if (recording.needs_clock)
-            attach_clock(&recording);
-        if (count == 0)
-            nanosleep(&(struct timespec){.tv_nsec = 2000000}, NULL);
-    }
+    read_ring_buffer(&recording, ring);
     recording.bpf->bss->is_on = false;
     detach(&recording);
     ring_buffer__consume(ring);
-    write_last_losses(&recording);
-    u64 steps = recording.text.steps, missing = recording.text.missing + recording.bpf->bss->steps_missed,
-        lost = recording.text.lost + recording.bpf->bss->lost_elsewhere + missing;
-    unsigned queues = recording.bpf->bss->queues_seen, queues_missed = recording.bpf->bss->queues_missed;
+    write_last_records(&recording);
     if (recording.fault != NULL)
         fail(recording.fault, "");
-    if (!close_output(&recording.output))
+    if (!watch_output_close(&recording.output))
         fail("the output is not complete: ", strerror(errno));
-    fprintf(stderr, PROGRAM ": %u queue%s, %llu steps, %llu lost\n", queues, queues == 1 ? "" : "s", (unsigned long long)steps, (unsigned long long)lost);
-    if (missing != 0)
-        fprintf(stderr, PROGRAM ": %llu steps are missing without a row; please report this\n", (unsigned long long)missing);
-    if (queues_missed != 0)
-        fprintf(stderr, PROGRAM ": queues beyond the first 1024 were not recorded\n");
-    return lost != 0 || queues_missed != 0 ? 2 : 0;
+    return report(&recording);
 }
 
 /* ---- options */
@@ -333,6 +347,27 @@ static unsigned read_ring(const char *text) {
     return (unsigned)mib;
 }
 
+/* Reads a size as tc writes it, such as 64mb. */
+static u64 read_size(const char *text) {
+    static const char units[] = "kmg";
+    char *rest;
+    unsigned long long size = strtoull(text, &rest, 10);
+    const char *unit = *rest != '\0' ? strchr(units, *rest) : NULL;
+    int shift = unit != NULL ? 10 * (int)(unit - units + 1) : 0;
+    bool is_size = strcmp(rest + (unit != NULL), "b") == 0 && *text >= '0' && *text <= '9' && size <= MOST_SEGMENT >> shift;
+    if (!is_size || size << shift < LEAST_SEGMENT)
+        fail("--rotate is a size of at least 64kb, such as 64mb: ", text);
+    return size << shift;
+}
+
+static u64 read_segments(const char *text) {
+    char *rest;
+    unsigned long segments = strtoul(text, &rest, 10);
+    if (rest == text || *rest != '\0' || *text == '-' || segments == 0)
+        fail("--segments is a number from 1 on: ", text);
+    return segments;
+}
+
 static void read_options(struct options *options, int count, char **words) {
     static const struct option names[] = {{"queue", required_argument, NULL, 'q'},
                                           {"all", no_argument, NULL, 'a'},
@@ -340,6 +375,8 @@ static void read_options(struct options *options, int count, char **words) {
                                           {"output", required_argument, NULL, 'o'},
                                           {"compact", no_argument, NULL, 'c'},
                                           {"rate-estimator", no_argument, NULL, 'e'},
+                                          {"rotate", required_argument, NULL, 't'},
+                                          {"segments", required_argument, NULL, 's'},
                                           {"ring", required_argument, NULL, 'r'},
                                           {"anyway", no_argument, NULL, 'w'},
                                           {"force", no_argument, NULL, 'f'},
@@ -374,6 +411,12 @@ static void read_options(struct options *options, int count, char **words) {
         case 'e':
             options->has_clock = true;
             break;
+        case 't':
+            options->rotate = read_size(optarg);
+            break;
+        case 's':
+            options->segments = read_segments(optarg);
+            break;
         case 'r':
             options->ring = read_ring(optarg);
             break;
@@ -404,13 +447,30 @@ static void read_options(struct options *options, int count, char **words) {
         options->device = words[optind];
 }
 
+/* Checks the names of all files before any is opened. */
+static bool are_files_usable(const struct options *options) {
+    char name[PATH_MAX];
+    if (options->segments != 0 && options->rotate == 0)
+        fail("--segments needs --rotate", "");
+    if (options->rotate == 0)
+        return check_files(PROGRAM, (struct file_name[]){{options->steps, FILE_READ}, {options->output, FILE_WRITTEN}}, 2, options->is_forced);
+    if (options->output == NULL || strcmp(options->output, "-") == 0 || options->is_text)
+        fail("--rotate needs -o FILE, for a recording", "");
+    if (strlen(options->output) + 32 > sizeof name)
+        fail("the name is too long: ", options->output);
+    if (!options->is_forced && segments_there(options->output, name))
+        fail(name, ": the file exists; --force replaces it");
+    snprintf(name, sizeof name, "%s.1", options->output);
+    return check_files(PROGRAM, &(struct file_name){name, FILE_WRITTEN}, 1, options->is_forced);
+}
+
 int main(int count, char **words) {
     struct options options;
     struct watch_checked checked;
     read_options(&options, count, words);
     if (options.is_text ? options.steps == NULL : (options.device != NULL) == options.is_all)
         fail(options.is_text ? "a file of steps is missing; --help" : "a device, or --all, is missing; --help", "");
-    if (!check_files(PROGRAM, (struct file_name[]){{options.steps, FILE_READ}, {options.output, FILE_WRITTEN}}, 2, options.is_forced))
+    if (!are_files_usable(&options))
         return 1;
     if (options.is_text)
         return write_text(&options);

@@ -31,6 +31,7 @@ class Queue:
         self.counters = self.last = self.gap = None
         self.kind = ""
         self.waiting = 0  # packets of the last row `resume` without a row `wait`
+        self.after = 0  # enqueues after the last lost step
 
     def add(self, row):
         kind, self.kind = row["type"], row["kind"]
@@ -46,6 +47,7 @@ class Queue:
         self.next = int(row["seq"]) + 1
         if kind == "enq":
             self.rows["queued" if row["ret"] == "0" else "refused"] += 1
+            self.after += 1
         if kind == "deq":
             self.bytes += int(row["pktlen"])
         if self.gap is not None:
@@ -58,6 +60,7 @@ class Queue:
         self.lost += number
         self.next += number
         self.gap = number
+        self.after = 0
 
     def compare_gap(self, row):
         """Compares the number of lost steps with the row after them, if a row before them was recorded."""
@@ -114,6 +117,8 @@ def main():
                 compared += 1
             if (queue.lost != 0) != (path.stem == "small"):
                 queue.faults.append("no lost steps" if queue.lost == 0 else "lost steps")
+            if queue.lost != 0 and queue.after == 0:
+                queue.faults.append("no enqueue after the lost steps")
             if path.stem == "running" and queue.rows["wait"] == 0:
                 queue.faults.append("no packet waits")
             failed |= bool(queue.faults)

@@ -16,7 +16,7 @@
 #define WATCH_BTF "/sys/kernel/btf"
 #endif
 #define LOCKDOWN "/sys/kernel/security/lockdown"
-#define TESTED "6.1 of Debian 12"
+#define TESTED "Linux 6.1 and 6.12 of Debian 12"
 #define MOST_CODE 8192    /* bytes of a function */
 #define LAST_CODE 512     /* bytes of the last function of a module */
 #define MOST_SYMBOLS 1024 /* with `pie` in their names */
@@ -138,12 +138,12 @@ static void check_fields(struct findings *findings, const struct btf *btf, const
         const struct field *field = &fields[i];
         int type = btf__find_by_name_kind(btf, field->type, BTF_KIND_STRUCT), bytes, offset;
         if (type < 0 || !find_field(btf, type, field->name, &bytes, &offset))
-            report(findings, true, "this kernel's struct %s has no field %s; the tested kernel is " TESTED, field->type, field->name);
+            report(findings, true, "this kernel's struct %s has no field %s; tested: " TESTED, field->type, field->name);
         else if (bytes != field->bytes)
-            report(findings, false, "%s.%s has %d bytes in this kernel, and %d in the tested one (" TESTED ")", field->type, field->name, bytes,
+            report(findings, false, "%s.%s has %d bytes in this kernel, and %d in the tested ones (" TESTED ")", field->type, field->name, bytes,
                    field->bytes);
         else if (field->offset >= 0 && offset != field->offset)
-            report(findings, false, "%s.%s is at byte %d in this kernel, and at byte %d in the tested one (" TESTED ")", field->type, field->name,
+            report(findings, false, "%s.%s is at byte %d in this kernel, and at byte %d in the tested ones (" TESTED ")", field->type, field->name,
                    offset, field->offset);
     }
 }
@@ -176,7 +176,7 @@ static bool is_loaded(const char *module) {
 static void check_types(struct findings *findings, struct watch_checked *checked) {
     struct btf *kernel;
     if (access(WATCH_BTF "/vmlinux", F_OK) != 0) {
-        report(findings, true, "no " WATCH_BTF "/vmlinux: this kernel was built without CONFIG_DEBUG_INFO_BTF, or /sys is not mounted; the tested kernel is " TESTED);
+        report(findings, true, "no " WATCH_BTF "/vmlinux: this kernel was built without CONFIG_DEBUG_INFO_BTF, or /sys is not mounted; tested: " TESTED);
         return;
     }
     kernel = btf__load_vmlinux_btf();
@@ -342,6 +342,15 @@ static void check_calls(struct findings *findings, const struct watch_checked *c
 #endif
 }
 
+/* Returns true if an earlier hook has the same function. */
+static bool is_repeated(size_t number) {
+    for (size_t i = 0; i < number; i++) {
+        if (strcmp(hooks[i].name, hooks[number].name) == 0)
+            return true;
+    }
+    return false;
+}
+
 static void check_functions(struct findings *findings, const struct watch_checked *checked) {
     bool is_any = false;
     read_symbols();
@@ -350,8 +359,10 @@ static void check_functions(struct findings *findings, const struct watch_checke
         is_any |= hook->at != 0;
         if (!checked->has_fq_pie && strcmp(hook->module, "sch_fq_pie") == 0)
             continue;
+        if (!hook->is_there && is_repeated(i))
+            continue;
         if (!hook->is_there)
-            report(findings, true, "this kernel has no function %s, or the compiler inlined it (/proc/kallsyms); the tested kernel is " TESTED, hook->name);
+            report(findings, true, "this kernel has no function %s, or the compiler inlined it (/proc/kallsyms); tested: " TESTED, hook->name);
         else if (hook->is_variant)
             report(findings, false, "the compiler made a second function of %s in this kernel, whose calls are not seen", hook->name);
     }
@@ -374,8 +385,8 @@ bool watch_check(struct watch_checked *checked, bool is_anyway) {
         report(&findings, true, "the module sch_pie is not loaded, so there is no queue to record; `modprobe sch_pie` loads it, or `tc qdisc add .. pie`");
         return false;
     }
-    if (uname(&kernel) != 0 || sscanf(kernel.release, "%u.%u", &major, &minor) != 2 || major != 6 || minor != 1)
-        report(&findings, false, "Linux %s was not tested; the tested kernel is " TESTED, kernel.release);
+    if (uname(&kernel) != 0 || sscanf(kernel.release, "%u.%u", &major, &minor) != 2 || major != 6 || (minor != 1 && minor != 12))
+        report(&findings, false, "Linux %s was not tested; tested: " TESTED, kernel.release);
     check_types(&findings, checked);
     if (!findings.is_impossible)
         check_functions(&findings, checked);

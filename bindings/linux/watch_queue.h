@@ -1,4 +1,4 @@
-/* The place of a queue in the map `queues` of pie_watch.bpf.c: what was recorded of the queue, and the scratch memory of its step. */
+/* The place of a queue in the table of pie_watch.bpf.c: what was recorded of the queue, and the scratch memory of its step. */
 #ifndef WATCH_QUEUE_H
 #define WATCH_QUEUE_H
 
@@ -10,11 +10,20 @@
 
 #define DRAWS 16 /* random words, or readings of the clock, that are kept for each processor */
 
+#define WATCH_HELD 8      /* records that a queue holds at most, a power of two */
+#define WATCH_PLACES 2048 /* of the table, a power of two */
+
+/* Values of a key that is no address. */
+enum { NO_QUEUE, FREED, TAKEN };
+
 struct queue {
+    u64 key; /* the address of the queue's parameters */
+    u32 place, segment; /* its place in the table; the segment of the output in which it was resumed */
     u64 sch, flows;
     u64 pointer;  /* scratch memory for a pointer that becomes a number */
     u64 changing; /* the task that changes the parameters, or 0 */
     u32 seq, lost;
+    u32 held, steps; /* the records in `records`, and how many of them are steps */
     u16 number;
     u8 kind;
     bool is_named;  /* WATCH_QUEUE was written */
@@ -33,6 +42,9 @@ struct queue {
     u64 least_word, least_reading; /* the distance on the stack of its calls from there; 0 before the first one */
     u64 values[DRAWS], distances[DRAWS]; /* of these calls */
     struct watch_vars vars; /* fq_pie's flow before a calculation */
+    struct {
+        u64 words[WATCH_MOST / sizeof(u64)];
+    } records[WATCH_HELD]; /* that are not yet written to the ring */
 };
 
 #endif

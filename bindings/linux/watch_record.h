@@ -1,4 +1,5 @@
 /* The records that pie_watch.bpf.c writes to the ring buffer and that pie-watch reads from it, or from a compact copy. A record has at most 152 bytes.
+ * An item of the ring has one record, or several ones of which each takes 152 bytes.
  * Times of the controller are in ticks of 64 ns, probabilities in units of 2^-56, as in the kernel's struct pie_vars.
  *
  * Every step of a queue has a number, from 0 without a gap. A record has the values after its step; the values before it are those of the record before. */
@@ -37,7 +38,7 @@ enum watch_type {
 
 /* The bits of watch_head. */
 enum {
-    WATCH_ROOM = 1,      /* enqueue: the network header lies in the packet's first part */
+    WATCH_ROOM = 1,      /* enqueue: the packet may be marked, and its network header lies in its first part */
     WATCH_EARLY = 6,     /* enqueue: two bits, the return value of pie_drop_early or WATCH_EARLY_NONE */
     WATCH_RANDOM = 24,   /* enqueue: two bits, the number of random words that were drawn */
     WATCH_READINGS = 7,  /* dequeue: three bits, the number of readings of the clock */
@@ -58,7 +59,7 @@ enum {
 };
 
 struct watch_head {
-    u64 ns; /* CLOCK_MONOTONIC when the record was written; 0: `vars.dq_tstamp` of a dequeue, in ticks, has the moment */
+    u64 ns; /* CLOCK_MONOTONIC when the record was written; 0: `enqueued` of an enqueue or `vars.dq_tstamp` of a dequeue, in ticks, has the moment */
     u32 seq;
     u32 flow; /* WATCH_FLOW_NONE for pie */
     u16 queue;
@@ -134,7 +135,7 @@ struct watch_enqueue {
     u32 decided_backlog; /* the argument of pie_drop_early */
     u32 hash, truesize, priority;
     u32 memory;
-    u16 protocol, network; /* the first two bytes of the network header, 0 if `ecn` is off; both in network byte order */
+    u16 protocol, network; /* the first two bytes of the network header, 0 if the packet cannot be marked; both in network byte order */
     u64 enqueued;
     u64 random;
 };

@@ -116,6 +116,7 @@ static void write_row(struct watch_text *text, const struct text_queue *queue, c
     to = put_numbers(to, (u32[]){row->stats.packets_in, row->stats.dropped, row->stats.overlimit, row->stats.ecn_mark, row->stats.maxq}, 5);
     to[-1] = '\n';
     fwrite(line, 1, (size_t)(to - line), text->out);
+    text->bytes += (u64)(to - line);
 }
 
 /* ---- records */
@@ -259,6 +260,7 @@ static bool add_enqueue(struct watch_text *text, struct text_queue *queue, const
     row.draws = (head->bits & WATCH_RANDOM) >> 3;
     row.random = record->random;
     row.enqueued = record->enqueued;
+    row.ns = record->enqueued << 6; /* if the head has none */
     row.hash = record->hash;
     row.priority = record->priority;
     row.truesize = record->truesize;
@@ -394,8 +396,8 @@ bool watch_text_add(struct watch_text *text, const void *record) {
     return watch_bytes(head) == sizeof(struct watch_whole) && add_whole(text, queue, record);
 }
 
-void watch_text_begin(struct watch_text *text, FILE *out) {
-    *text = (struct watch_text){.out = out};
+void watch_text_head(struct watch_text *text, FILE *out) {
+    text->out = out;
     fputs(columns, out);
 }
 

@@ -9,7 +9,8 @@
 #include <stdio.h>
 
 struct watch_text {
-    FILE *out;
+    FILE *out; /* of the next rows */
+    u64 bytes; /* of rows */
     struct text_queue *queues; /* by their numbers */
     size_t count;
     u64 steps, lost;
@@ -19,8 +20,8 @@ struct watch_text {
 /* Returns the size of a record by its head, or 0 if there is no such record. */
 size_t watch_bytes(const struct watch_head *head);
 
-/* Begins a text in `out`. */
-void watch_text_begin(struct watch_text *text, FILE *out);
+/* Begins a text in `out`: writes the names of the columns. A struct watch_text of zeros has no queues and steps. */
+void watch_text_head(struct watch_text *text, FILE *out);
 
 /* Writes the rows of a record. Returns false if the record contradicts the records before it, or memory is exhausted. */
 bool watch_text_add(struct watch_text *text, const void *record);

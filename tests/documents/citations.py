@@ -41,7 +41,8 @@ OTHERS = {
     "pie_change", "INET_ECN_set_ce",
     "sch_pie", "sch_fq_pie", "pie_init", "pie_stats", "pie_vars", "fq_pie_change", "fq_pie_hash", "fq_pie_init", "fq_pie_qdisc_enqueue", "fq_pie_reset",
     "fq_pie_timer", "ecn_prob", "ktime_get", "psched_get_time", "psched_mtu", "qdisc_qlen", "skb", "len", "PIE_SCALE", "MAX_PROB", "QUEUE_THRESHOLD",
-    "DTIME_INVALID", "DQCOUNT_INVALID",
+    "DTIME_INVALID", "DQCOUNT_INVALID", "qdisc_pkt_len", "watch", "a_dq_tstamp",  # also pie-watch and its columns
+    "u00",  # JSON
     "rte_pie",  # DPDK
 }
 COMMENT = re.compile(r"^\s*(?:(///|//!|//|--) ?)(.*)$")

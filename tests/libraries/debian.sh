@@ -59,6 +59,7 @@ root/usr/bin/pie audit < "$repository/bindings/c/example.history" | grep '^clean
 root/usr/bin/pie-tap --help > tap
 [ "$(root/usr/bin/pie-watch --version)" = "pie-watch $version" ] || fail "pie-watch has another version than $version"
 ! root/usr/bin/pie-watch no_such_device 2> refused || fail "pie-watch records a device that does not exist"
+root/usr/bin/pie-watch-check < "$repository/crates/pie_linux_steps/stdin" | cmp - "$repository/crates/pie_linux_steps/stdout" || fail "pie-watch-check does not decide recorded steps"
 dpkg-deb --field juniperbowls-watch_*.deb Depends | grep -q libbpf1 || fail "juniperbowls-watch does not depend on libbpf"
 cc -o example "$repository/bindings/c/example.c" -Iroot/usr/include "$library/libpie.so"
 ./example | cmp - "$repository/bindings/c/example.history" || fail "the example in C has another history"

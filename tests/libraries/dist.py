@@ -55,7 +55,8 @@ OUTSIDE = {"memcpy", "memmove", "memset", "memcmp", "bcmp", "__divti3", "__udivt
            "__multi3", "__ashlti3", "__lshrti3", "abort"}
 
 # the files of each folder of dist/: links and the program need 64-bit words
-WHOLE = {"pie_c", "pie_link_c", "pie"}
+PROGRAMS = {"pie", "pie_linux_steps"}
+WHOLE = {"pie_c", "pie_link_c", *PROGRAMS}
 PARTS = {"x86_64": WHOLE, "aarch64": WHOLE, "riscv64": WHOLE, "armv7": {"pie_c"}, "mipsel": {"pie_c"}}
 
 # functions that call themselves, and the greatest depth: a row of 512 bytes has room for 24 numbers (crates/pie_text/src/words.rt), and one of 1280 bytes
@@ -196,31 +197,31 @@ def differs(target, name, text, work):
     if target != "x86_64":
         module, made = out / f"{name}.bc", Path(f"{work}/{target}-{name}.S")
         if not module.exists():
-            if name != "pie":
+            if name not in PROGRAMS:
                 print(f"NOT RUN: {NAME}: {module.relative_to(ROOT)} is not here (bindings/c/library.py writes it), so {target}/{name}.S was not compared")
             return None
         subprocess.run([DIST / "lower.py", target, module, made], check=True)
         return "" if made.read_text() == text else f"{target}/{name}.S is not the assembly of crates/{name}"
-    if name != "pie":
+    if name not in PROGRAMS:
         made = out / f"{name}.S"
         if not made.exists():
             print(f"NOT RUN: {NAME}: {made.relative_to(ROOT)} is not here (bindings/c/library.py writes it), so {name}.S was not compared")
             return None
         return "" if made.read_text() == text else f"{name}.S is not the assembly of crates/{name}"
-    made, kit = out / "pie", Path(shutil.which("rt") or "/").resolve().parent.parent
+    made, kit = out / name, Path(shutil.which("rt") or "/").resolve().parent.parent
     if not made.exists() or not (kit / "bin/rattle-link").exists():
-        print(f"NOT RUN: {NAME}: no {made.relative_to(ROOT)} or toolchain here, so pie.S was not compared")
+        print(f"NOT RUN: {NAME}: no {made.relative_to(ROOT)} or toolchain here, so {name}.S was not compared")
         return None
-    Path(f"{work}/pie.s").write_text(text)
+    Path(f"{work}/{name}.s").write_text(text)
     triple = "x86_64-unknown-linux-gnu"
-    subprocess.run([kit / "toolchain/bin/clang", f"--target={triple}", "--no-default-config", "-march=x86-64-v2", "-x", "assembler", "-c", f"{work}/pie.s",
-        "-o", f"{work}/pie.o"], check=True)
+    subprocess.run([kit / "toolchain/bin/clang", f"--target={triple}", "--no-default-config", "-march=x86-64-v2", "-x", "assembler", "-c", f"{work}/{name}.s",
+        "-o", f"{work}/{name}.o"], check=True)
     # (as rt links the program)
-    done = subprocess.run([kit / "bin/rattle-link", "--target", triple, "--toolchain", kit / "toolchain", "-o", f"{work}/pie", f"{work}/pie.o",
+    done = subprocess.run([kit / "bin/rattle-link", "--target", triple, "--toolchain", kit / "toolchain", "-o", f"{work}/{name}", f"{work}/{name}.o",
         kit / "c/libos_c.a", kit / "c/liblibc_c.a"], capture_output=True, text=True, check=False)
     if done.returncode:
-        return f"pie.S can't be linked: {done.stderr}"
-    return "" if Path(f"{work}/pie").read_bytes() == made.read_bytes() else "pie.S is not the assembly of the program that was built"
+        return f"{name}.S can't be linked: {done.stderr}"
+    return "" if Path(f"{work}/{name}").read_bytes() == made.read_bytes() else f"{name}.S is not the assembly of the program that was built"
 
 
 def compare(manifest, work):
@@ -279,7 +280,7 @@ def stated(texts):
     of_one = {(target, name): int(limit) for target, one, two, limit in re.findall(r"On (\w+), (pie_\w+) and (pie_\w+) use at most (\d+)", text) for name in (one, two)}
     limits = {name.replace("*", r"\w+"): int(limit) for name, limit in re.findall(r"(pie_[\w*]+) at most (\d+)", sentence[2])}
     for (target, name), text in texts.items():
-        for call, used in stacks(text, target).items() if name != "pie" else ():
+        for call, used in stacks(text, target).items() if name not in PROGRAMS else ():
             limit = of_one.get((target, call)) or limits.get(call, next((limits[it] for it in limits if re.fullmatch(it, call)), int(sentence[1])))
             check(used is not None and used <= limit, f"include/pie.h states at most {limit} bytes of stack for {call}, which uses {used} on {target}")
 

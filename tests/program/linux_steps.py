@@ -1,5 +1,5 @@
 #!/usr/bin/env python3
-"""Tests pie_linux_steps on steps that were recorded on Debian 12's kernel 6.1, unmodified
+"""Tests pie_linux_history by its program pie_linux_steps on steps that were recorded on Debian 12's kernel 6.1, unmodified
 (crates/pie_linux_steps/stdin: four queues, each from its beginning or taken over while it ran; then a pie and an
 fq_pie with their rows mixed, a queue of which steps were lost, and one that a lower limit shortens).
 
@@ -8,8 +8,8 @@ fq_pie with their rows mixed, a queue of which steps were lost, and one that a l
   one. For each type of step, each column that the program compares is changed once.
 - If an input is changed, a later number differs.
 - A missing row is found, and so is a queue that is not resumed after lost steps.
-- A text without a column or without a queue's first step is refused.
-- `--lost` prints each packet that an enqueue, a lower limit or a reset dropped, with its cause.
+- A text without a column or without a queue's first step, and a field that is no number, are refused.
+- `--lost` explains each packet that an enqueue, a lower limit or a reset dropped, with its cause.
 
 usage: tests/program/linux_steps.py [PROGRAM]      PROGRAM: crates/pie_linux_steps/out/pie_linux_steps by default
 needs: pie_linux_steps
@@ -75,10 +75,9 @@ def first(kind, step):
 
 
 status, output = run(ROWS)
-arrivals = sum(field(row, "type") == "enq" for row in ROWS)
 lost = sum(int(row[1]) for row in LOST)
 steps = sum(field(row, "type") not in ("", "flow", "wait") for row in ROWS)
-CLEAN = f"clean: {steps} steps, {arrivals} of them arrivals; {lost} lost\n"
+CLEAN = f"clean: {steps} steps; {lost} lost\n"
 check((status, output) == (0, CLEAN) and lost > 0, "the recorded steps:", status, output)
 tried = 0
 for (kind, step), names in COMPARED.items():
@@ -101,34 +100,44 @@ check("early is recorded as 1, the rules give 0" in run(unpicked)[1], "the great
 arrival = next(at for at, row in enumerate(ROWS) if field(row, "type") == "enq")
 check(run(ROWS[arrival:])[0] == 2, "a text that begins with an arrival is not refused")
 check(run([row[1:] for row in ROWS], COLUMNS[1:]) == (2, "the first row has no column qid\n"), "a text without the column qid is not refused so")
+for name, text in (("a_prob", "x"), ("size", str(2**32)), ("seq", str(2**64)), ("type", "enqueue"), ("kind", "codel"), ("flow", "-2"), ("l3", "12345")):
+    place = COLUMNS.index(name)
+    bad = [*ROWS[:arrival], [*ROWS[arrival][:place], text, *ROWS[arrival][place + 1 :]], *ROWS[arrival + 1 :]]
+    check(run(bad)[0] == 2, "the field", name, text, "is accepted:", run(bad))
 check(tried >= 120, "only", tried, "numbers were changed")
 
 # two queues whose rows are mixed are decided apart; a row that is missing is found
 mixed = [row for row in ROWS if row[0] in ("rb/2:/0", "ra/3:/1")]
 check(len({row[0] for row in mixed}) == 2 and run(mixed)[0] == 0, "two queues in one text:", run(mixed))
 check(run([[mixed[0][0], *row[1:]] for row in mixed])[0] == 1, "two queues with one name are clean")
-check(run(mixed[:9] + mixed[10:]) == (1, f"queue {mixed[11][0]}, step {field(mixed[11], 'seq')}: the steps before it are missing\n"), "a missing row:", run(mixed[:9] + mixed[10:]))
+check(run(mixed[:9] + mixed[10:]) == (1, f"queue {mixed[11][0]}, step {field(mixed[11], 'seq')}: seq is recorded as {field(mixed[11], 'seq')}, the rules give {field(mixed[9], 'seq')}\n"), "a missing row:", run(mixed[:9] + mixed[10:]))
 at = ROWS.index(LOST[0])
 unresumed = run([*ROWS[: at + 1], *ROWS[at + 2 :]])
-check(unresumed == (2, f"queue {LOST[0][2]}, step {field(ROWS[at + 2], 'seq')}: the queue has no row of the type init or resume before it\n"), "lost steps, not resumed:", unresumed)
+check(unresumed == (2, f"step {field(ROWS[at + 2], 'seq')} of queue {LOST[0][2]}: no row of the type init or resume is before it\n"), "lost steps, not resumed:", unresumed)
 
 # the packets that were dropped
 status, output = run(ROWS, words=["--lost"])
-*lines, last = output.splitlines(keepends=True)
-dropped = [row for row in ROWS if field(row, "type") == "enq" and field(row, "ret") not in ("", "0")]
+blocks, last = output.rsplit("\n", 2)[0] + "\n", output.rsplit("\n", 2)[1] + "\n"
+lost = ["event " + block for block in ("\n" + blocks).split("\nevent ")[1:]]
 check((status, last) == (0, CLEAN), "--lost:", status, last)
-for row in dropped:
-    start = f"{field(row, 'qid')} step {field(row, 'seq')} at {int(field(row, 'ns') or 0) // 10**9}."
-    its = [line for line in lines if line.startswith(start)]
-    prob = int(field(row, "a_prob") or 0) * 10**6 >> 56
-    parts = [f": {field(row, 'pktlen')} bytes DROPPED ", f"; probability {prob // 10**4}.{prob % 10**4:04} %, ", f" {field(row, 'qlen0') or 0} packets with {field(row, 'bl0') or 0} bytes"]
-    parts.append("over the limit;" if field(row, "early") == "255" else "the random word is below the probability" if field(row, "nrnd") == "1" else "the accumulated probability")
-    check(len(its) == 1 and all(part in its[0] for part in parts), "the drop", row[:5], "is printed as", its)
-for cause, step in (("by a lower limit;", "change"), ("by a reset;", "reset")):
-    its = [line for line in lines if cause in line]
-    check(its and {line.split(" step ")[1].split(" ")[0] for line in its} <= {field(row, "seq") for row in ROWS if field(row, "type") == step}, cause, its[:3])
-dropped_by_change = sum(int(field(row, "size") or 0) for row in ROWS if (field(row, "kind"), field(row, "type")) == ("pie", "change"))
-check(sum("by a lower limit" in line for line in lines) == dropped_by_change, "packets that a lower limit dropped:", dropped_by_change)
-check(len(lines) == len(dropped) + sum(" by a " in line for line in lines), "--lost prints other packets")
+CAUSES = {
+    "over": ("DROPPED over the limit\n", "\n  the queue is at its limit (overlimit)\n"),
+    "word": ("DROPPED early\n", "\n  picked: the random word is below the probability\n"),
+    "sum": ("DROPPED early\n", "\n  picked: the accumulated probability (accu_prob) is at least 850 %\n"),
+}
+dropped = [(at, row) for at, row in enumerate(ROWS) if field(row, "type") == "enq" and field(row, "ret") not in ("", "0")]
+for at, row in dropped:
+    its = [block for block in lost if block.startswith(f"event {at + 1}: ")]
+    prob, moment = int(field(row, "a_prob") or 0) * 10**6 >> 56, int(field(row, "ns") or 0)
+    cause = "over" if field(row, "early") == "255" else "word" if field(row, "nrnd") == "1" else "sum"
+    parts = [f": queue {field(row, 'qid')}, step {field(row, 'seq')}, {field(row, 'pktlen')} bytes: ", f"\n  probability {prob // 10**4}.{prob % 10**4:04} %",
+             f"\n  at {moment // 10**9}.{moment % 10**9:09} s since boot", f"  before it: {field(row, 'qlen0') or 0} packets of at most ",
+             f", {field(row, 'bl0') or 0} bytes, a delay of ", *CAUSES[cause]]
+    check(len(its) == 1 and all(part in its[0] for part in parts), "the drop", row[:5], "is explained as", its, parts)
+by_change = sum(int(field(row, "size") or 0) for row in ROWS if (field(row, "kind"), field(row, "type")) == ("pie", "change"))
+check(by_change > 0 and sum("DROPPED by a change of the limit\n" in block for block in lost) == by_change, "packets that a lower limit dropped:", by_change)
+by_reset = {int(block.split(":")[0][6:]) - 1 for block in lost if "DROPPED by a reset\n" in block}
+check(by_reset and all(field(ROWS[at], "type") == "reset" for at in by_reset), "packets that a reset dropped:", by_reset)
+check(len(lost) == len(dropped) + sum(" by a " in block for block in lost), "--lost explains other packets")
 check(subprocess.run([PROGRAM, "--lots"], input="", capture_output=True, text=True, check=False).returncode == 2, "an unknown option is accepted")
 finish()

@@ -191,6 +191,15 @@ def hold_answers(words):
     check("USER0" in links.stdout + links.stderr, "the link types are", links.stdout, links.stderr)
 
 
+def hold_failures(folder, words):
+    """A capture that cannot begin: tshark waits for its pipe, so it must end and have the reason. A name that begins with
+    a dash is a mistake in the arguments."""
+    for history, says in (("-x", "argument --history: expected one argument"), (folder / "none", "No such file or directory"), (folder, "Is a directory")):
+        done = subprocess.run(["timeout", str(PATIENCE), *words, "tshark", "-i", "pie", "-o", f"extcap.pie.history:{history}"], capture_output=True, text=True,
+                              check=False)
+        check(done.returncode != 124 and says in done.stderr, f"a capture of {history} ends with", done.returncode, done.stderr)
+
+
 def hold_faults(folder):
     history, out = ROOT / "examples/overload.history", folder / "fault.pcapng"
     text = history.read_text()
@@ -207,7 +216,9 @@ def hold_faults(folder):
     for words, says in (([folder / "none", out], f"{folder}/none: No such file or directory"), ([history, folder / "none/a"], f"{folder}/none/a: No such file or directory"),
                         (["", out], "name the history"), ([history, out, "--extcap-capture-filter", "tcp"], "there are no capture filters; use a display filter"),
                         ([history, out, "--flows", folder / "none"], f"{folder}/none: No such file or directory"),
+                        ([history, out, "--flows", folder / "changed"], f"{folder}/changed: a row is not a flow"),
                         ([history, out, "--pie", folder / "none"], f"{folder}/none: No such file or directory"),
+                        ([history, out, "--extcap-interface", "eth0"], "there is no interface eth0, only pie"),
                         ([history, out, "--every"], "unrecognized arguments: --every; --help tells more")):
         done = extcap(*words)
         check(done == (1, f"pie-extcap: {says}\n"), done)
@@ -232,6 +243,7 @@ def main():
             print(f"NOT RUN: {NAME}: dumpcap does not run for other users here, so tshark asked no pie-extcap")
             return finish()
         hold_answers(words)
+        hold_failures(folder, words)
         history, overload = flowing(), (ROOT / "examples/overload.history").read_text()
         hold_growing("flows", history, history, folder, words)
         hold_growing("lost", with_lost(overload), overload, folder, words)

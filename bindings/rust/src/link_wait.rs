@@ -37,3 +37,26 @@ fn wait(rounds: u32) {
         sleep(Duration::from_micros((first << (rounds - PAUSES - YIELDS).min(8)).min(longest)));
     }
 }
+
+#[cfg(test)]
+mod tests {
+    use super::*;
+
+    /// A call that is busy in many rounds is made until it is served, in the rounds that pause, yield and sleep. Any other
+    /// refusal is returned at once.
+    #[test]
+    fn until_served_waits() {
+        let (mut calls, busy) = (0, PAUSES + YIELDS + 3);
+        let served = until_served(|| {
+            calls += 1;
+            if calls <= busy { Err(LinkRefusal::Busy) } else { Ok(calls) }
+        });
+        assert_eq!(served, Ok(busy + 1));
+        let mut calls = 0;
+        let refused: Result<(), _> = until_served(|| {
+            calls += 1;
+            Err(LinkRefusal::Full)
+        });
+        assert_eq!((refused, calls), (Err(LinkRefusal::Full), 1));
+    }
+}

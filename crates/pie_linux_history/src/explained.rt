@@ -1,0 +1,62 @@
+//! The decision of a step, and the explanation of a packet.
+use crate::difference::Difference;
+use crate::step::QueueName;
+use pie_linux::{LinuxCause, LinuxState};
+
+/// The reason of the decision on a packet.
+#[derive(Clone, Copy)]
+pub(crate) enum Fate {
+    /// It arrived, and this is the cause of its decision.
+    Arrival(LinuxCause),
+    /// It waited, and the queue was longer than its new limit.
+    Change,
+    /// It waited, and the queue was purged or removed.
+    Reset,
+}
+
+/// A packet that a step decided, and the queue before.
+#[derive(Clone, Copy)]
+pub(crate) struct DecidedPacket {
+    /// The packet's bytes.
+    pub bytes: u32,
+    /// The reason.
+    pub fate: Fate,
+    /// The state of the queue, or of the packet's flow.
+    pub state: LinuxState,
+    /// The packets that waited.
+    pub length: u32,
+    /// The bytes that waited.
+    pub backlog: u32,
+    /// The limit in packets.
+    pub limit: u32,
+}
+
+/// The decision of a step.
+#[derive(Clone, Copy)]
+pub(crate) struct Decision {
+    /// The first recorded number that differs.
+    pub difference: Option<Difference>,
+    /// The packet, if the step is its arrival.
+    pub arrival: Option<DecidedPacket>,
+}
+
+impl Decision {
+    /// Returns the decision of a step that is no arrival.
+    pub(crate) fn other(difference: Option<Difference>) -> Decision {
+        Decision {
+            difference,
+            arrival: None,
+        }
+    }
+}
+
+/// A packet that a step decided, with the step.
+#[derive(Clone, Copy)]
+pub struct Explained {
+    pub(crate) event: u64,
+    pub(crate) queue: QueueName,
+    pub(crate) step: u64,
+    pub(crate) moment: u64,
+    pub(crate) flow: Option<u32>,
+    pub(crate) packet: DecidedPacket,
+}

@@ -1,0 +1,266 @@
+//! A queue whose steps are decided again: its numbers, its flows and their waiting packets.
+use crate::difference::{Column, Difference};
+use crate::explained::{DecidedPacket, Decision, Fate};
+use crate::numbers::{FlowNumbers, QueueNumbers, Waiting, waiting_of};
+use crate::step::{Kind, Step};
+use pie_linux::{LinuxState, LinuxStats, flow_of};
+use std::alloc::{AllocError, Global};
+use std::collections::VecDeque;
+
+/// The most flows of fq_pie (`fq_pie_init`).
+const MAX_FLOWS: u32 = 65536;
+
+/// A flow of fq_pie, or all of pie: its numbers and its waiting packets.
+#[derive(Drop)]
+struct Flow {
+    numbers: FlowNumbers,
+    waiting: VecDeque<Waiting>,
+}
+
+/// A queue.
+#[derive(Drop)]
+pub(crate) struct Queue {
+    numbers: QueueNumbers,
+    flows: Vec<Flow>,
+}
+
+/// Returns the numbers of a queue after its first step.
+fn first_numbers(step: &Step) -> QueueNumbers {
+    let is_new = step.kind == Kind::Init;
+    QueueNumbers {
+        has_flows: step.has_flows,
+        params: step.params,
+        stats: if is_new {
+            LinuxStats::new()
+        } else {
+            step.stats
+        },
+        length: 0,
+        bytes: 0,
+        peeked: None,
+        memory: 0,
+        memory_limit: step.truesize,
+        over_memory: if is_new { Some(0) } else { None },
+        cursor: if is_new { Some(0) } else { None },
+    }
+}
+
+/// Returns the state of each flow after the queue's first step. The flows of a running fq_pie have rows of their own.
+fn first_state(step: &Step) -> LinuxState {
+    if step.kind == Kind::Init || step.has_flows {
+        LinuxState::new()
+    } else {
+        step.after
+    }
+}
+
+impl Queue {
+    /// Makes a queue from its first step, a new one or a running one. Of a running one, steps for its flows and waiting
+    /// packets follow.
+    #[inline(never)]
+    pub(crate) fn open(alloc: Global, step: &Step) -> Result<Queue, AllocError> {
+        let count = if step.has_flows {
+            step.x1.min(MAX_FLOWS)
+        } else {
+            1
+        };
+        let mut flows = Vec::new(alloc);
+        for _ in 0..count {
+            flows.push(Flow {
+                numbers: FlowNumbers {
+                    state: first_state(step),
+                    backlog: 0,
+                    listed: false,
+                },
+                waiting: VecDeque::new(alloc),
+            })?;
+        }
+        Ok(Queue {
+            numbers: first_numbers(step),
+            flows,
+        })
+    }
+
+    /// Decides a step again. Adds the packets that a change or a reset dropped to `lost`.
+    pub(crate) fn step(
+        &mut self,
+        step: &Step,
+        lost: &mut Vec<DecidedPacket>,
+    ) -> Result<Decision, AllocError> {
+        match step.kind {
+            Kind::Enqueue => self.arrive(step),
+            Kind::Dequeue => Ok(Decision::other(self.depart(step))),
+            Kind::Update => Ok(Decision::other(self.update(step))),
+            Kind::Timer => {
+                let flows = u32::try_from(self.flows.len()).unwrap_or(u32::MAX);
+                Ok(Decision::other(self.numbers.begin_round(flows, step)))
+            }
+            Kind::Change => self.change(step, lost),
+            Kind::Reset => self.reset(step, lost),
+            Kind::Flow => {
+                self.resume_flow(step);
+                Ok(Decision::other(None))
+            }
+            Kind::Wait => self.resume_packet(step),
+            Kind::Init | Kind::Resume | Kind::Destroy | Kind::Empty => Ok(Decision::other(None)),
+        }
+    }
+
+    /// Takes over the recorded state of a running flow.
+    fn resume_flow(&mut self, step: &Step) {
+        let place = self.place(step);
+        if let Some(flow) = self.flows.get_mut(place) {
+            flow.numbers = FlowNumbers {
+                state: step.after,
+                backlog: step.backlog,
+                listed: step.x1 != 0,
+            };
+        }
+    }
+
+    /// Takes over a waiting packet of a running queue.
+    fn resume_packet(&mut self, step: &Step) -> Result<Decision, AllocError> {
+        if step.x0 != 0 {
+            self.numbers.peeked = Some(step.packet_length);
+            return Ok(Decision::other(None));
+        }
+        self.numbers.add(&waiting_of(step));
+        self.queue(step)?;
+        Ok(Decision::other(None))
+    }
+
+    /// Returns the place of the flow of a step: the recorded one, or the hash's if the limit came before it was known.
+    fn place(&self, step: &Step) -> usize {
+        if !self.numbers.has_flows {
+            return 0;
+        }
+        let flows = u32::try_from(self.flows.len()).unwrap_or(u32::MAX);
+        step.flow.unwrap_or(flow_of(step.hash, flows)) as usize
+    }
+
+    /// Adds the packet of a step at the end of its flow.
+    fn queue(&mut self, step: &Step) -> Result<(), AllocError> {
+        let place = self.place(step);
+        if let Some(flow) = self.flows.get_mut(place) {
+            flow.waiting.push_back(waiting_of(step))?;
+        }
+        Ok(())
+    }
+
+    /// Decides an arrival again.
+    fn arrive(&mut self, step: &Step) -> Result<Decision, AllocError> {
+        let place = self.place(step);
+        let Some(flow) = self.flows.get_mut(place) else {
+            return Ok(Decision::other(no_flow(step)));
+        };
+        let before = flow.numbers.state;
+        let arrived = self.numbers.arrive(&mut flow.numbers, step);
+        if arrived.cause.is_queued() {
+            self.queue(step)?;
+        }
+        Ok(Decision {
+            difference: arrived.difference,
+            arrival: Some(DecidedPacket {
+                bytes: step.packet_length,
+                fate: Fate::Arrival(arrived.cause),
+                state: before,
+                length: arrived.length,
+                backlog: arrived.bytes,
+                limit: self.numbers.params.limit,
+            }),
+        })
+    }
+
+    /// Takes a departure into account again.
+    fn depart(&mut self, step: &Step) -> Option<Difference> {
+        let place = self.place(step);
+        let Some(flow) = self.flows.get_mut(place) else {
+            return no_flow(step);
+        };
+        match flow.waiting.pop_front() {
+            Some(waiting) => self.numbers.depart(&mut flow.numbers, &waiting, step),
+            None => Some(Difference {
+                column: Column::LengthAfter,
+                recorded: u64::from(step.length_after),
+                right: 0,
+            }),
+        }
+    }
+
+    /// Makes an update of the probability again.
+    fn update(&mut self, step: &Step) -> Option<Difference> {
+        let place = self.place(step);
+        match self.flows.get_mut(place) {
+            Some(flow) => self.numbers.update(&mut flow.numbers, step),
+            None => no_flow(step),
+        }
+    }
+
+    /// Changes the parameters.
+    fn change(
+        &mut self,
+        step: &Step,
+        lost: &mut Vec<DecidedPacket>,
+    ) -> Result<Decision, AllocError> {
+        let count = self.numbers.change(step);
+        let Some(flow) = self.flows.first_mut() else {
+            return Ok(Decision::other(None));
+        };
+        for _ in 0..count {
+            let Some(waiting) = flow.waiting.pop_front() else {
+                break;
+            };
+            lost.push(dropped(Fate::Change, &self.numbers, &flow.numbers, &waiting))?;
+            self.numbers.remove(&mut flow.numbers, &waiting);
+        }
+        Ok(Decision::other(self.numbers.change_difference(&flow.numbers, count, step)))
+    }
+
+    /// Resets the queue: all packets are dropped, and the flows keep the numbers that a reset does not change.
+    fn reset(
+        &mut self,
+        step: &Step,
+        lost: &mut Vec<DecidedPacket>,
+    ) -> Result<Decision, AllocError> {
+        let has_flows = self.numbers.has_flows;
+        for flow in self.flows.iter_mut() {
+            for waiting in flow.waiting.iter() {
+                lost.push(dropped(Fate::Reset, &self.numbers, &flow.numbers, waiting))?;
+            }
+            flow.waiting.clear();
+            flow.numbers.reset(has_flows);
+        }
+        self.numbers.reset();
+        let difference = match self.flows.first() {
+            Some(flow) => self.numbers.reset_difference(&flow.numbers, step),
+            None => None,
+        };
+        Ok(Decision::other(difference))
+    }
+}
+
+/// Returns the packet that a change or a reset dropped.
+fn dropped(
+    fate: Fate,
+    queue: &QueueNumbers,
+    flow: &FlowNumbers,
+    waiting: &Waiting,
+) -> DecidedPacket {
+    DecidedPacket {
+        bytes: waiting.length,
+        fate,
+        state: flow.state,
+        length: queue.length,
+        backlog: queue.bytes,
+        limit: queue.params.limit,
+    }
+}
+
+/// Returns the difference of a step of a flow that does not exist.
+fn no_flow(step: &Step) -> Option<Difference> {
+    Some(Difference {
+        column: Column::Flow,
+        recorded: u64::from(step.flow.unwrap_or(u32::MAX)),
+        right: 0,
+    })
+}

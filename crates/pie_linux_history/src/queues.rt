@@ -1,0 +1,222 @@
+//! The queues of a text.
+use crate::columns::{Columns, fault_at, lost_at, out_of_memory};
+use crate::difference::{Column, Difference};
+use crate::explained::{DecidedPacket, Decision, Explained};
+use crate::fault::StepsFault;
+use crate::queue::Queue;
+use crate::step::{Kind, QueueName, Step};
+use pie_record::RecordFault;
+use pie_record::record::Record;
+use std::alloc::Global;
+
+/// The numbers of a text.
+#[derive(Clone, Copy)]
+pub struct StepsCounts {
+    /// The steps.
+    pub steps: u64,
+    /// The steps that the recorder lost.
+    pub lost: u64,
+}
+
+/// A step with a number that differs from the rules.
+#[derive(Clone, Copy)]
+pub struct StepDifference {
+    /// The number of the row in the text, counted from 1 after the first row.
+    pub event: u64,
+    /// The name of the queue.
+    pub queue: QueueName,
+    /// The number of the step in its queue.
+    pub step: u64,
+    /// The column and both numbers.
+    pub difference: Difference,
+}
+
+/// A queue with its name, and the number of its last step.
+#[derive(Drop)]
+struct Known {
+    name: QueueName,
+    last: u64,
+    queue: Queue,
+}
+
+/// The queues of a text, the counts of its steps, and the packets that the last step decided.
+#[derive(Drop)]
+pub(crate) struct Queues {
+    alloc: Global,
+    queues: Vec<Known>,
+    pub counts: StepsCounts,
+    /// The number of the last row, counted from 1 after the first row.
+    pub event: u64,
+    /// The last step, with its queue.
+    last: Option<(QueueName, Step)>,
+    /// The arrival of the last step.
+    arrival: Option<DecidedPacket>,
+    /// The waiting packets that the last step dropped.
+    lost: Vec<DecidedPacket>,
+}
+
+impl Queues {
+    /// Returns the queues of an empty text.
+    pub(crate) fn new(alloc: Global) -> Queues {
+        Queues {
+            alloc,
+            queues: Vec::new(alloc),
+            counts: StepsCounts { steps: 0, lost: 0 },
+            event: 0,
+            last: None,
+            arrival: None,
+            lost: Vec::new(alloc),
+        }
+    }
+
+    /// Returns the number of packets that the last step decided.
+    pub(crate) fn packets(&self) -> usize {
+        self.lost
+            .len()
+            .saturating_add(usize::from(self.arrival.is_some()))
+    }
+
+    /// Returns the packet at this place of those that the last step decided.
+    pub(crate) fn packet(&self, place: usize) -> Option<Explained> {
+        let (queue, step) = self.last?;
+        let packet = match self.arrival {
+            Some(arrival) => arrival,
+            None => *self.lost.get(place)?,
+        };
+        Some(Explained {
+            event: self.event,
+            queue,
+            step: step.number,
+            moment: step.moment,
+            flow: step.flow,
+            packet,
+        })
+    }
+
+    /// Returns the place of the queue with this name.
+    fn find(&self, name: &[u8]) -> Option<usize> {
+        self.queues.iter().position(|known| known.name.is(name))
+    }
+
+    /// Takes a row. Returns the first number of its step that differs.
+    pub(crate) fn take(
+        &mut self,
+        columns: &Columns,
+        fields: &Record,
+    ) -> Result<Option<StepDifference>, StepsFault> {
+        self.lost.clear();
+        self.arrival = None;
+        self.last = None;
+        self.event = self.event.wrapping_add(1);
+        let row = self.event.wrapping_add(1);
+        match lost_at(fields) {
+            Ok(None) => {}
+            Ok(Some((queue, count))) => {
+                self.lose(fields.get(2).unwrap_or(&[]), count);
+                return Ok(None);
+            }
+            Err(why) => return Err(fault_at(row, why)),
+        }
+        match columns.read(fields) {
+            Ok(step) => self.decide(row, columns.queue(fields), &step),
+            Err(why) => Err(fault_at(row, why)),
+        }
+    }
+
+    /// Takes a row of lost steps. The queue must be resumed before its next step.
+    fn lose(&mut self, queue: &[u8], count: u64) {
+        self.counts.lost = self.counts.lost.wrapping_add(count);
+        if let Some(place) = self.find(queue)
+            && place < self.queues.len()
+        {
+            let _ = self.queues.swap_remove(place);
+        }
+    }
+
+    /// Decides a step again.
+    fn decide(
+        &mut self,
+        row: u64,
+        name: &[u8],
+        step: &Step,
+    ) -> Result<Option<StepDifference>, StepsFault> {
+        let Some(queue) = QueueName::new(name) else {
+            return Err(fault_at(row, RecordFault::Word));
+        };
+        let is_part = step.kind.is_part();
+        self.counts.steps = self.counts.steps.wrapping_add(u64::from(!is_part));
+        self.last = Some((queue, *step));
+        if matches!(step.kind, Kind::Init | Kind::Resume) {
+            return self.open(queue, name, step);
+        }
+        let at = self.find(name);
+        let Some(known) = at.and_then(|at| self.queues.get_mut(at)) else {
+            return Err(StepsFault::NoStart {
+                row,
+                queue,
+                step: step.number,
+            });
+        };
+        let next = known.last.wrapping_add(u64::from(!is_part));
+        if step.number != next {
+            return Ok(Some(difference_at(
+                self.event,
+                queue,
+                step,
+                Difference {
+                    column: Column::Number,
+                    recorded: step.number,
+                    right: next,
+                },
+            )));
+        }
+        known.last = step.number;
+        let Ok(decision) = known.queue.step(step, &mut self.lost) else {
+            return Err(out_of_memory());
+        };
+        self.arrival = decision.arrival;
+        Ok(decision.difference.map(|difference| difference_at(self.event, queue, step, difference)))
+    }
+
+    /// Makes a queue, in the place of an earlier one with the same name.
+    fn open(
+        &mut self,
+        queue: QueueName,
+        name: &[u8],
+        step: &Step,
+    ) -> Result<Option<StepDifference>, StepsFault> {
+        let Ok(opened) = Queue::open(self.alloc, step) else {
+            return Err(out_of_memory());
+        };
+        let made = Known {
+            name: queue,
+            last: step.number,
+            queue: opened,
+        };
+        if let Some(place) = self.find(name)
+            && let Some(known) = self.queues.get_mut(place)
+        {
+            *known = made;
+            return Ok(None);
+        }
+        match self.queues.push(made) {
+            Ok(()) => Ok(None),
+            Err(_) => Err(out_of_memory()),
+        }
+    }
+}
+
+/// Returns the difference of a step.
+fn difference_at(
+    event: u64,
+    queue: QueueName,
+    step: &Step,
+    difference: Difference,
+) -> StepDifference {
+    StepDifference {
+        event,
+        queue,
+        step: step.number,
+        difference,
+    }
+}

@@ -29,20 +29,20 @@ joined [] = []
 joined (text ∷ []) = text
 joined (text ∷ (next ∷ texts)) = text ++ joined (next ∷ texts)
 
--- ---- numbers with their units, the exact whole number in parentheses
+-- ---- numbers with their units: times are exact, and shares rounded down
 
 -- a time in nanoseconds, in milliseconds
 unfoldable pub millis : ℕ → List ℕ
-millis time = joined (decimal (time / 10 ^ 6) ∷ codes "." ∷ with_zeros 6 (time % 10 ^ 6) ∷ codes " ms (" ∷ decimal time ∷ codes " ns)" ∷ [])
+millis time = joined (decimal (time / 10 ^ 6) ∷ codes "." ∷ with_zeros 6 (time % 10 ^ 6) ∷ codes " ms" ∷ [])
 
 -- a moment: its wall-clock time with a clock record, otherwise its time since the trace's clock began
 unfoldable pub moment_words : Option Clock → ℕ → List ℕ
 moment_words None moment = millis moment
-moment_words (Some clock) moment = joined (utc_text (unix_at clock moment) ∷ codes " (" ∷ decimal moment ∷ codes " ns)" ∷ [])
+moment_words (Some clock) moment = utc_text (unix_at clock moment)
 
 -- a share in units of 10^-12, in per cent
 unfoldable pub per_cent : ℕ → List ℕ
-per_cent part = joined (decimal (part / 10 ^ 10) ∷ codes "." ∷ with_zeros 4 (part % 10 ^ 10 / 10 ^ 6) ∷ codes " % (" ∷ decimal part ∷ codes ")" ∷ [])
+per_cent part = joined (decimal (part / 10 ^ 10) ∷ codes "." ∷ with_zeros 4 (part % 10 ^ 10 / 10 ^ 6) ∷ codes " %" ∷ [])
 
 -- a count as a share of all, in per cent
 unfoldable pub share : ℕ → ℕ → List ℕ
@@ -52,8 +52,7 @@ share count all =
 -- a random word as a share of 2^64, in per cent
 unfoldable pub word_text : ℕ → List ℕ
 word_text word =
-    joined (decimal (word * 10 ^ 6 / 2 ^ 64 / 10 ^ 4) ∷ codes "." ∷ with_zeros 4 (word * 10 ^ 6 / 2 ^ 64 % 10 ^ 4) ∷ codes " % (" ∷ decimal word
-    ∷ codes ")" ∷ [])
+    joined (decimal (word * 10 ^ 6 / 2 ^ 64 / 10 ^ 4) ∷ codes "." ∷ with_zeros 4 (word * 10 ^ 6 / 2 ^ 64 % 10 ^ 4) ∷ codes " %" ∷ [])
 
 -- ---- the event
 
@@ -112,7 +111,7 @@ picked_words (fate.NotBelow threshold) = joined (codes "  dropped, not marked: t
 unfoldable pub scaled_words : ℕ → ℕ → List ℕ
 scaled_words prob counted =
     if counted == prob then []
-    else joined (codes "  the probability, " ∷ per_cent prob ∷ codes ", comes to " ∷ per_cent counted ∷ codes " for a packet of this size\n" ∷ [])
+    else joined (codes "  the probability, " ∷ per_cent prob ∷ codes ", is scaled to " ∷ per_cent counted ∷ codes " for a packet of this size\n" ∷ [])
 
 -- the accumulated probability with this arrival's share, after the scaled probability, if that is not the
 -- probability itself
@@ -127,7 +126,7 @@ accumulated_words prob accu counted =
 
 -- the name of the number with which the random word is compared
 unfoldable pub counted_name : ℕ → ℕ → List ℕ
-counted_name prob counted = if counted == prob then codes "the probability" else codes "what that comes to"
+counted_name prob counted = if counted == prob then codes "the probability" else codes "the scaled probability"
 
 -- the comparison of the random word with the scaled probability, which has the name `name`
 unfoldable pub compared_words : List ℕ → ℕ → ℕ → List ℕ → List ℕ → List ℕ

@@ -147,7 +147,7 @@ fn push_scaled(page: &mut String, prob: u64, counted: u64) -> Written
     let (prob, counted) = (PerCent(prob), PerCent(counted));
     write!(
         page,
-        "  the probability, {prob}, comes to {counted} for a packet of this size\n"
+        "  the probability, {prob}, is scaled to {counted} for a packet of this size\n"
     )
 }
 
@@ -185,7 +185,7 @@ fn counted_name(prob: u64, counted: u64) -> &'static str
     if counted == prob {
         "the probability"
     } else {
-        "what that comes to"
+        "the scaled probability"
     }
 }
 

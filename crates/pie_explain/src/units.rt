@@ -1,4 +1,4 @@
-//! Numbers as people read them, with the exact whole number in parentheses.
+//! Numbers as people read them. A time is exact. A probability, a random word and a share are rounded down.
 use itoa::Buffer;
 use pie_record::Clock;
 use pie_units::Utc;
@@ -34,8 +34,7 @@ impl Display for Millis {
     #[tactic(auto, using(crate::proofs::WordFacts::padded), unfolding(crate::specs::Words::millis))]
     fn fmt<W: fmt::Write>(&self, f: &mut fmt::Formatter<W>) -> fmt::Result {
         let (whole, rest) = (Digits(self.0 / 1_000_000), self.0 % 1_000_000);
-        let exact = Digits(self.0);
-        write!(f, "{whole}.{rest:06} ms ({exact} ns)")
+        write!(f, "{whole}.{rest:06} ms")
     }
 }
 
@@ -55,13 +54,9 @@ impl Display for MomentWords {
 
     #[tactic(auto, unfolding(crate::specs::Words::moment_words))]
     fn fmt<W: fmt::Write>(&self, f: &mut fmt::Formatter<W>) -> fmt::Result {
-        let exact = self.moment;
         match self.clock {
-            None => Millis(exact).fmt(f),
-            Some(clock) => {
-                let time = Utc(clock.unix_at(exact));
-                write!(f, "{time} ({exact} ns)")
-            }
+            None => Millis(self.moment).fmt(f),
+            Some(clock) => Utc(clock.unix_at(self.moment)).fmt(f),
         }
     }
 }
@@ -80,8 +75,7 @@ impl Display for PerCent {
     fn fmt<W: fmt::Write>(&self, f: &mut fmt::Formatter<W>) -> fmt::Result {
         let whole = Digits(self.0 / 10_000_000_000);
         let rest = self.0 % 10_000_000_000 / 1_000_000;
-        let exact = Digits(self.0);
-        write!(f, "{whole}.{rest:04} % ({exact})")
+        write!(f, "{whole}.{rest:04} %")
     }
 }
 
@@ -97,10 +91,9 @@ impl Display for Word {
 
     #[tactic(auto, using(crate::proofs::WordFacts::padded), unfolding(crate::specs::Words::word_text))]
     fn fmt<W: fmt::Write>(&self, f: &mut fmt::Formatter<W>) -> fmt::Result {
-        let exact = self.0;
-        let parts = (u128::from(exact) * 1_000_000) >> 64;
+        let parts = (u128::from(self.0) * 1_000_000) >> 64;
         let (whole, rest) = (parts / 10_000, parts % 10_000);
-        write!(f, "{whole}.{rest:04} % ({exact})")
+        write!(f, "{whole}.{rest:04} %")
     }
 }
 

@@ -44,8 +44,8 @@ mean_wait sums = kept (sums.waited / max sums.left 1)
 -- the departures: their number, their bytes, and their waiting times
 unfoldable pub wait_words : FlowSums → List ℕ
 wait_words sums =
-    joined (codes "    left " ∷ decimal sums.left ∷ codes ", with " ∷ decimal sums.carried ∷ codes " bytes; they had waited at most "
-    ∷ millis sums.greatest_wait ∷ codes ",\n    and in the mean " ∷ millis (mean_wait sums) ∷ codes "\n" ∷ [])
+    joined (codes "    left " ∷ decimal sums.left ∷ codes ", with " ∷ decimal sums.carried ∷ codes " bytes; they waited at most "
+    ∷ millis sums.greatest_wait ∷ codes ", on average " ∷ millis (mean_wait sums) ∷ codes "\n" ∷ [])
 
 -- a flow, with the verdicts on its packets
 unfoldable pub flow_words : Name → FlowSums → FlowSums → List ℕ

@@ -41,10 +41,13 @@ abbrev pub starts_interval : Option ℕ → ℕ → Bool
 starts_interval None interval = true
 starts_interval (Some before) interval = not (before == interval)
 
+-- true if an event begins an interval after another one
+abbrev pub ends_at : Option ℕ → Place Explained → Bool
+ends_at every place = ends_interval (last_interval every place.before) (interval_at every place.event)
+
 -- the output at an event: the summary of the last events before it, if they are in another interval
 abbrev pub at_end : Option ℕ → (List Explained → List ℕ) → Place Explained → List ℕ
-at_end every summary_text place =
-    if ends_interval (last_interval every place.before) (interval_at every place.event) then summary_text (last_events every place.before) else []
+at_end every summary_text place = if ends_at every place then summary_text (last_events every place.before) else []
 
 -- true if there is a summary at the end: all events are summed together, or there is an event, whose interval is then known
 abbrev pub has_summary : Option ℕ → Option ℕ → Bool

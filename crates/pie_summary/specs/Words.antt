@@ -42,7 +42,7 @@ cause_rows (name ∷ names) causes all = cause_row name causes all ++ cause_rows
 
 -- the rows of all causes, in the order of the decision
 unfoldable pub cause_words : List ℕ → ℕ → List ℕ
-cause_words causes all = joined (codes "  by what decided them\n" ∷ cause_rows cause_names causes all ∷ [])
+cause_words causes all = joined (codes "  by cause\n" ∷ cause_rows cause_names causes all ∷ [])
 
 -- ---- the rest
 
@@ -55,7 +55,7 @@ unfoldable pub time_words : Bool → List ℕ → Bounds → List ℕ
 time_words false spaces times = []
 time_words true spaces times =
     if times.count == 0 then []
-    else joined (spaces ∷ codes "by the time of day from " ∷ utc_text times.first ∷ codes " to " ∷ utc_text times.last ∷ codes "\n" ∷ [])
+    else joined (spaces ∷ codes "in wall-clock time from " ∷ utc_text times.first ∷ codes " to " ∷ utc_text times.last ∷ codes "\n" ∷ [])
 
 -- the number of packets that left
 abbrev pub left_in : Meter → ℕ
@@ -70,43 +70,57 @@ wait_99 ranges meter = end_within (first_up_to ranges (left_in meter - left_in m
 unfoldable pub update_words : Meter → List ℕ
 update_words meter =
     joined (codes "  " ∷ decimal (slice_index meter.answers updated_place) ∷ codes " updates; the greatest delay was " ∷ millis meter.delays.greatest
-    ∷ codes ",\n    and the last " ∷ millis meter.delays.last ∷ codes "\n  the greatest probability was " ∷ per_cent meter.probs.greatest
+    ∷ codes ", and the last " ∷ millis meter.delays.last ∷ codes "\n  the greatest probability was " ∷ per_cent meter.probs.greatest
     ∷ codes ", and the last " ∷ per_cent meter.probs.last ∷ codes "\n" ∷ [])
 
 -- true if one of two times is less than half the other, rounded down
 abbrev pub disagree : ℕ → ℕ → Bool
 disagree one other = nat_lt one (other / 2) || nat_lt other (one / 2)
 
--- a note that the time with delays above the target and the time with waits above it disagree, if they do
+-- if the time with delays above the target and the time with waits above it disagree, both times and a remedy
 unfoldable pub disagree_words : ℕ → ℕ → List ℕ
 disagree_words above late =
-    if disagree above late then codes "    the two times disagree: the controller's delay was not what packets waited\n" else []
+    if disagree above late
+    then joined (codes "    the delay differs from the waits: it was above the target for " ∷ millis above ∷ codes ", and waits for " ∷ millis late
+    ∷ codes ";\n    if the delay is estimated from the departure rate, open with time stamps, as pie params does\n" ∷ [])
+    else []
 
--- the time that delays were above the target, and the target and the burst allowance at the end; the number of
--- departed packets that waited longer than the target, and their time at the head of the queue
+-- the time that delays were above the target; the number of departed packets that waited longer than the target, and
+-- their time at the head of the queue
 unfoldable pub above_words : Meter → List ℕ
 above_words meter =
-    joined (codes "  delays were above the target for " ∷ millis meter.above ∷ codes ";\n    at the end the target was " ∷ millis meter.target
-    ∷ codes ",\n    and the burst allowance " ∷ millis meter.burst ∷ codes "\n" ∷ codes "  " ∷ decimal meter.longer
+    joined (codes "  the delay was above the target for " ∷ millis meter.above ∷ codes "\n  " ∷ decimal meter.longer
     ∷ codes " packets, " ∷ share meter.longer (left_in meter)
-    ∷ codes " of those that left, had waited longer than the target,\n    at the head of the queue for " ∷ millis meter.late ∷ codes "\n"
+    ∷ codes " of those that left, waited longer than the target,\n    at the head of the queue for " ∷ millis meter.late ∷ codes "\n"
     ∷ disagree_words meter.above meter.late ∷ [])
 
--- the waiting times of the packets that left, with that of 99 of 100, and the bytes that they carried; the numbers of the updates, and the durations
--- of delays and waiting times above the target
+-- the rest of the line about a burst allowance: its consequence, unless it is 0
+unfoldable pub left_over : ℕ → List ℕ
+left_over burst = if burst == 0 then codes "\n" else codes ":\n    until it is used up, no packet is marked or dropped early\n"
+
+-- the target and the burst allowance after the last event
+unfoldable pub end_words : Meter → List ℕ
+end_words meter =
+    joined (codes "  after the last event the target was " ∷ millis meter.target ∷ codes ", and the burst allowance " ∷ millis meter.burst
+    ∷ left_over meter.burst ∷ [])
+
+-- the packets that left, with their bytes, and their waiting times, with that of 99 of 100
+unfoldable pub departure_words : Meter → ℕ → List ℕ
+departure_words meter most =
+    joined (codes "  " ∷ decimal (left_in meter) ∷ codes " packets left, with " ∷ decimal meter.carried ∷ codes " bytes; they waited at most "
+    ∷ millis meter.greatest_wait ∷ codes ",\n    on average " ∷ millis (mean_in (left_in meter) meter.waits) ∷ codes ", and 99 of 100 at most "
+    ∷ millis most ∷ codes "\n" ∷ [])
+
+-- the departures, the numbers of the updates, the durations of delays and waiting times above the target, and the numbers after the last event
 unfoldable pub later_words : Meter → ℕ → List ℕ
-later_words meter most =
-    joined (codes "  " ∷ decimal (left_in meter) ∷ codes " packets left; they had waited at most " ∷ millis meter.greatest_wait
-    ∷ codes ",\n    and in the mean " ∷ millis (mean_in (left_in meter) meter.waits) ∷ codes "\n    99 of 100 had waited at most " ∷ millis most
-    ∷ codes "\n    they carried " ∷ decimal meter.carried ∷ codes " bytes\n" ∷ update_words meter ∷ above_words meter ∷ [])
+later_words meter most = joined (departure_words meter most ∷ update_words meter ∷ above_words meter ∷ end_words meter ∷ [])
 
 -- the moments at which the controller turned on, or off; nothing if it never did
 unfoldable pub turned_words : List ℕ → Bounds → List ℕ
 turned_words way turned =
     if turned.count == 0 then []
     else joined (codes "  turned " ∷ way ∷ codes " " ∷ decimal turned.count ∷ codes " times, first at " ∷ millis turned.first
-    ∷ codes ",\n    and last at " ∷ millis turned.last
-    ∷ codes "\n" ∷ [])
+    ∷ codes ", and last at " ∷ millis turned.last ∷ codes "\n" ∷ [])
 
 -- the switches of the controller, with wall-clock times
 unfoldable pub turning_words : Bool → Sums → List ℕ

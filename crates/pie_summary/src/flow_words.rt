@@ -101,7 +101,7 @@ fn push_wait(page: &mut String, sums: &FlowSums) -> Written
     let (greatest, mean) = (Millis(sums.greatest_wait), Millis(mean_wait(sums)));
     write!(
         page,
-        "    left {left}, with {carried} bytes; they had waited at most {greatest},\n    and in the mean {mean}\n"
+        "    left {left}, with {carried} bytes; they waited at most {greatest}, on average {mean}\n"
     )
 }
 

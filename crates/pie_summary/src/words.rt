@@ -1,7 +1,7 @@
 //! A summary in words.
 ghost use Rattle.std.specs.Prelude.{◌≡◌, ◌++◌, OnOk, string_bytes};
-ghost use Rattle.pie_summary.specs.Words.{above_words, arrival_words, cause_row, cause_rows, cause_words, disagree_words, head_words, later_words};
-ghost use Rattle.pie_summary.specs.Words.{row_words, time_words, turned_words, turning_words, update_words, verdict_words, words};
+ghost use Rattle.pie_summary.specs.Words.{above_words, arrival_words, cause_row, cause_rows, cause_words, departure_words, disagree_words, end_words};
+ghost use Rattle.pie_summary.specs.Words.{head_words, later_words, left_over, row_words, time_words, turned_words, turning_words, update_words, verdict_words, words};
 
 use crate::aggregates::Bounds;
 use crate::interval::Sums;
@@ -70,7 +70,7 @@ fn push_causes(page: &mut String, causes: &[u64; 15], all: u64) -> Written
         CauseName::PickedByWordNotBelow,
         CauseName::WordNotBelow,
     ];
-    write!(page, "  by what decided them\n")?;
+    write!(page, "  by cause\n")?;
     push_rows(page, &names, causes, all)
 }
 
@@ -91,7 +91,7 @@ pub(crate) fn push_times(page: &mut String, by_wall: bool, spaces: &str, times: 
     let (first, last) = (Utc(times.first), Utc(times.last));
     match (by_wall, times.count) {
         (false, _) | (true, 0) => Ok(()),
-        (true, _) => write!(page, "{spaces}by the time of day from {first} to {last}\n"),
+        (true, _) => write!(page, "{spaces}in wall-clock time from {first} to {last}\n"),
     }
 }
 
@@ -105,66 +105,96 @@ fn push_updates(page: &mut String, meter: &Meter) -> Written
     let (most, now) = (PerCent(probs.greatest), PerCent(probs.last));
     write!(
         page,
-        "  {updates} updates; the greatest delay was {greatest},\n    and the last {last}\n  \
+        "  {updates} updates; the greatest delay was {greatest}, and the last {last}\n  \
         the greatest probability was {most}, and the last {now}\n"
     )
 }
 
-/// Writes a remark if the delays and the waiting times were above the target for very different times.
+/// Writes both times and a remedy if the delays and the waiting times were above the target for very different times.
 #[tactic(auto, unfolding(crate::specs::Words::disagree_words))]
 fn push_disagree(page: &mut String, above: u64, late: u64) -> Written
     ensures { OnOk result (string_bytes page.new ≡ string_bytes page.old ++ disagree_words above late) }
 {
+    let (delays, waits) = (Millis(above), Millis(late));
     match (above < late / 2, late < above / 2) {
         (false, false) => Ok(()),
         (true, _) | (false, true) => write!(
             page,
-            "    the two times disagree: the controller's delay was not what packets waited\n"
+            "    the delay differs from the waits: it was above the target for {delays}, and waits for {waits};\n    \
+            if the delay is estimated from the departure rate, open with time stamps, as pie params does\n"
         ),
     }
 }
 
-/// Writes the time that delays were above the target, and the target and the burst allowance at the end. Then
-/// writes the number of departed packets that waited longer than the target, and their time at the head of the
-/// queue.
+/// Writes the time that delays were above the target. Then writes the number of departed packets that waited longer
+/// than the target, and their time at the head of the queue.
 #[tactic(auto, unfolding(crate::specs::Words::above_words))]
 fn push_above(page: &mut String, meter: &Meter) -> Written
     ensures { OnOk result (string_bytes page.new ≡ string_bytes page.old ++ above_words meter.now) }
 {
     let (above, late) = (Millis(meter.above), Millis(meter.late));
-    let (target, burst, longer) = (Millis(meter.target), Millis(meter.burst), meter.longer);
+    let longer = meter.longer;
     let share = Share {
         count: longer,
         all: meter.answers[LEFT],
     };
     write!(
         page,
-        "  delays were above the target for {above};\n    at the end the target was {target},\n    and the burst allowance {burst}\n"
-    )?;
-    write!(
-        page,
-        "  {longer} packets, {share} of those that left, had waited longer than the target,\n    at the head of the queue for {late}\n"
+        "  the delay was above the target for {above}\n  {longer} packets, {share} of those that left, waited longer than \
+        the target,\n    at the head of the queue for {late}\n"
     )?;
     push_disagree(page, meter.above, meter.late)
 }
 
-/// Writes the number of departures, the longest and the mean wait, the wait that 99 of 100 packets did not exceed,
-/// and the bytes carried. Then writes the numbers of the updates, and the time that delays and waits were above the
-/// target.
-#[tactic(auto, unfolding(crate::specs::Words::later_words))]
-fn push_later(page: &mut String, meter: &Meter, most: u64) -> Written
-    ensures { OnOk result (string_bytes page.new ≡ string_bytes page.old ++ later_words meter.now most) }
+/// Returns the rest of the line about the burst allowance after the last event: its consequence, unless it is 0.
+#[tactic(auto, unfolding(crate::specs::Words::left_over))]
+fn left_over(burst: u64) -> &'static str
+    ensures { result.now ≡ left_over burst }
+{
+    if burst == 0 {
+        "\n"
+    } else {
+        ":\n    until it is used up, no packet is marked or dropped early\n"
+    }
+}
+
+/// Writes the target and the burst allowance after the last event.
+#[tactic(auto, unfolding(crate::specs::Words::end_words))]
+fn push_end(page: &mut String, meter: &Meter) -> Written
+    ensures { OnOk result (string_bytes page.new ≡ string_bytes page.old ++ end_words meter.now) }
+{
+    let (target, burst, rest) = (Millis(meter.target), Millis(meter.burst), left_over(meter.burst));
+    write!(
+        page,
+        "  after the last event the target was {target}, and the burst allowance {burst}{rest}"
+    )
+}
+
+/// Writes the number of departures, the bytes that they carried, the longest and the mean wait, and the wait that 99 of
+/// 100 packets did not exceed.
+#[tactic(auto, unfolding(crate::specs::Words::departure_words))]
+fn push_departures(page: &mut String, meter: &Meter, most: u64) -> Written
+    ensures { OnOk result (string_bytes page.new ≡ string_bytes page.old ++ departure_words meter.now most) }
 {
     let (left, carried) = (meter.answers[LEFT], meter.carried);
     let (greatest, mean) = (Millis(meter.greatest_wait), Millis(meter.waits.mean(left)));
     let most = Millis(most);
     write!(
         page,
-        "  {left} packets left; they had waited at most {greatest},\n    and in the mean {mean}\n    \
-        99 of 100 had waited at most {most}\n    they carried {carried} bytes\n"
-    )?;
+        "  {left} packets left, with {carried} bytes; they waited at most {greatest},\n    on average {mean}, and 99 of 100 at most {most}\n"
+    )
+}
+
+/// Writes the departures, the numbers of the updates, the time that delays and waits were above the target, and the
+/// numbers after the last event.
+#[tactic(auto, unfolding(crate::specs::Words::later_words))]
+fn push_later(page: &mut String, meter: &Meter, most: u64) -> Written
+    ensures { OnOk result (string_bytes page.new ≡ string_bytes page.old ++ later_words meter.now most) }
+{
+    push_departures(page, meter, most)?;
     push_updates(page, meter)?;
-    push_above(page, meter)
+    push_above(page, meter)?;
+    push_end(page, meter)
 }
 
 /// Writes the moments at which the controller turned on, or off.
@@ -177,7 +207,7 @@ fn push_turned(page: &mut String, way: &str, turned: &Bounds) -> Written
         0 => Ok(()),
         count => write!(
             page,
-            "  turned {way} {count} times, first at {first},\n    and last at {last}\n"
+            "  turned {way} {count} times, first at {first}, and last at {last}\n"
         ),
     }
 }

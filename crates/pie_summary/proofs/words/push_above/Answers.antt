@@ -4,4 +4,4 @@ use Rattle.pie_summary.proofs.words.push_above.Goals as goal
 
 pub returns : goal.returns
 unfolding above_words
-returns c = simp append_assoc at (rw (c.in_ok-write-2.ensures.bytes, c.in_ok-write.ensures.bytes) at c.push_disagree.ensures)
+returns c = simp append_assoc at (rw c.in_ok-write.ensures.bytes at c.push_disagree.ensures)

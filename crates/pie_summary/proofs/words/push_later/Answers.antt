@@ -4,4 +4,5 @@ use Rattle.pie_summary.proofs.words.push_later.Goals as goal
 
 pub returns : goal.returns
 unfolding later_words
-returns c = simp append_assoc at (rw (c.in_ok-push_updates.ensures, c.in_ok-write.ensures.bytes, c.mean.ensures) at c.push_above.ensures)
+returns c =
+    simp append_assoc at (rw (c.in_ok-push_above.ensures, c.in_ok-push_updates.ensures, c.in_ok-push_departures.ensures) at c.push_end.ensures)

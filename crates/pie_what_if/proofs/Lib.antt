@@ -1,0 +1,4 @@
+pub mod RowFacts
+pub mod DecideFacts
+pub mod PassFacts
+pub mod LawFacts

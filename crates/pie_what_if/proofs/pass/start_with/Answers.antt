@@ -1,0 +1,9 @@
+use Rattle.std.proofs.Common.{refl}
+use Rattle.pie_what_if.proofs.pass.start_with.Goals as goal
+
+pub returns-clause-at : goal.returns-clause-at
+returns-clause-at c = λ capacity most. λ origin lines events begins stands. record {
+  audits = c.go_on.ensures.audits origin lines begins;
+  represents = rw (c.in-Ok.ensures.same capacity most) stands;
+  begun = refl;
+}

@@ -1,0 +1,6 @@
+pub mod Names
+pub mod Params
+pub mod Other
+pub mod Decider
+pub mod Result
+unfoldable pub use Rattle.pie_what_if.specs.{Names.*, Params.*, Other.*, Decider.*, Result.*}

@@ -1,0 +1,133 @@
+-- The other history: the events before a moment are the history's own; then the parameters change, and each later command
+-- is decided after the events of the other history.
+use Rattle.pie_what_if.specs.Names.{Answer, Bool, Command, Err, Event, Invalid, Line, List, None, Ok, Opening, Option, Origin, RawParams}
+use Rattle.pie_what_if.specs.Names.{Refusal, Result, Row, SetParams, Some, Stats, TraceFault, Valid, Version, [], answer_in, at_core, at_opening}
+use Rattle.pie_what_if.specs.Names.{caller_moment, core_along, decision, event_of, event_row, false, line_in}
+use Rattle.pie_what_if.specs.Names.{map, nat_le, not, refusal_by_rule, refusal_of, registers_after, stats_after, ℕ}
+use Rattle.pie_what_if.specs.Params.{altered, changed, changes}
+use Rattle.pie_what_if.specs.declared.alteration.Alteration.{Alteration}
+use Rattle.std.specs.Prelude.{if◌then◌else◌, ◌&&◌, ◌||◌, ◌++◌, ◌+◌, ◌^◌, ◌∷◌}
+
+-- ---- one command
+
+-- the refusal of a command after these events, without regard to a tail
+abbrev pub refusal_at : Origin → List Event → Command → Option Refusal
+refusal_at (at_opening opening) before command = refusal_by_rule opening before command
+refusal_at (at_core opening first set_by) before command = refusal_of (core_along first before) command
+
+-- the answer to a command after these events
+abbrev pub answer_at : Origin → List Event → Command → Answer
+answer_at (at_opening opening) before command = decision opening before command
+answer_at (at_core opening first set_by) before command = answer_in (core_along first before) command
+
+-- the parameters after these events
+abbrev pub params_at : Origin → List Event → RawParams
+params_at (at_opening opening) before = (registers_after opening before).params
+params_at (at_core opening first set_by) before = (core_along first before).controller.params
+
+-- the statistics of these events and those before them
+abbrev pub stats_at : Origin → List Event → Stats
+stats_at (at_opening opening) before = stats_after opening before
+stats_at (at_core opening first set_by) before = (core_along first before).stats
+
+-- the event of a command with this answer, if there is an answer
+abbrev pub event_if : ℕ → Command → Option Answer → List Event
+event_if caller command None = []
+event_if caller command (Some answer) = event_of caller command answer ∷ []
+
+-- the answer, unless the command is refused
+abbrev pub answer_unless : Option Refusal → Answer → Option Answer
+answer_unless None answer = Some answer
+answer_unless (Some why) answer = None
+
+-- the event of a command after these events: none if the command is refused
+abbrev pub decided : Origin → List Event → ℕ → Command → List Event
+decided origin before caller command = event_if caller command (answer_unless (refusal_at origin before command) (answer_at origin before command))
+
+-- ---- one line of the history
+
+-- the state between two lines: the lines of the history so far, and the events of the other history. Both include those
+-- before the text. `begun` is true if an event of the text had the moment or a later one
+pub record Point : Type 0 where
+  pub origin : Origin
+  pub lines : List Line
+  pub events : List Event
+  pub begun : Bool
+
+-- true if a line is an event of this moment or a later one
+abbrev pub is_reached : ℕ → Line → Bool
+is_reached from (Valid event) = nat_le from (caller_moment event.command)
+is_reached from _ = false
+
+-- true if a line is the first event of the moment or a later one; below, true if it is such an event or comes after one
+abbrev pub begins_with : Alteration → Point → Line → Bool
+begins_with alteration point line = not point.begun && is_reached alteration.from line
+
+abbrev pub begun_with : Alteration → Point → Line → Bool
+begun_with alteration point line = point.begun || is_reached alteration.from line
+
+-- the change of the parameters at the moment, after these events
+abbrev pub change : Alteration → Origin → List Event → List Event
+change alteration origin before =
+    if changes alteration.params then decided origin before 0 (SetParams alteration.from (changed alteration.params (params_at origin before))) else []
+
+-- the change, if it comes before this line
+abbrev pub change_before : Alteration → Point → Line → List Event
+change_before alteration point line = if begins_with alteration point line then change alteration point.origin point.events else []
+
+-- the command of a line in the other history
+abbrev pub command_with : Alteration → Bool → Command → Command
+command_with alteration begun command = if begun then altered alteration.params command else command
+
+-- the events of the other history at a line
+abbrev pub events_at : Alteration → Point → Line → List Event
+events_at alteration point (Valid event) =
+    let first = change_before alteration point (Valid event) in
+    first ++ decided point.origin (point.events ++ first) event.caller (command_with alteration (begun_with alteration point (Valid event)) event.command)
+events_at alteration point _ = []
+
+-- the state after a line
+abbrev pub point_after : Alteration → Point → Line → Point
+point_after alteration point line = record {
+  origin = point.origin;
+  lines = point.lines ++ line ∷ [];
+  events = point.events ++ events_at alteration point line;
+  begun = begun_with alteration point line;
+}
+
+-- the records of the other history at a line, whose record is `row`: those of its events. A note and a clock record are
+-- written as they were read
+abbrev pub rows_at : Alteration → Point → Line → Row → List Row
+rows_at alteration point (Valid event) row = map event_row (events_at alteration point (Valid event))
+rows_at alteration point (Invalid badly) row = []
+rows_at alteration point line row = row ∷ []
+
+-- ---- the lines of a text
+
+-- a line with its record
+pub record ReadLine : Type 0 where
+  pub line : Line
+  pub row : Row
+
+-- the lines of these records, with the records, up to the first that has a fault; `number` is the number of the first
+unfoldable pub read_from : Version → ℕ → List Row → List ReadLine
+read_from version number [] = []
+read_from version number (row ∷ rows) = up_to (line_in version (2 ^ 32) number row) row (read_from version (number + 1) rows)
+  where
+    up_to : Result Line TraceFault → Row → List ReadLine → List ReadLine
+    up_to (Ok line) row later = (record { line = line; row = row }) ∷ later
+    up_to (Err why) row later = []
+
+-- the records of the other history for these lines
+unfoldable pub other_rows : Alteration → Point → List ReadLine → List Row
+other_rows alteration point [] = []
+other_rows alteration point (read ∷ later) = rows_at alteration point read.line read.row ++ other_rows alteration (point_after alteration point read.line) later
+
+-- the state after these lines
+unfoldable pub point_at_end : Alteration → Point → List ReadLine → Point
+point_at_end alteration point [] = point
+point_at_end alteration point (read ∷ later) = point_at_end alteration (point_after alteration point read.line) later
+
+-- the state before the first line of a text that continues these events
+abbrev pub first_point : Opening → List Event → Point
+first_point opening past = record { origin = at_opening opening; lines = map Valid past; events = past; begun = false }

@@ -1,7 +1,1 @@
-pub mod Params
-pub mod Choices
-pub mod Packets
-pub mod Opening
-pub mod Events
-pub mod Stats
-pub mod Writing
+pub mod Structs

@@ -1,13 +1,13 @@
 //! Choices of an opening, from their numbers.
 ghost use Rattle.std.specs.Prelude.{◌≡◌};
-ghost use Rattle.pie_abi.specs.Choices.{elements_of, profile_of};
+ghost use Rattle.pie_abi.specs.Structs.{elements_of, profile_of};
 
 use pie_event::Profile;
 use pie_params::{Decay, Delay, Elements, Picking, Size, Step};
 
 /// Returns the optional elements of the flags `choices`.
 #[inline(always)]
-#[tactic(auto, unfolding(crate::specs::Choices::elements_of))]
+#[tactic(auto, unfolding(crate::specs::Structs::elements_of))]
 pub fn elements(choices: u64) -> Elements
     ensures { result ≡ elements_of choices }
 {

@@ -1,6 +1,6 @@
 //! Return codes of the calls, with their numbers in `include/pie.h`.
 ghost use Rattle.std.specs.Prelude.{◌≡◌};
-ghost use Rattle.pie_abi.specs.Packets.{verdict_number};
+ghost use Rattle.pie_abi.specs.Structs.{verdict_number};
 
 use pie_event::Verdict;
 

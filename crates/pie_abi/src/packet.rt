@@ -1,6 +1,6 @@
 //! The meaning of a packet's numbers.
 ghost use Rattle.std.specs.Prelude.{◌≡◌, nat_le, is_some, IfSome};
-ghost use Rattle.pie_abi.specs.Packets.{ecn_at, ecn_from, is_bad_size};
+ghost use Rattle.pie_abi.specs.Structs.{ecn_at, ecn_from, is_bad_size};
 
 use pie_queue::{Ecn, MAX_SIZE};
 

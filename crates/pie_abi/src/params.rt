@@ -1,6 +1,6 @@
 //! The numbers of the parameters' fields, and their ranges.
 ghost use Rattle.std.specs.Prelude.{◌≡◌};
-ghost use Rattle.pie_abi.specs.Params.{are_in_range, field_number};
+ghost use Rattle.pie_abi.specs.Structs.{are_in_range, field_number};
 
 use pie_params::{Field, Params, RawParams};
 
@@ -23,7 +23,7 @@ pub fn number(field: Field) -> u32
 
 /// Returns true if all parameters are in their ranges.
 #[inline(always)]
-#[tactic(auto, unfolding(crate::specs::Params::are_in_range))]
+#[tactic(auto, unfolding(crate::specs::Structs::are_in_range))]
 pub fn are_in_range(params: &RawParams) -> bool
     ensures { result ≡ are_in_range params.now }
 {

@@ -1,6 +1,6 @@
 //! Statistics in the layout of C.
 ghost use Rattle.std.specs.Prelude.{◌≡◌};
-ghost use Rattle.pie_abi.specs.Stats.{stats_of};
+ghost use Rattle.pie_abi.specs.Structs.{stats_of};
 
 use pie_event::Stats;
 

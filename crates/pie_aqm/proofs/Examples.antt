@@ -1,14 +1,9 @@
 -- Examples of the definitions: each theorem computes. A row is a call and the state of a controller of profile two
 -- after it, by the rules and by the look-back. The numbers are worked out by hand.
 use Rattle.std.specs.Prelude.{◌≡◌, refl, ⊤, ℕ, ◌+◌, ◌^◌, List, [], ◌∷◌, ◌++◌, map, Bool, true, false, Some, None}
-use Rattle.pie_aqm.specs.{RawParams, Elements, Stamp, Two, ArrivingPacket, ControllerEvent, Estimate, Parts, Call, Arrive, Depart, Advance, Update}
-use Rattle.pie_aqm.specs.{Restart, Change, after_call, event_of_call, opened, no_estimate, delay_answered, cause, with_count}
-use Rattle.pie_aqm.specs.{count_kept_open, is_between_cycles, first_unsound, state_of, now_of, params_of, active_of, departure_inputs, update_inputs}
-use Rattle.pie_aqm.specs.{arrival_inputs, departures_of, waited_of, waited_at_end, delay_at_end, control_of, early_of, is_active, activity_events, activity_events_after}
-use Rattle.pie_aqm.specs.{places, greatest, last_or, verdict, accu_left}
+use Rattle.pie_aqm.specs.{RawParams, Elements, Stamp, Two, ArrivingPacket, ControllerEvent, Estimate, Parts, Call, Arrive, Depart, Advance, Update, Restart, Change, after_call, event_of_call, opened, no_estimate, delay_answered, cause, with_count, count_kept_open, is_between_cycles, first_unsound, state_of, now_of, params_of, active_of, departure_inputs, update_inputs, arrival_inputs, departures_of, waited_of, waited_at_end, delay_at_end, control_of, early_of, is_active, activity_events, activity_events_after, places, greatest, last_or, verdict, accu_left}
 use Rattle.pie_aqm.specs.ControllerState.{ControllerState}
-use Rattle.pie_params.specs.Elements.{usual}
-use Rattle.pie_params.specs.Profile.{default_profile}
+use Rattle.pie_params.specs.Params.{usual, default_profile}
 use Rattle.pie_queue.specs.declared.ecn.Ecn.TheVariants.{NotEct}
 use Rattle.pie_rate.specs.Average.{average, samples}
 use Rattle.pie_rate.specs.Cycles.{begun, cycles, cycles_from, first_closing, first_cycle, first_opening, first_position}

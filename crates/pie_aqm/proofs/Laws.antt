@@ -1,25 +1,18 @@
--- The change of each part's list of inputs, and of the activity, by one more event.
-use Rattle.std.proofs.Common.{◌≡◌, ℕ, List, [], ◌∷◌, ◌++◌, map, Bool, true, false, refl, ap, ◌∙◌, sym, ◌&&◌, if◌then◌else◌, ◌≤◌, ◌-◌, subst, arith}
+-- The places of a history with one more event at its end, and the elements filtered from them.
+use Rattle.std.proofs.Common.{◌≡◌, ℕ, List, [], ◌∷◌, ◌++◌, Bool, true, false, refl, ap, ◌∙◌, arith, map, sym, ◌&&◌, if◌then◌else◌, ◌≤◌, ◌-◌, subst}
 use Rattle.std.specs.Prelude.{max, Option, Some, None, unwrap_or, min}
-use Rattle.std.specs.List.{filter_map, after_last}
+use Rattle.std.specs.List.{after_last, cons_option, filter_map}
+use Rattle.std.proofs.lemmas.List.{append-nil, map-append, append_assoc}
+use Rattle.std.proofs.lemmas.List.Elements.{filter_map-append}
+use Rattle.pie_early.proofs.Laws.{after_last-push_no, after_last-push_yes, represents_arrival, represents-next}
+use Rattle.pie_aqm.specs.History.{Place, places, after, greatest, last_or}
 use Rattle.std.proofs.lemmas.Bool.Decides.{nat_tests}
-use Rattle.std.proofs.lemmas.List.{append-nil, append_assoc, map-append}
-use Rattle.pie_aqm.specs.{RawParams, Departure, Profile, One, Two, ControllerEvent, Opened, moment_of, params_set, ActivityEvent, active_of, change_at}
-use Rattle.pie_aqm.specs.{change_by, clears_rate, clears_wait, clears_wait_at, control_at, update_inputs, control_of, wait_at, wait_input}
-use Rattle.pie_aqm.specs.{waited_at_end, waited_of, control_input, delay_at_end, departure_input, departure_inputs, departures_of, early_at}
-use Rattle.pie_aqm.specs.{arrival_inputs, early_of, early_input, events_of, is_active, is_active_in, is_calm_at_end, now_of, activity_event, activity_events, activity_events_after}
-use Rattle.pie_aqm.specs.{params_of, parts_of, turns_on_by, Place, last_or, places, keeps_wait, measures, Enqueue, ArrivingPacket, considered_where}
-use Rattle.pie_aqm.specs.{verdict_input, accu_left, offered, verdict, Elements, departure, Estimate, Parts, Arrive, Call, Change, Depart}
-use Rattle.pie_aqm.specs.{HasThreshold, Advance, Restart, Update, after_call, event_of_call, RepresentsCall, Arrived, Departed, Updated, Reset, Changed, Represents}
-use Rattle.pie_aqm.specs.{estimate_of, state_of, greatest, anew, bytes_with, capped, control_updated, delay_in, departed, is_calm, judged, no_estimate}
-use Rattle.pie_aqm.specs.{opened, opens_active, advanced, renewed, stays_active, turns_on, updated, wait_of}
-use Rattle.pie_aqm.proofs.Places.{filter_map-push, from_places-push, greatest-push, last_or-one, place_of, since-push, with_one}
+use Rattle.pie_aqm.specs.{RawParams, Departure, Profile, One, Two, ControllerEvent, Opened, moment_of, params_set, ActivityEvent, active_of, change_at, change_by, clears_rate, clears_wait, clears_wait_at, control_at, update_inputs, control_of, wait_at, wait_input, waited_at_end, waited_of, control_input, delay_at_end, departure_input, departure_inputs, departures_of, early_at, arrival_inputs, early_of, early_input, events_of, is_active, is_active_in, is_calm_at_end, now_of, activity_event, activity_events, activity_events_after, params_of, parts_of, turns_on_by, keeps_wait, measures, Enqueue, ArrivingPacket, considered_where, verdict_input, accu_left, offered, verdict, Elements, departure, Estimate, Parts, Arrive, Call, Change, Depart, HasThreshold, Advance, Restart, Update, after_call, event_of_call, RepresentsCall, Arrived, Departed, Updated, Reset, Changed, Represents, estimate_of, state_of, anew, bytes_with, capped, control_updated, delay_in, departed, is_calm, judged, no_estimate, opened, opens_active, advanced, renewed, stays_active, turns_on, updated, wait_of}
 use Rattle.pie_aqm.specs.ControllerState.{ControllerState}
 use Rattle.pie_aqm.proofs.Sounds.{threshold-holds}
-use Rattle.pie_params.specs.Range.{first_bad}
+use Rattle.pie_params.specs.Params.{first_bad}
 use Rattle.pie_early.specs.Decision.{effective_prob_of}
 use Rattle.pie_early.specs.Events.{EarlyEvent, arrival, cleared}
-use Rattle.pie_early.proofs.Laws.{represents_arrival, represents-next}
 use Rattle.pie_rate.specs.Estimate.{after_departure}
 use Rattle.pie_rate.proofs.Laws.{none_represented, represents_after}
 use Rattle.pie_control.specs.Events.{ControlEvent, idled, reset, update_at}
@@ -27,6 +20,65 @@ use Rattle.pie_control.proofs.Laws.{represents_idled, represents_reset, represen
 use Rattle.pie_early.specs.History as Early
 use Rattle.pie_rate.specs.Estimate as Rate
 use Rattle.pie_control.specs.History as Control
+
+-- the place of an event after these events
+abbrev pub place_of : {E : Type 0} → List E → E → Place E
+place_of history event = record { before = history; event = event }
+
+-- the last event's place is after all the others
+pub places-push : {E : Type 0} (history : List E) (event : E) → places (history ++ event ∷ []) ≡ places history ++ place_of history event ∷ []
+unfolding places
+places-push [] event = refl
+places-push (first ∷ history) event =
+    rw (places-push history event) (rw (map-append (after first) (places history) (place_of history event ∷ [])) refl)
+
+-- a list with one more element at its end, or unchanged
+abbrev pub with_one : {X : Type 0} → List X → Option X → List X
+with_one xs None = xs
+with_one xs (Some x) = xs ++ x ∷ []
+
+-- a filtered list with one more element at the end
+pub filter_map-push : {X Y : Type 0} (h : X → Option Y) (xs : List X) (x : X) → filter_map h (xs ++ x ∷ []) ≡ with_one (filter_map h xs) (h x)
+filter_map-push {X} {Y} h xs x = filter_map-append h xs (x ∷ []) ∙ by (filter_map h xs) (h x)
+  where
+    by : (kept : List Y) (entry : Option Y) → kept ++ cons_option entry [] ≡ with_one kept entry
+    by kept None = append-nil kept
+    by kept (Some y) = refl
+
+-- a filtered list of places with one more event
+pub from_places-push : {E Y : Type 0} (h : Place E → Option Y) (history : List E) (event : E)
+    → filter_map h (places (history ++ event ∷ [])) ≡ with_one (filter_map h (places history)) (h (place_of history event))
+from_places-push h history event = simp (places-push, filter_map-push)
+
+-- a filtered list of the places after the last one that clears
+pub since-push : {E Y : Type 0} (clears : Place E → Bool) (h : Place E → Option Y) (history : List E) (event : E)
+    → filter_map h (after_last clears (places (history ++ event ∷ [])))
+    ≡ (if clears (place_of history event) then [] else with_one (filter_map h (after_last clears (places history))) (h (place_of history event)))
+since-push {E} {Y} clears h history event =
+    ap (λ xs. filter_map h (after_last clears xs)) (places-push history event) ∙ by (clears (place_of history event)) refl
+  where
+    by : (b : Bool) → clears (place_of history event) ≡ b → filter_map h (after_last clears (places history ++ place_of history event ∷ []))
+        ≡ (if b then [] else with_one (filter_map h (after_last clears (places history))) (h (place_of history event)))
+    by true e = ap (λ xs. filter_map h xs) (after_last-push_yes clears (places history) (place_of history event) e)
+    by false e = ap (λ xs. filter_map h xs) (after_last-push_no clears (places history) (place_of history event) e)
+        ∙ filter_map-push h (after_last clears (places history)) (place_of history event)
+
+pub greatest-push : (xs : List ℕ) (y : ℕ) → greatest (xs ++ y ∷ []) ≡ max (greatest xs) y
+unfolding greatest
+greatest-push [] y = omega arith
+greatest-push (x ∷ xs) y = let more = greatest-push xs y in omega arith
+
+-- the last element of a list with one more element, or unchanged
+pub last_or-push : {X : Type 0} (d : X) (xs : List X) (x : X) → last_or d (xs ++ x ∷ []) ≡ x
+unfolding last_or
+last_or-push d [] x = refl
+last_or-push d (y ∷ ys) x = last_or-push y ys x
+
+pub last_or-one : {X : Type 0} (d : X) (xs : List X) (one : Option X) → last_or d (with_one xs one) ≡ unwrap_or one (last_or d xs)
+last_or-one d xs None = refl
+last_or-one d xs (Some x) = last_or-push d xs x
+
+-- ---- The change of each part's list of inputs, and of the activity, by one more event.
 
 -- ---- The moment and the parameters
 

@@ -1,4 +1,3 @@
 pub mod Examples
-pub mod Places
 pub mod Laws
 pub mod Sounds

@@ -1,10 +1,9 @@
 -- Parameters in their ranges.
-use Rattle.std.proofs.Common.{◌≡◌, ◌≤◌, arith, ◌<◌, ◌-◌, ◌^◌, ◌&&◌, ℕ, ℤ, Bool, true, false, refl, ap, subst, sym}
-use Rattle.std.proofs.Common.{if◌then◌else◌, ◌↔◌, rules}
+use Rattle.std.proofs.Common.{◌≡◌, ◌≤◌, arith, ◌<◌, ◌-◌, ◌^◌, ◌&&◌, ℕ, ℤ, Bool, true, false, refl, ap, subst, sym, if◌then◌else◌, ◌↔◌, rules}
 use Rattle.std.specs.Prelude.{None, max, Option, Some}
 use Rattle.std.proofs.lemmas.Bool.Decides.{nat_tests}
 use Rattle.pie_params.specs.declared.raw.RawParams.{RawParams}
-use Rattle.pie_params.specs.Range.{IsInRange, first_bad}
+use Rattle.pie_params.specs.Params.{IsInRange, first_bad}
 use Rattle.pie_fixed.specs.Fixed.{bounded_of}
 use Rattle.pie_aqm.specs.Types.{Elements, departure, Begun, Estimate, Parts, Profile, One, ArrivingPacket}
 use Rattle.pie_rate.specs.Average.{averaged}
@@ -14,8 +13,7 @@ use Rattle.pie_control.specs.Next.{next}
 use Rattle.pie_early.proofs.Laws.{accu_below}
 use Rattle.pie_aqm.specs.Calls.{Arrive, Call, Change, Depart, IsTaken, Advance, Restart, Update, after_call}
 use Rattle.pie_aqm.specs.ControllerState.{ControllerState, IsSound, IsWithin}
-use Rattle.pie_aqm.specs.Steps.{accu_left, anew, bytes_with, control_updated, delay_in, is_calm, judged, now_at, keeps_wait}
-use Rattle.pie_aqm.specs.Steps.{measures, opened, opens_active, stays_active, turns_on, verdict, wait_of}
+use Rattle.pie_aqm.specs.Steps.{accu_left, anew, bytes_with, control_updated, delay_in, is_calm, judged, now_at, keeps_wait, measures, opened, opens_active, stays_active, turns_on, verdict, wait_of}
 use Rattle.pie_aqm.specs.{first_unsound}
 
 pub in-range : (params : RawParams) → first_bad params ≡ None → IsInRange params

@@ -1,10 +1,9 @@
 -- Calls of a controller: the state after each, and the event that it adds.
 use Rattle.std.specs.Prelude.{◌≡◌, ℕ, ◌^◌, ◌<◌, ◌≤◌, List, [], ◌∷◌, ◌++◌, None, ⊤}
 use Rattle.pie_aqm.specs.Types.{RawParams, ArrivingPacket}
-use Rattle.pie_aqm.specs.ControllerState.{ControllerState}
-use Rattle.pie_params.specs.Range.{first_bad}
+use Rattle.pie_aqm.specs.ControllerState.{ControllerState, ControllerEvent, Opened, Arrived, Departed, Advanced, Updated, Reset, Changed}
+use Rattle.pie_params.specs.Params.{first_bad}
 use Rattle.pie_aqm.specs.History.{Represents}
-use Rattle.pie_aqm.specs.Events.{ControllerEvent, Opened, Arrived, Departed, Advanced, Updated, Reset, Changed}
 use Rattle.pie_aqm.specs.Steps.{arrived, bytes_with, changed, departed, advanced, reset, updated, verdict}
 
 -- an arrival; a departure, with the packet's size, the bytes that it leaves and the moment of its arrival; a departure

@@ -1,7 +1,7 @@
 -- The state of a controller, and its soundness.
 use Rattle.std.specs.Prelude.{◌≡◌, ℕ, ◌^◌, ◌<◌, ◌≤◌, Bool, true, nat_le, nat_lt, not, is_none, Option, Some, None, find, List, [], ◌∷◌, ⊤}
-use Rattle.pie_aqm.specs.Types.{Begun, Profile, One, Two}
-use Rattle.pie_params.specs.Range.{first_bad}
+use Rattle.pie_aqm.specs.Types.{Begun, Profile, One, Two, RawParams, Elements, Verdict}
+use Rattle.pie_params.specs.Params.{first_bad}
 use Rattle.pie_aqm.specs.declared.raw.RawController.{RawController}
 use Rattle.pie_event.specs.declared.register.Register.{Register}
 use Rattle.pie_event.specs.declared.register.Register.TheVariants as register
@@ -72,3 +72,37 @@ checked_registers =
 -- the first number that is not sound
 unfoldable pub first_unsound : ControllerState → Option Register
 first_unsound h = find (λ register. not (is_sound_at h register)) checked_registers
+
+-- ---- The opening of a controller, and its events in order.
+
+-- the opening of a controller
+pub record Opened : Type 0 where
+  pub profile : Profile
+  pub elements : Elements
+  pub params : RawParams
+  pub moment : ℕ
+
+-- an arrival, with its verdict, the packet's size, and the bytes in the queue before and after it; a departure of a
+-- packet of this size that leaves these bytes and arrived at this moment; a departure that found no packet; an update,
+-- with the bytes in the queue; a reset; new parameters. The last number is the caller's moment
+pub data ControllerEvent : Type 0 where
+  Arrived : Verdict → ℕ → ℕ → ℕ → ℕ → ControllerEvent
+  Departed : ℕ → ℕ → ℕ → ℕ → ControllerEvent
+  Advanced : ℕ → ControllerEvent
+  Updated : ℕ → ℕ → ControllerEvent
+  Reset : ℕ → ControllerEvent
+  Changed : RawParams → ℕ → ControllerEvent
+
+-- the caller's moment
+abbrev pub moment_of : ControllerEvent → ℕ
+moment_of (Arrived verdict size before after moment) = moment
+moment_of (Departed size bytes_left since moment) = moment
+moment_of (Advanced moment) = moment
+moment_of (Updated queued moment) = moment
+moment_of (Reset moment) = moment
+moment_of (Changed params moment) = moment
+
+-- the new parameters, if the event sets them
+abbrev pub params_set : ControllerEvent → Option RawParams
+params_set (Changed params moment) = Some params
+params_set _ = None

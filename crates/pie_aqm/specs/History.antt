@@ -1,11 +1,8 @@
--- The state of a controller as a look-back over all its events (RFC 8033, sections 4.1, 4.2, 4.4 and 5.1 to 5.5).
--- Nothing here accumulates: each part is computed from a list that is filtered from the events. Activity before an
--- event (section 5.3; the conditions for switching are this project's own) is recorded with each event from the oldest
--- on, and each of these records looks back over all records before it.
-use Rattle.std.specs.Prelude.{◌≡◌, ℕ, Bool, true, false, ◌&&◌, List, [], ◌∷◌, ◌++◌, map, Option, option_map, Some, None, if◌then◌else◌}
+-- Events with all events before them, and the greatest and the last element of a list.
+use Rattle.std.specs.Prelude.{ℕ, max, List, [], ◌∷◌, ◌++◌, map, ◌≡◌, Bool, true, false, ◌&&◌, Option, option_map, Some, None, if◌then◌else◌}
 use Rattle.std.specs.List.{filter_map, after_last}
 use Rattle.pie_aqm.specs.Types.{RawParams, Elements, Departure, departure, Parts, Enqueue, Mark, Drop, Profile, One, Two, Verdict, Picking}
-use Rattle.pie_aqm.specs.ControllerState.{ControllerState}
+use Rattle.pie_aqm.specs.ControllerState.{ControllerState, ControllerEvent, Opened, Arrived, Departed, Updated, Reset, Changed, moment_of, params_set}
 use Rattle.pie_rate.specs.Average.{average}
 use Rattle.pie_rate.specs.Cycles.{begun}
 use Rattle.pie_rate.specs.Estimate.{Estimate, begun_at}
@@ -16,9 +13,40 @@ use Rattle.pie_early.specs.Decision.{effective_prob, is_considered}
 use Rattle.pie_early.specs.Events.{EarlyEvent, arrival, cleared}
 use Rattle.pie_early.specs.History.{accumulated}
 use Rattle.pie_event.specs.declared.verdict.Verdict.TheVariants.{Enqueued, Marked, DroppedEarly, DroppedBytes, DroppedPackets}
-use Rattle.pie_aqm.specs.Events.{ControllerEvent, Opened, Arrived, Departed, Updated, Reset, Changed, moment_of, params_set}
-use Rattle.pie_aqm.specs.Places.{Place, places, greatest, last_or}
 use Rattle.pie_aqm.specs.Steps.{delay_by, keeps_wait, measures, wait_of, activates}
+
+-- an event of type E, and all events before it
+pub record Place (E : Type 0) : Type 0 where
+  pub before : List E
+  pub event : E
+
+-- a place of a history, with `first` before its first event
+abbrev pub after : {E : Type 0} → E → Place E → Place E
+after first place = record { before = first ∷ place.before; event = place.event }
+
+-- each event of a history, with all events before it
+unfoldable pub places : {E : Type 0} → List E → List (Place E)
+places [] = []
+places (event ∷ events) = (record { before = []; event = event }) ∷ map (after event) (places events)
+
+-- the history up to and including the event of a place
+abbrev pub up_to : {E : Type 0} → Place E → List E
+up_to place = place.before ++ place.event ∷ []
+
+-- the greatest of these numbers; 0 without a number
+unfoldable pub greatest : List ℕ → ℕ
+greatest [] = 0
+greatest (x ∷ xs) = max x (greatest xs)
+
+-- the last element, or the first argument if the list is empty
+unfoldable pub last_or : {X : Type 0} → X → List X → X
+last_or x [] = x
+last_or x (y ∷ ys) = last_or y ys
+
+-- ---- The state of a controller as a look-back over all its events (RFC 8033, sections 4.1, 4.2, 4.4 and 5.1 to 5.5).
+-- Nothing here accumulates: each part is computed from a list that is filtered from the events. Activity before an
+-- event (section 5.3; the conditions for switching are this project's own) is recorded with each event from the oldest
+-- on, and each of these records looks back over all records before it.
 
 -- the effective moment: the greatest of the opening moment and the moments of all events
 unfoldable pub now_of : Opened → List ControllerEvent → ℕ

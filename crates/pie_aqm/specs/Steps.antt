@@ -1,9 +1,7 @@
 -- The rules: the state of a controller after each call, from the state before it (RFC 8033, sections 4.1, 4.2, 4.4, 5.1
 -- to 5.5, and Appendix A for tail drop; the conditions for switching in profile two are this project's own).
-use Rattle.std.specs.Prelude.{ℕ, ◌+◌, ◌-◌, ◌*◌, ◌^◌, ◌==◌, max, ◌&&◌, not, nat_lt, nat_le, Bool, true, false, Option, Some, None, is_none}
-use Rattle.std.specs.Prelude.{min, option_map, if◌then◌else◌}
-use Rattle.pie_aqm.specs.Types.{RawParams, Elements, Delay, Rate, Stamp, departure, Estimate, Parts, Offered, Choice, Enqueue}
-use Rattle.pie_aqm.specs.Types.{Profile, One, Two, ArrivingPacket, Verdict}
+use Rattle.std.specs.Prelude.{ℕ, ◌+◌, ◌-◌, ◌*◌, ◌^◌, ◌==◌, max, ◌&&◌, not, nat_lt, nat_le, Bool, true, false, Option, Some, None, is_none, min, option_map, if◌then◌else◌}
+use Rattle.pie_aqm.specs.Types.{RawParams, Elements, Delay, Rate, Stamp, departure, Estimate, Parts, Offered, Choice, Enqueue, Profile, One, Two, ArrivingPacket, Verdict}
 use Rattle.pie_aqm.specs.ControllerState.{ControllerState}
 use Rattle.pie_rate.specs.Estimate.{Begun, after_departure}
 use Rattle.pie_control.specs.Delay.{delay_of}
@@ -15,7 +13,7 @@ pub use Rattle.pie_early.specs.Decision.{chosen}
 use Rattle.pie_event.specs.declared.cause.Cause.{Cause}
 use Rattle.pie_event.specs.declared.cause.Cause.TheVariants.{NoRoomInBytes, NoRoomInPackets, Inactive}
 use Rattle.pie_event.specs.declared.verdict.Verdict.TheVariants.{DroppedBytes, DroppedPackets}
-use Rattle.pie_event.specs.Verdict.{is_queued}
+use Rattle.pie_event.specs.Cause.{is_queued}
 
 -- the effective moment: the greatest up to now
 abbrev pub now_at : ControllerState → ℕ → ℕ

@@ -1,9 +1,7 @@
 //! The controller and its calls, for numbers in their ranges.
 ghost use Rattle.std.specs.Prelude.{◌≡◌, ◌+◌, ◌^◌, ◌≤◌, ◌↔◌, List, [], ◌∷◌, ◌++◌, true, false, None, Some, IsOk, IfOk, IfErr};
-ghost use Rattle.pie_aqm.specs.{Arrive, Change, Depart, Advance, Restart, Update, IsSound, Represents, RepresentsCall, first_unsound, arrived, cause, changed};
-ghost use Rattle.pie_aqm.specs.{delay_answered, delay_in, departed, due, is_too_soon, opened, advanced, reset, updated, verdict};
-ghost use Rattle.pie_event.specs.Cause.{verdict_of};
-ghost use Rattle.pie_event.specs.Verdict.{is_queued};
+ghost use Rattle.pie_aqm.specs.{Arrive, Change, Depart, Advance, Restart, Update, IsSound, Represents, RepresentsCall, first_unsound, arrived, cause, changed, delay_answered, delay_in, departed, due, is_too_soon, opened, advanced, reset, updated, verdict};
+ghost use Rattle.pie_event.specs.Cause.{verdict_of, is_queued};
 
 use crate::{ArrivingPacket, Cause, Profile, RawController, Register, Verdict};
 use pie_fixed::Nanos;

@@ -1,8 +1,7 @@
 //! Laws: a controller's state stays in its ranges and equals the look-back.
 ghost use Rattle.std.specs.Prelude.{◌≡◌, ◌≤◌, ◌<◌, ◌^◌, ◌++◌, ◌∷◌, [], ℕ, List, None};
-ghost use Rattle.pie_aqm.specs.{RawParams, Elements, Profile, ControllerEvent, Opened, Call, IsTaken, after_call, event_of_call, IsSound, Represents, state_of};
-ghost use Rattle.pie_aqm.specs.{opened};
-ghost use Rattle.pie_params.specs.Range.{first_bad};
+ghost use Rattle.pie_aqm.specs.{RawParams, Elements, Profile, ControllerEvent, Opened, Call, IsTaken, after_call, event_of_call, IsSound, Represents, state_of, opened};
+ghost use Rattle.pie_params.specs.Params.{first_bad};
 ghost use Rattle.pie_aqm.specs.ControllerState.{ControllerState};
 
 /// States that a controller's state is sound at its opening and after each call whose moment and parameters are in

@@ -1,10 +1,7 @@
 //! The controller's rules over plain numbers.
 ghost use Rattle.std.specs.Prelude.{◌≡◌, ◌+◌, ◌^◌, ◌<◌, ◌≤◌, ℕ, IfSome, max, min, true, false};
-ghost use Rattle.pie_event.specs.Cause.{verdict_named, verdict_of};
-ghost use Rattle.pie_aqm.specs.{IsSound, accu_left, anew, arrived, capped, cause, changed, count_kept_open, delay_answered, delay_in, departed, due};
-ghost use Rattle.pie_aqm.specs.{is_too_soon, is_between_cycles, measures, opened, opens_active, advanced, reset, updated, verdict, wait_of, with_count};
-ghost use Rattle.pie_event.specs.CauseName.{name_of};
-ghost use Rattle.pie_event.specs.Verdict.{is_queued};
+ghost use Rattle.pie_event.specs.Cause.{verdict_named, verdict_of, name_of, is_queued};
+ghost use Rattle.pie_aqm.specs.{IsSound, accu_left, anew, arrived, capped, cause, changed, count_kept_open, delay_answered, delay_in, departed, due, is_too_soon, is_between_cycles, measures, opened, opens_active, advanced, reset, updated, verdict, wait_of, with_count};
 
 use crate::verdict::activates;
 use crate::{ArrivingPacket, Cause, CauseName, Profile, Verdict};

@@ -1,26 +1,15 @@
 -- The state of a core that represents a history equals the look-back over the history, and after each command the core
 -- represents the history with one more event.
-use Rattle.std.proofs.Common.{◌≡◌, ◌≤◌, ◌<◌, ◌+◌, ℕ, List, [], ◌∷◌, ◌++◌, map, length, true, refl, ap, subst, ◌∙◌, sym, arith, length-append, max}
-use Rattle.std.proofs.Common.{None, Some, All, is_some, append-nil, drop, Bool, cond, drop-drop, length-drop, if◌then◌else◌}
-use Rattle.std.proofs.Common.{sum_by, ◌↔◌, add-zero}
+use Rattle.std.proofs.Common.{◌≡◌, ◌≤◌, ◌<◌, ◌+◌, ℕ, List, [], ◌∷◌, ◌++◌, map, length, true, refl, ap, subst, ◌∙◌, sym, arith, length-append, max, None, Some, All, is_some, append-nil, drop, Bool, cond, drop-drop, length-drop, if◌then◌else◌, sum_by, ◌↔◌, add-zero}
 use Rattle.std.proofs.lemmas.Bool.Decides.{nat_tests}
 use Rattle.std.proofs.lemmas.List.{map-append, drop-append-le, append_assoc}
 use Rattle.std.proofs.lemmas.List.Elements.{All-cons, All-head, All-nil, All-push, All-tail, All-pop}
 use Rattle.std.proofs.lemmas.List.Sums.{sum_by_push}
-use Rattle.pie_book.specs.{Packet, Waiting, One, ControllerState, Command, Arrive, Depart, Answer, Event, Opening, arrival_of, cause_after, CoreView}
-use Rattle.pie_book.specs.{Represents, counted, refusal_of, registers_of, with_queue, IsLegal, IsLegalAt, answer_by, decision, refusal_by_rule}
-use Rattle.pie_book.specs.{delay_after, delay_answered, state_after, admitted, bytes_after, departed_count, effective_moment, waiting_after}
-use Rattle.pie_book.specs.{registers_after, event_of, opened_of, controller_events, age_of_oldest, largest_delay, largest_queue, stats_after, waited, answer_in}
-use Rattle.pie_book.specs.{call_in, waiting_next, bytes_of, HasThreshold, after_call, Place, places, greatest, Effect, effect, departure, fits, caller_moment}
-use Rattle.pie_book.specs.{effect_of, admission, departed, marked, queued, count_of, is_departure, bytes_departed, is_update, first_bad, SetParams}
-use Rattle.pie_book.specs.{IsNext, CommandFits, refusal_with, active_after, arriving_size, controller_event, oldest_since, controller_event_at, core_after}
-use Rattle.pie_book.specs.{first_core, registers_with, after_calls, call_at, calls_of, state_after_calls, Follows, cause_in, apply_in, outcome}
-use Rattle.pie_book.specs.{core_along}
+use Rattle.pie_book.specs.{Packet, Waiting, One, ControllerState, Command, Arrive, Depart, Answer, Event, Opening, arrival_of, cause_after, CoreView, Represents, counted, refusal_of, registers_of, with_queue, IsLegal, IsLegalAt, answer_by, decision, refusal_by_rule, delay_after, delay_answered, state_after, admitted, bytes_after, departed_count, effective_moment, waiting_after, registers_after, event_of, opened_of, controller_events, age_of_oldest, largest_delay, largest_queue, stats_after, waited, answer_in, call_in, waiting_next, bytes_of, HasThreshold, after_call, Place, places, greatest, Effect, effect, departure, fits, caller_moment, effect_of, admission, departed, marked, queued, count_of, is_departure, bytes_departed, is_update, first_bad, SetParams, IsNext, CommandFits, refusal_with, active_after, arriving_size, controller_event, oldest_since, controller_event_at, core_after, first_core, registers_with, after_calls, call_at, calls_of, state_after_calls, Follows, cause_in, apply_in, outcome, core_along}
 use Rattle.pie_aqm.specs.Steps.{cause, now_at}
-use Rattle.pie_aqm.proofs.Places.{place_of, places-push, from_places-push, greatest-push, with_one}
+use Rattle.pie_aqm.proofs.Laws.{place_of, places-push, from_places-push, greatest-push, with_one, Represents_call, Represents_opened, state_is, in_range_has_threshold, one_is_active}
 use Rattle.pie_aqm.specs.Calls.{event_of_call, Call}
-use Rattle.pie_aqm.specs.Places.{after}
-use Rattle.pie_aqm.proofs.Laws.{Represents_call, Represents_opened, state_is, in_range_has_threshold, one_is_active}
+use Rattle.pie_aqm.specs.History.{after}
 use Rattle.pie_aqm.specs.History as Controller
 use Rattle.pie_aqm.specs.Steps as Steps
 

@@ -3,10 +3,9 @@
 -- back.
 use Rattle.std.specs.Prelude.{⊤, ℕ, ◌≡◌, ◌+◌, ◌^◌, List, [], ◌∷◌, ◌++◌, true, false, map, take, length, Some, None, Ok, Err}
 use Rattle.std.proofs.Common.{refl, ap, arith}
-use Rattle.pie_params.specs.Profile.{default_profile}
-use Rattle.pie_params.specs.Elements.{usual}
+use Rattle.pie_params.specs.Params.{default_profile, usual}
 use Rattle.pie_queue.specs.declared.ecn.Ecn.TheVariants.{NotEct, Ect0}
-use Rattle.pie_event.specs.Effect.{nothing}
+use Rattle.pie_event.specs.Event.{nothing}
 use Rattle.pie_event.specs.declared.register.Register.TheVariants.{Accu}
 use Rattle.pie_event.specs.declared.registers.Registers.{Registers}
 use Rattle.pie_event.specs.declared.resume_refusal.ResumeRefusal.TheVariants as resume
@@ -15,20 +14,13 @@ use Rattle.pie_event.specs.declared.resume_refusal.EndRefusal.TheVariants as end
 use Rattle.pie_book.specs.declared.snapshot.CoreSnapshot.{CoreSnapshot}
 use Rattle.pie_event.specs.declared.refusal.Refusal.TheVariants.{Moment, Size, TooSoon, Exhausted, HistoryFull}
 use Rattle.pie_aqm.proofs.Examples.{small, worked as worked_calls}
-use Rattle.pie_book.specs.Run.{Step, applied, folded, start, without_folds, answers, answers_from, before_full, progress_after, event_of}
-use Rattle.pie_book.specs.{Packet, Command, Arrive, Depart, Update, Reset, SetParams, Answer, Enqueued, Marked, DroppedEarly, DroppedBytes}
-use Rattle.pie_book.specs.{Empty, Left, Updated, Done, Event, Mode, Bounded, Rolling, One, Opening, RawParams, Stats, caller_moment}
-use Rattle.pie_book.specs.{registers_after, largest_queue, largest_delay, stats_after, waited, state_after, effective_moment, admitted, departed_count}
-use Rattle.pie_book.specs.{waiting_after, controller_events, effect, fits, last_events, without_last, tail_with, first_run, core_after, first_core, CoreView}
-use Rattle.pie_book.specs.{IsLegalAt, refusal_after, state_after_calls, calls_of, after_calls, resume_refusal, queue_refusal}
-use Rattle.pie_book.specs.{end_refusal, core_of, ResumingView, are_reached, DroppedPackets, ExcerptView, event_of_recorded, MayOpen, HasLimits}
-use Rattle.pie_book.specs.{AreInOrder, AreQueued, ArrivedBy, ArrivedFrom, IsNotContinued, Profile, Two, Elements, Waiting}
+use Rattle.pie_book.specs.Book.{Step, applied, folded, start, without_folds, answers, answers_from, before_full, progress_after, event_of}
+use Rattle.pie_book.specs.{Packet, Command, Arrive, Depart, Update, Reset, SetParams, Answer, Enqueued, Marked, DroppedEarly, DroppedBytes, Empty, Left, Updated, Done, Event, Mode, Bounded, Rolling, One, Opening, RawParams, Stats, caller_moment, registers_after, largest_queue, largest_delay, stats_after, waited, state_after, effective_moment, admitted, departed_count, waiting_after, controller_events, effect, fits, last_events, without_last, tail_with, first_run, core_after, first_core, CoreView, IsLegalAt, refusal_after, state_after_calls, calls_of, after_calls, resume_refusal, queue_refusal, end_refusal, core_of, ResumingView, are_reached, DroppedPackets, ExcerptView, event_of_recorded, MayOpen, HasLimits, AreInOrder, AreQueued, ArrivedBy, ArrivedFrom, IsNotContinued, Profile, Two, Elements, Waiting, recorded_event_in, has_room, most_kept, apply_in, cause_in, core_along, no_stats, step_in, are_balanced, ControllerState}
 use Rattle.pie_book.proofs.BalanceFacts.{queued_none, queued_resumed}
 use Rattle.std.proofs.lemmas.List.Elements.{All-head}
 use Rattle.pie_params.specs.declared.elements.Delay.{Delay}
 use Rattle.pie_params.specs.declared.elements.Delay.TheVariants.{Rate, Stamp}
 use Rattle.pie_book.specs.declared.book.ContinueRefusal.TheVariants as continue
-use Rattle.pie_book.specs.{recorded_event_in, has_room, most_kept, apply_in, cause_in, core_along, no_stats, step_in, are_balanced, ControllerState}
 use Rattle.pie_params.specs.declared.elements.Picking.TheVariants.{Random}
 use Rattle.pie_aqm.specs.Steps.{cause}
 use Rattle.pie_event.specs.declared.cause.Cause.TheVariants as causes

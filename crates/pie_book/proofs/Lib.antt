@@ -1,6 +1,5 @@
 pub mod CoreFacts
 pub mod BookFacts
-pub mod ConsistencyFacts
 pub mod BalanceFacts
 pub mod RunFacts
 pub mod RangeFacts

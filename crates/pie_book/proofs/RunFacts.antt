@@ -1,8 +1,6 @@
 -- Folds change no answer: up to the first `HistoryFull`, the answers of a run are those of the rules, with any folds.
-use Rattle.std.proofs.Common.{◌≡◌, ◌≤◌, ◌+◌, ◌==◌, ℕ, List, [], ◌∷◌, ◌++◌, Bool, true, false, cond, take, refl, sym, ap, ◌∙◌, arith, min, Option}
-use Rattle.std.proofs.Common.{Some, None, Result, Ok, Err, one-add, not, take-take}
-use Rattle.pie_book.specs.Run.{Step, applied, folded, Progress, CallerCommand, event_of, refused_or, recorded, tail_length_after_fold, answers_from, answers}
-use Rattle.pie_book.specs.Run.{without_folds, is_full, before_full, AreSameUntilFull}
+use Rattle.std.proofs.Common.{◌≡◌, ◌≤◌, ◌+◌, ◌==◌, ℕ, List, [], ◌∷◌, ◌++◌, Bool, true, false, cond, take, refl, sym, ap, ◌∙◌, arith, min, Option, Some, None, Result, Ok, Err, one-add, not, take-take}
+use Rattle.pie_book.specs.Book.{Step, applied, folded, Progress, CallerCommand, event_of, refused_or, recorded, tail_length_after_fold, answers_from, answers, without_folds, is_full, before_full, AreSameUntilFull}
 use Rattle.pie_event.specs.declared.refusal.Refusal.TheVariants.{HistoryFull}
 use Rattle.pie_book.specs.Types.{Command, Answer, Event, Mode, Rolling, Opening, Refusal}
 use Rattle.std.proofs.lemmas.Bool.Decides.{nat_tests}

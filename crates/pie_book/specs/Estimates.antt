@@ -4,8 +4,7 @@ use Rattle.std.specs.Prelude.{ℕ, Bool, List}
 use Rattle.pie_book.specs.Types.{RawParams, ControllerState, Event, Opening, Parts}
 use Rattle.pie_aqm.specs.History.{state_of}
 use Rattle.pie_aqm.specs.Steps as Steps
-use Rattle.pie_book.specs.History.{bytes_after}
-use Rattle.pie_book.specs.ControllerEvents.{opened_of, controller_events}
+use Rattle.pie_book.specs.History.{bytes_after, opened_of, controller_events}
 
 unfoldable pub state_after : Opening → List Event → ControllerState
 state_after opening history = state_of (opened_of opening) (controller_events opening history)

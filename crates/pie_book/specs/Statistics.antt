@@ -1,12 +1,10 @@
 -- The statistics after a history: counts, sums and greatest values over all its events.
-use Rattle.std.specs.Prelude.{ℕ, ◌-◌, Bool, true, false, List, [], ◌∷◌, map, Option, Some, None, count_by, sum_by, if◌then◌else◌, filter_map, is_some}
-use Rattle.std.specs.Prelude.{◌≡◌, ◌*◌, ◌^◌, ◌≤◌, ◌&&◌, nat_le}
+use Rattle.std.specs.Prelude.{ℕ, ◌-◌, Bool, true, false, List, [], ◌∷◌, map, Option, Some, None, count_by, sum_by, if◌then◌else◌, filter_map, is_some, ◌≡◌, ◌*◌, ◌^◌, ◌≤◌, ◌&&◌, nat_le, length}
 use Rattle.std.specs.Option.{option_map_or}
-use Rattle.pie_book.specs.Types.{Packet, Waiting, Event, Opening, Stats, Place, places, up_to, greatest, Effect, effect_of, departure, is_arrival}
-use Rattle.pie_book.specs.Types.{is_update, queued, marked, dropped_early, dropped_bytes, dropped_packets, found_none, was_reset}
-use Rattle.pie_event.specs.Effect.{sets_params}
+use Rattle.pie_book.specs.Types.{Packet, Waiting, Event, Opening, Stats, Place, places, up_to, greatest, Effect, effect_of, departure, is_arrival, is_update, queued, marked, dropped_early, dropped_bytes, dropped_packets, found_none, was_reset, ControllerState, Registers, bytes_of}
+use Rattle.pie_event.specs.Event.{sets_params}
 use Rattle.pie_book.specs.History.{effective_moment, waiting_after, bytes_after}
-use Rattle.pie_book.specs.Estimates.{delay_answered}
+use Rattle.pie_book.specs.Estimates.{delay_answered, state_after}
 
 abbrev pub is_queued : Effect → Bool
 is_queued (queued packet) = true
@@ -130,3 +128,29 @@ are_reached count s =
 -- statistics that at most 2 ^ 47 events permit
 abbrev pub IsReached : ℕ → Stats → Type 0
 IsReached count s = (count ≤ 2 ^ 47) × (are_reached count s ≡ true)
+
+-- ---- The registers of a core or a book after a history.
+
+-- the registers after `count` events, at this effective moment, from the state of the controller and the waiting
+-- packets
+abbrev pub registers_with : ℕ → ℕ → ControllerState → List Waiting → Registers
+registers_with count moment state waiting = record {
+  count = count;
+  moment = moment;
+  packets = length waiting;
+  bytes = bytes_of waiting;
+  prob = state.control.prob;
+  old = state.control.old_delay;
+  accu = state.accu;
+  burst = state.control.burst;
+  last = state.control.last;
+  average = state.rate.average;
+  measuring = is_some state.rate.begun;
+  params = state.params;
+  active = state.active;
+}
+
+-- the registers after a history
+unfoldable pub registers_after : Opening → List Event → Registers
+registers_after opening history =
+    registers_with (length history) (effective_moment opening history) (state_after opening history) (waiting_after opening history)

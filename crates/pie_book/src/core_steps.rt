@@ -1,10 +1,8 @@
 //! Decisions of a core: its controller makes one call, its queue takes or releases a packet, and its tally counts the
 //! event.
 ghost use Rattle.std.specs.Prelude.{◌≡◌, ◌<◌, ◌++◌, ◌∷◌, [], List, None, Some, IfOk, IfErr, OnErr, OnOk, ◌==◌, ◌≤◌, ◌^◌, ◌+◌, length, true, false};
-ghost use Rattle.pie_book.specs.{Event, Opening, decision, refusal_by_rule, event_of, refused_or, Arrive, Depart, Update, Reset, SetParams};
-ghost use Rattle.pie_book.specs.{caller_moment, arrival_effect, IsSize, bytes_of, HasThreshold, Represents, largest_queue_updated, refusal_of, after_command, answer_in};
-ghost use Rattle.pie_book.specs.{call_in, arrival_of, departure_call, waiting_next, answer_of, step_in, core_after, IsNext};
-ghost use Rattle.pie_event.specs.Verdict.{is_queued};
+ghost use Rattle.pie_book.specs.{Event, Opening, decision, refusal_by_rule, event_of, refused_or, Arrive, Depart, Update, Reset, SetParams, caller_moment, arrival_effect, IsSize, bytes_of, HasThreshold, Represents, largest_queue_updated, refusal_of, after_command, answer_in, call_in, arrival_of, departure_call, waiting_next, answer_of, step_in, core_after, IsNext};
+ghost use Rattle.pie_event.specs.Cause.{is_queued};
 
 use crate::core_state::{Core, RawCore};
 use crate::recorded::{Recorded, RecordedEvent};

@@ -1,11 +1,7 @@
 //! Laws. Each function has an empty body: its contract is the law.
 ghost use Rattle.std.specs.Prelude.{◌≡◌, List, true, ◌++◌, ◌∷◌, [], ℕ, All, None, nat_lt};
-ghost use Rattle.pie_book.specs.{One, Event, Rolling, Opening, CoreView, Represents, registers_of, registers_after, active_after, answers, without_folds};
-ghost use Rattle.pie_book.specs.{AreSameUntilFull, RawParams, Command, IsLegal, decision, refusal_by_rule, event_of, stats_after, Update, first_core};
-ghost use Rattle.pie_book.specs.{core_after, state_after_calls, opened_by, call_of, refusal_of, answer_by, is_too_soon, waiting_after, first_bad};
-ghost use Rattle.pie_book.specs.{answer_in, apply_in, cause_after, cause_in, core_along, outcome, Follows};
-ghost use Rattle.pie_book.specs.{fits, opening_refusal, AnswerFits, CommandFits, ParamsFit, RegistersFit, StatsFit, after_call};
-ghost use Rattle.pie_book.specs.Run.{Step};
+ghost use Rattle.pie_book.specs.{One, Event, Rolling, Opening, CoreView, Represents, registers_of, registers_after, active_after, answers, without_folds, AreSameUntilFull, RawParams, Command, IsLegal, decision, refusal_by_rule, event_of, stats_after, Update, first_core, core_after, state_after_calls, opened_by, call_of, refusal_of, answer_by, is_too_soon, waiting_after, first_bad, answer_in, apply_in, cause_after, cause_in, core_along, outcome, Follows, fits, opening_refusal, AnswerFits, CommandFits, ParamsFit, RegistersFit, StatsFit, after_call};
+ghost use Rattle.pie_book.specs.Book.{Step};
 ghost use Rattle.pie_aqm.specs.Steps.{due, due_of, now_at};
 
 /// States that folds change no answer except `HistoryFull`. If two runs from one opening have the same commands in the

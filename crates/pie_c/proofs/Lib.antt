@@ -2,5 +2,3 @@ mod Names
 pub mod Sound
 mod Examples
 pub mod Packets
-pub mod WrittenFacts
-pub mod SummedFacts

@@ -1,18 +1,12 @@
 -- The state after a call for a packet is the controller's state, if it was sound.
-use Rattle.std.specs.Prelude.{IsTrue, None}
-use Rattle.pie_c.specs.{Arrive, Call, Change, IsTaken, Advance, Restart, after_call, event_of_call, ControllerEvent, Opened, Represents, Arrives, Departs, Leaves}
-use Rattle.pie_c.specs.{Makes, Advances, Steps, params_refusal, KeepsSound, LooksBack}
-use Rattle.pie_c.proofs.Names.{reset_refusal, ◌≡◌, ℕ, ◌≤◌, ◌<◌, ◌^◌, ◌==◌, if◌then◌else◌, nat_lt, Bool, true, false, List, [], ◌∷◌, Some, ◌++◌}
-use Rattle.pie_c.proofs.Names.{arith, refl, ◌∙◌, eqb-true, nat_tests, ArrivingPacket, Verdict, Depart, RawParams, first_bad, ControllerState, accu_left}
-use Rattle.pie_c.proofs.Names.{arrived, capped, count_kept_open, departed, is_between_cycles, cause, opened, advanced, verdict, with_count, name_of}
-use Rattle.pie_c.proofs.Names.{CauseName, RawParams, PieState, is_bad_size, departure_refusal, waited_refusal, moment_refusal, if_taken}
-use Rattle.pie_c.proofs.Names.{packet_refusal, unless_refused, PieOpening, Opening, opening_of, opening_refusal, opening_state}
-use Rattle.pie_c.proofs.Names.{elements_of, last_moment, controller_state, is_sound, state_of, takes_stamps, are_in_range, with_arrival, with_departure}
-use Rattle.pie_c.proofs.Names.{with_rate, with_registers, ap}
+use Rattle.std.specs.Prelude.{IsTrue, None, All, map, nat_le}
+use Rattle.pie_c.specs.{Arrive, Call, Change, IsTaken, Advance, Restart, after_call, event_of_call, ControllerEvent, Opened, Represents, Arrives, Departs, Leaves, Makes, Advances, Steps, params_refusal, KeepsSound, LooksBack, flat_map, Waiting, rows_text, text_of, event_row, written_rows, queued_row, resumed_rows, PieStats, WrittenEvent, opening_text, event_of_written, written_text, CanWait, bits_of, is_snapshot, queued_text, resume_of, resume_text, set_by_of, snapshot_in, waiting_text}
+use Rattle.pie_c.proofs.Names.{reset_refusal, ◌≡◌, ℕ, ◌≤◌, ◌<◌, ◌^◌, ◌==◌, if◌then◌else◌, nat_lt, Bool, true, false, List, [], ◌∷◌, Some, ◌++◌, arith, refl, ◌∙◌, eqb-true, nat_tests, ArrivingPacket, Verdict, Depart, RawParams, first_bad, ControllerState, accu_left, arrived, capped, count_kept_open, departed, is_between_cycles, cause, opened, advanced, verdict, with_count, name_of, CauseName, PieState, is_bad_size, departure_refusal, waited_refusal, moment_refusal, if_taken, packet_refusal, unless_refused, PieOpening, Opening, opening_of, opening_refusal, opening_state, elements_of, last_moment, controller_state, is_sound, state_of, takes_stamps, are_in_range, with_arrival, with_departure, with_rate, with_registers, ap, suc, Ecn, Event, waiting_after, opening_in}
 use Rattle.std.proofs.Common.{max, Ok}
-use Rattle.pie_params.specs.Range.{is_dq_threshold}
+use Rattle.pie_params.specs.Params.{is_dq_threshold}
 use Rattle.pie_aqm.specs.Steps.{changed, reset}
 use Rattle.pie_c.proofs.Sound.{choices-back, controller-sound, controller-of-state, params-from, state-of-controller, state-sound}
+use Rattle.std.proofs.lemmas.Grind.{flat_map-append}
 
 -- ---- A call that is accepted
 
@@ -216,3 +210,49 @@ pub opened-state : (s : PieState) (o : PieOpening) (it : Opening) (raw : RawPara
     → with_registers (record s { params = o.params; profile = o.profile; choices = o.choices }) h ≡ state_of (opening_state o)
 unfolding opening_refusal state_of
 opened-state s o it raw h says same is = let back = choices-back o.choices in grind (arith, nat_tests)
+
+-- ---- The texts of waiting packets and of events are their records.
+
+event-written : (k : WrittenEvent) (e : Event) → event_of_written k ≡ Some e → written_text k ≡ text_of (event_row e)
+event-written k e is = grind (arith, nat_tests)
+
+events-written : (kept : List WrittenEvent) (events : List Event) → map event_of_written kept ≡ map Some events
+    → flat_map written_text kept ≡ flat_map text_of (map event_row events)
+events-written [] [] is = refl
+events-written [] (e ∷ events) is = cc
+events-written (k ∷ kept) [] is = cc
+events-written (k ∷ kept) (e ∷ events) is = grind (arith, event-written k e, events-written kept events)
+
+packet-written : (tag size since : ℕ) (ecn : Ecn) → is_bad_size size ≡ false → nat_le since last_moment ≡ true
+    → queued_text tag size (bits_of ecn) since
+    ≡ text_of (queued_row (record { packet = record { tag = tag; size = size; ecn = ecn }; since = since }))
+packet-written tag size since ecn good early = grind (arith, nat_tests)
+
+packets-written : (packets : List Waiting) → All CanWait packets → flat_map waiting_text packets ≡ flat_map text_of (map queued_row packets)
+packets-written [] can = refl
+packets-written (w ∷ packets) can =
+    let first : CanWait w = can 0 w (omega arith) in
+    let rest : All CanWait packets = λ k d below. can (suc k) d (omega (arith, below)) in
+    let early : nat_le w.since last_moment ≡ true = let since = first.since in grind (since, arith, nat_tests) in
+    rw (packet-written w.packet.tag w.packet.size w.since w.packet.ecn first.size early, packets-written packets rest) refl
+
+pub whole_written : (o : PieOpening) (events : List Event) (kept : List WrittenEvent) → opening_refusal o ≡ 0 → map event_of_written kept ≡ map Some events
+    → opening_text (opening_of o) ++ flat_map written_text kept ≡ rows_text (written_rows (opening_in o) events)
+unfolding rows_text
+whole_written o events kept free is = rw (free, events-written kept events is) refl
+
+pub part_written : (o : PieOpening) (s : PieState) (t : PieStats) (count set_by packets bytes : ℕ) (waiting : List Waiting) (events : List Event)
+    (kept : List WrittenEvent) → opening_refusal o ≡ 0 → is_sound s ≡ true → is_snapshot o s count packets bytes ≡ true → All CanWait waiting
+    → map event_of_written kept ≡ map Some events
+    → resume_text (resume_of o s t count set_by packets bytes) ++ (flat_map waiting_text waiting ++ flat_map written_text kept)
+    ≡ rows_text (resumed_rows (opening_in o) (snapshot_in s t count packets bytes) waiting (set_by_of set_by) (map event_row events))
+unfolding rows_text
+part_written o s t count set_by packets bytes waiting events kept free sound stands can is =
+    rw (
+      free,
+      sound,
+      stands,
+      events-written kept events is,
+      packets-written waiting can,
+      flat_map-append text_of (map queued_row waiting) (map event_row events),
+    ) refl

@@ -2,12 +2,9 @@
 //! refuse an unsound state. Each call refuses arguments out of range, executes the step of the controller, and writes
 //! the changed numbers back.
 ghost use Rattle.std.specs.Prelude.{◌≡◌, ◌<◌, ◌+◌, ◌-◌, ◌^◌, ◌≤◌, ℕ, if◌then◌else◌, min, true, Some};
-ghost use Rattle.pie_c.specs.{Change, Depart, Restart, arrived, capped, cause, departed, verdict, elements_of, controller_state, is_sound};
-ghost use Rattle.pie_c.specs.{takes_stamps, with_departure, with_rate, KeepsSound, LooksBack, Arrives, Departs, Makes, Advances, Steps, Takes};
-ghost use Rattle.pie_c.specs.{arrival_of, arrival_refusal, departure_refusal, moment_refusal, params_refusal, reset_refusal, state_refusal};
-ghost use Rattle.pie_c.specs.{update_refusal, updated_by, waited_refusal};
+ghost use Rattle.pie_c.specs.{Change, Depart, Restart, arrived, capped, cause, departed, verdict, elements_of, controller_state, is_sound, takes_stamps, with_departure, with_rate, KeepsSound, LooksBack, Arrives, Departs, Makes, Advances, Steps, Takes, arrival_of, arrival_refusal, departure_refusal, moment_refusal, params_refusal, reset_refusal, state_refusal, update_refusal, updated_by, waited_refusal};
 ghost use Rattle.pie_aqm.specs.Calls.{Update};
-ghost use Rattle.pie_event.specs.CauseName.{name_of};
+ghost use Rattle.pie_event.specs.Cause.{name_of};
 
 use crate::checked::{is_sound, raw, raw_with, takes_stamps, usual_but_delay};
 use crate::state::{PieState, PieUpdated};
@@ -69,7 +66,7 @@ pub extern "C" fn pie_arrive(
 /// that the controller is active and the ring has room, the code for activation and for a full ring is removed. The
 /// moment is written first, so that it occupies no processor register from then on.
 #[inline(always)]
-#[tactic(auto, unfolding(crate::specs::Calls::arrival_refusal))]
+#[tactic(auto, unfolding(crate::specs::State::arrival_refusal))]
 pub(crate) fn arrive(
     state: &mut PieState,
     elements: Elements,
@@ -192,7 +189,7 @@ fn depart_unmeasured(state: &mut PieState, size: u32, left: u64, moment: u64) ->
 
 /// Adds any departure.
 #[inline(never)]
-#[tactic(auto, unfolding(crate::specs::Calls::packet_refusal))]
+#[tactic(auto, unfolding(crate::specs::State::packet_refusal))]
 fn depart(state: &mut PieState, size: u32, left: u64, moment: u64) -> u32
     ensures { Takes state.old (departure_refusal state.old size left moment)
         (with_rate state.old (departed (capped (controller_state state.old)) size left 0 moment)) result state.new }
@@ -241,7 +238,7 @@ pub extern "C" fn pie_depart_waited(
 
 /// Adds a departure if delays come from time stamps.
 #[inline(always)]
-#[tactic(auto, unfolding(crate::specs::Calls::packet_refusal))]
+#[tactic(auto, unfolding(crate::specs::State::packet_refusal))]
 fn depart_stamped(state: &mut PieState, size: u32, left: u64, arrived: u64, moment: u64) -> u32
     requires { takes_stamps state.old ≡ true }
     ensures { Takes state.old (waited_refusal state.old size left arrived moment)
@@ -268,7 +265,7 @@ fn depart_stamped(state: &mut PieState, size: u32, left: u64, arrived: u64, mome
 
 /// Adds a departure that found the queue empty. Only its moment counts.
 #[inline(always)]
-#[tactic(auto, unfolding(crate::specs::Calls::moment_refusal))]
+#[tactic(auto, unfolding(crate::specs::State::moment_refusal))]
 #[unsafe(no_mangle)]
 pub extern "C" fn pie_empty(state: &mut PieState, moment: u64) -> u32
     ensures answer { result ≡ moment_refusal moment }
@@ -288,7 +285,7 @@ pub extern "C" fn pie_empty(state: &mut PieState, moment: u64) -> u32
 /// A calm update deactivates a controller of profile two. For an inactive controller only the moment counts, and the
 /// delay is 0 (RFC 8033, section 5.3).
 #[inline(always)]
-#[tactic(auto, unfolding(crate::specs::Calls::update_refusal))]
+#[tactic(auto, unfolding(crate::specs::State::update_refusal))]
 #[unsafe(no_mangle)]
 pub extern "C" fn pie_update(state: &mut PieState, queued: u64, moment: u64) -> PieUpdated
     ensures answer { result ≡ updated_by state.old queued moment }
@@ -326,7 +323,7 @@ pub extern "C" fn pie_due(state: &PieState) -> u64
 /// Sets probability, old delay, accumulated probability and rate estimate to 0 and the burst allowance to `max_burst`.
 /// Parameters, last update and activity are unchanged.
 #[inline(always)]
-#[tactic(auto, unfolding(crate::specs::Calls::reset_refusal))]
+#[tactic(auto, unfolding(crate::specs::State::reset_refusal))]
 #[unsafe(no_mangle)]
 pub extern "C" fn pie_reset(state: &mut PieState, moment: u64) -> u32
     ensures answer { result ≡ reset_refusal state.old moment }
@@ -349,7 +346,7 @@ pub extern "C" fn pie_reset(state: &mut PieState, moment: u64) -> u32
 ///
 /// Refuses, in this order, an unsound state, parameters out of range, and a moment out of range.
 #[inline(always)]
-#[tactic(auto, unfolding(crate::specs::Calls::params_refusal))]
+#[tactic(auto, unfolding(crate::specs::State::params_refusal))]
 #[unsafe(no_mangle)]
 pub extern "C" fn pie_set_params(state: &mut PieState, params: &RawParams, moment: u64) -> u32
     ensures answer { result ≡ params_refusal state.old params.now moment }

@@ -34,7 +34,7 @@ pub extern "C" fn pie_open_period(period: &mut LiveInterval, every: u64, wall: u
 /// Sets the wall-clock time: `unix` nanoseconds since 1970-01-01T00:00:00Z at the moment `moment` of the caller's
 /// clock.
 #[unsafe(no_mangle)]
-#[tactic(auto, unfolding(crate::specs::Calls::moment_refusal))]
+#[tactic(auto, unfolding(crate::specs::State::moment_refusal))]
 pub extern "C" fn pie_period_clock(period: &mut LiveInterval, moment: u64, unix: u64) -> u32
     ensures code { result ≡ moment_refusal moment }
     ensures clock { period.new ≡ (if moment_refusal moment == 0

@@ -1,21 +1,16 @@
 -- Facts about the end of a subcommand and its output, and about the files meanwhile.
 use Rattle.std.proofs.lemmas.Bool.Decides.{nat_tests}
-use Rattle.pie_commands.proofs.Names.{◌≡◌, ◌≤◌, ℕ, List, Option, Some, arith, IfSome, EndsBy, EndsRead, End, status_of, inr, inl, refl, Ok, Err, TraceFault}
-use Rattle.pie_commands.proofs.Names.{Row, records_of, HasLast, Fault, CutsLast, end_of_cut, last_of, None, subst, sym, Elements, EndsStorm}
-use Rattle.pie_commands.proofs.Names.{elements_in, numbers_in, storm_ends, Done, Failed, IsWriteOrMemory, Bool, true, false, IsSome, Text, file_of, Held}
-use Rattle.pie_commands.proofs.Names.{IsEmpty, Keeps, Places, Settles, NoOutputFile, ◌&&◌, if◌then◌else◌, not, after_output, EndsAt, EndsIn, is_whole}
+use Rattle.pie_commands.proofs.Names.{◌≡◌, ◌≤◌, ℕ, List, Option, Some, arith, IfSome, EndsBy, EndsRead, End, status_of, inr, inl, refl, Ok, Err, TraceFault, Row, records_of, HasLast, Fault, CutsLast, end_of_cut, last_of, None, subst, sym, Elements, EndsStorm, elements_in, numbers_in, storm_ends, Done, Failed, IsWriteOrMemory, Bool, true, false, IsSome, Text, file_of, Held, IsEmpty, Keeps, Places, Settles, NoOutputFile, ◌&&◌, if◌then◌else◌, not, after_output, EndsAt, EndsIn, is_whole}
 use Rattle.pie_record.specs.Text.{Row as Fields}
 use Rattle.std.proofs.lemmas.Option.{IfSome_then}
 use Rattle.pie_cut.specs.declared.fault.CutFault.TheVariants.{Trace}
-use Rattle.pie_cut.specs.Answer.{CutsText}
+use Rattle.pie_cut.specs.Excerpt.{CutsText}
 use Rattle.pie_event.specs.declared.command.Event.{Event}
 use Rattle.pie_book.specs.Decision.{IsLegal}
 use Rattle.pie_storm.specs.declared.plan_numbers.StormNumbers.{StormNumbers}
 use Rattle.pie_storm.specs.declared.plan.Plan.{Plan}
-use Rattle.pie_storm.specs.Plans.{opening_of}
-use Rattle.pie_storm.specs.Storms.{IsStorm}
-use Rattle.pie_storm.specs.StormHistory.{WritesHistory}
-use Rattle.pie_storm.specs.StormPlan.{IsStormPlan}
+use Rattle.pie_storm.specs.Plans.{opening_of, IsStormPlan}
+use Rattle.pie_storm.specs.Storms.{IsStorm, WritesHistory}
 use Rattle.pie_commands.specs.Files.{IsHindered, MayHave}
 
 -- ---- the status

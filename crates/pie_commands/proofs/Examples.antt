@@ -1,14 +1,10 @@
 -- Worked examples: the subcommand of a command line, the values of its options, the choice of events, and an audit of files.
-use Rattle.pie_commands.proofs.Names.{◌≡◌, [], ◌∷◌, None, Some, codes, refl, true, Text, clap_on_literals, Asks, file_in, files_in, is_joined}
-use Rattle.pie_commands.proofs.Names.{number_or, options_in, output_in, List, Selection, selection_of, Part, Last, Every, Once, around, between}
-use Rattle.pie_commands.proofs.Names.{cut_request_of, Ok, Err, false, Joined, is_broken, lines_of}
+use Rattle.pie_commands.proofs.Names.{◌≡◌, [], ◌∷◌, None, Some, codes, refl, true, Text, clap_on_literals, Asks, file_in, files_in, is_joined, number_or, options_in, output_in, List, Selection, selection_of, Part, Last, Every, Once, around, between, cut_request_of, Ok, Err, false, Joined, is_broken, lines_of}
 use Rattle.pie_explain.specs.declared.choice.EventChoice.{EventChoice}
 use Rattle.pie_explain.specs.declared.choice.EventChoice.TheVariants.{Number, Lost, All}
 use Rattle.pie_units.specs.declared.when.When.TheVariants.{Moment, Unix}
-use Rattle.pie_units.specs.Date.{day_number}
-use Rattle.pie_units.specs.Utc.{date_part, has_marks, nanos_in, seconds_part, unix_of, utc_in, utc_with}
-use Rattle.pie_units.specs.Scale.{is_word, time_scale}
-use Rattle.pie_units.specs.Number.{digit_count, number_after}
+use Rattle.pie_units.specs.Time.{day_number, date_part, has_marks, nanos_in, seconds_part, unix_of, utc_in, utc_with}
+use Rattle.pie_units.specs.Number.{is_word, time_scale, digit_count, number_after}
 use Rattle.std.specs.Fmt.{digits}
 use Rattle.pie_audit.specs.declared.auditor.Finding.TheVariants.{Clean, Differs}
 use Rattle.pie_commands.specs.declared.audit.Unaudited.TheVariants.{Unopened}

@@ -1,7 +1,5 @@
 -- Facts about the getters of `clap`: they return the option's value on the command line.
-use Rattle.pie_commands.proofs.Names.{◌≡◌, ◌∙◌, ◌-◌, ◌^◌, ℕ, List, Bool, true, false, Option, Some, None, arith, codes, refl, sym, ap, Result, Ok}
-use Rattle.pie_commands.proofs.Names.{Err, option_and_then, unwrap_or, if◌then◌else◌, option_map_or, bytes_eq, ParsesBool, ParsesUnsigned}
-use Rattle.pie_commands.proofs.Names.{digits_value, without_leading_plus, ReadsOne, number_of, option_map, units_of}
+use Rattle.pie_commands.proofs.Names.{◌≡◌, ◌∙◌, ◌-◌, ◌^◌, ℕ, List, Bool, true, false, Option, Some, None, arith, codes, refl, sym, ap, Result, Ok, Err, option_and_then, unwrap_or, if◌then◌else◌, option_map_or, bytes_eq, ParsesBool, ParsesUnsigned, digits_value, without_leading_plus, ReadsOne, number_of, option_map, units_of}
 use Rattle.std.proofs.lemmas.Slice.Eq.{bytes_eq-Decides}
 use Rattle.clap.specs.ValueTests.{accepts}
 use Rattle.clap.specs.declared.builder.value_parser.ValueParser.TheVariants.{Unsigned}
@@ -10,10 +8,9 @@ use Rattle.std.specs.Option.{option_transpose}
 use Rattle.clap.specs.Matches.{TriesOne}
 use Rattle.pie_units.specs.declared.moment.Moment.{Moment}
 use Rattle.pie_units.specs.declared.moment.MomentFault.{MomentFault}
-use Rattle.pie_units.specs.Moment.{ParsesMoment, moment_in}
+use Rattle.pie_units.specs.Time.{ParsesMoment, moment_in, ParsesWhen, when_in}
 use Rattle.pie_units.specs.declared.when.When.{When}
 use Rattle.pie_units.specs.declared.when.WhenFault.{WhenFault}
-use Rattle.pie_units.specs.When.{ParsesWhen, when_in}
 
 -- ---- a number
 

@@ -1,6 +1,5 @@
 -- `pie cut`: the selection by its options, and its end.
-use Rattle.std.specs.Prelude.{ℕ, ◌≡◌, ◌==◌, ◌+◌, ◌-◌, ◌^◌, ◌<◌, List, Bool, true, false, Option, Some, None, Result, Ok, Err, ⊤, codes, min, not}
-use Rattle.std.specs.Prelude.{unwrap_or, if◌then◌else◌}
+use Rattle.std.specs.Prelude.{ℕ, ◌≡◌, ◌==◌, ◌+◌, ◌-◌, ◌^◌, ◌<◌, List, Bool, true, false, Option, Some, None, Result, Ok, Err, ⊤, codes, min, not, unwrap_or, if◌then◌else◌}
 use Rattle.std.specs.Result.{result_ok}
 use Rattle.std.specs.Str.{bytes_eq}
 use Rattle.clap.specs.Words.{Row, Text}
@@ -9,9 +8,7 @@ use Rattle.pie_record.specs.Text.{Row as Fields}
 use Rattle.pie_cut.specs.declared.fault.CutFault.{CutFault}
 use Rattle.pie_cut.specs.declared.fault.CutFault.TheVariants as fault
 use Rattle.pie_cut.specs.declared.span.Span.{Span}
-use Rattle.pie_cut.specs.Answer.{CutsText, HasTextResult}
-use Rattle.pie_cut.specs.Last.{HasLast}
-use Rattle.pie_cut.specs.Segment.{IsInSegments, every_answer}
+use Rattle.pie_cut.specs.Excerpt.{CutsText, HasTextResult, HasLast, IsInSegments, every_answer}
 use Rattle.pie_units.specs.declared.when.When.{When}
 use Rattle.pie_commands.specs.Words.{number_given}
 use Rattle.pie_commands.specs.declared.end.End.{End}

@@ -1,11 +1,10 @@
 -- The end of a run, a migration and an audit: the exit status and the output.
-use Rattle.std.specs.Prelude.{ℕ, ◌≡◌, ◌⊎◌, ◌^◌, ◌++◌, ◌&&◌, if◌then◌else◌, not, List, [], Bool, true, false, Option, Some, None, Result, Ok, Err, codes}
-use Rattle.std.specs.Prelude.{IfErr, IfOk, IfSome}
+use Rattle.std.specs.Prelude.{ℕ, ◌≡◌, ◌⊎◌, ◌^◌, ◌++◌, ◌&&◌, if◌then◌else◌, not, List, [], Bool, true, false, Option, Some, None, Result, Ok, Err, codes, IfErr, IfOk, IfSome}
 use Rattle.std.specs.Fmt.{decimal}
 use Rattle.std.specs.Io.KnownBytes.{Appends}
 use Rattle.pie_record.specs.declared.fault.TraceFault.{TraceFault}
 use Rattle.pie_record.specs.declared.fault.TraceFault.TheVariants as trace_fault
-use Rattle.pie_record.specs.Fault.{NoIoOrMemoryFailed, is_io_or_memory}
+use Rattle.pie_record.specs.Field.{NoIoOrMemoryFailed, is_io_or_memory}
 use Rattle.pie_trace.specs.declared.run.RunEnd.{RunEnd}
 use Rattle.pie_trace.specs.Migrate.{history_events, history_fault, migrated_text}
 use Rattle.pie_trace.specs.Runs.{RunsText}

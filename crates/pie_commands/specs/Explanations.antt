@@ -1,6 +1,5 @@
 -- `pie explain`: the choice of events by its options, the form of the explanations, and its end.
-use Rattle.std.specs.Prelude.{ℕ, ◌==◌, ◌&&◌, ◌||◌, Bool, true, false, not, List, Option, Some, None, Result, Ok, Err, codes, if◌then◌else◌, is_some}
-use Rattle.std.specs.Prelude.{nat_le, option_map}
+use Rattle.std.specs.Prelude.{ℕ, ◌==◌, ◌&&◌, ◌||◌, Bool, true, false, not, List, Option, Some, None, Result, Ok, Err, codes, if◌then◌else◌, is_some, nat_le, option_map}
 use Rattle.std.specs.Option.{option_transpose}
 use Rattle.std.specs.Result.{result_ok}
 use Rattle.clap.specs.Words.{Row, Text, one_of}
@@ -12,8 +11,7 @@ use Rattle.pie_units.specs.declared.moment.Moment.{Moment}
 use Rattle.pie_units.specs.declared.moment.MomentFault.{MomentFault}
 use Rattle.pie_explain.specs.declared.choice.EventChoice.{EventChoice}
 use Rattle.pie_explain.specs.declared.choice.EventChoice.TheVariants.{Number, Tag, Lost, Marked, All}
-use Rattle.pie_units.specs.Moment.{moment_in}
-use Rattle.pie_units.specs.When.{when_in}
+use Rattle.pie_units.specs.Time.{moment_in, when_in}
 use Rattle.pie_units.specs.declared.when.When.{When}
 use Rattle.pie_units.specs.declared.when.WhenFault.{WhenFault}
 use Rattle.pie_explain.specs.Output.{as_records, in_words, pages}

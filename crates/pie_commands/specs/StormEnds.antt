@@ -15,13 +15,12 @@ use Rattle.pie_params.specs.declared.elements.Step.TheVariants.{Capped, Uncapped
 use Rattle.pie_params.specs.declared.elements.Size.{Size}
 use Rattle.pie_params.specs.declared.elements.Size.TheVariants.{Unscaled, Scaled}
 use Rattle.pie_record.specs.FirstRecord.{one_of_two}
-use Rattle.pie_record.specs.Words.{decay_word, delay_word, picking_word, size_word, step_word}
+use Rattle.pie_record.specs.Field.{decay_word, delay_word, picking_word, size_word, step_word, IsWriteOrMemory}
 use Rattle.pie_storm.specs.declared.plan_numbers.StormNumbers.{StormNumbers}
 use Rattle.pie_storm.specs.declared.plan.Plan.{Plan}
 use Rattle.pie_commands.specs.Words.{number_or}
-use Rattle.pie_storm.specs.StormHistory.{WritesStorm}
-use Rattle.pie_storm.specs.StormPlan.{IsStormPlan}
-use Rattle.pie_record.specs.Fault.{IsWriteOrMemory}
+use Rattle.pie_storm.specs.Storms.{WritesStorm}
+use Rattle.pie_storm.specs.Plans.{IsStormPlan}
 use Rattle.pie_commands.specs.declared.end.End.{End}
 use Rattle.pie_commands.specs.declared.end.End.TheVariants.{Done, Differs, Fault, Unopened, CannotStart, NoOutputFile, Failed}
 use Rattle.pie_commands.specs.Ends.{WritesNothing}

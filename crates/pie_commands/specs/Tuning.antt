@@ -3,8 +3,8 @@ use Rattle.std.specs.Prelude.{ℕ, ◌≡◌, ◌<◌, ◌≤◌, ◌^◌, ◌�
 use Rattle.std.specs.Str.{bytes_eq}
 use Rattle.std.specs.Io.KnownBytes.{Appends}
 use Rattle.clap.specs.Words.{Row, Text, first_of}
-use Rattle.pie_params.specs.Range.{IsInRange}
-use Rattle.pie_units.specs.Layer.{overhead_of}
+use Rattle.pie_params.specs.Params.{IsInRange}
+use Rattle.pie_units.specs.Opening.{overhead_of, default_packets, elements_for, gain_of, opening_for, params_for}
 use Rattle.pie_units.specs.declared.layer.Layer.{Layer}
 use Rattle.pie_units.specs.declared.layer.LinkLayer.{LinkLayer}
 use Rattle.pie_units.specs.declared.layer.LinkLayer.TheVariants.{Atm, Ethernet}
@@ -15,8 +15,7 @@ use Rattle.pie_record.specs.Text.{text_of}
 use Rattle.pie_record.specs.Write.{opening_row}
 use Rattle.pie_units.specs.declared.unit.Quantity.{Quantity}
 use Rattle.pie_units.specs.declared.unit.Quantity.TheVariants.{Packets, Rate}
-use Rattle.pie_units.specs.Opening.{default_packets, elements_for, gain_of, opening_for, params_for}
-use Rattle.pie_units.specs.Units.{packets_of, rate_of, time_of}
+use Rattle.pie_units.specs.Number.{packets_of, rate_of, time_of}
 use Rattle.pie_commands.specs.Words.{flag_given, number_or}
 use Rattle.pie_record.specs.declared.fault.TraceFault.TheVariants as trace_fault
 use Rattle.pie_commands.specs.StormEnds.{decay_in}

@@ -1,7 +1,7 @@
 //! `pie params`: converts options of `tc` to the record that opens a book.
 ghost use Rattle.std.specs.Prelude.{◌≡◌, IfSome, None, codes, option_map};
 ghost use Rattle.clap.specs.Words.{first_of, found_of, rows_of};
-ghost use Rattle.pie_units.specs.Layer.{overhead_of};
+ghost use Rattle.pie_units.specs.Opening.{overhead_of};
 ghost use Rattle.pie_units.specs.declared.layer.Layer.{Layer};
 ghost use Rattle.pie_units.specs.declared.layer.Overhead.{Overhead};
 ghost use Rattle.pie_units.specs.declared.options.TuningOptions.{TuningOptions};

@@ -2,7 +2,7 @@
 ghost use Rattle.std.specs.Prelude.{◌≡◌, option_map};
 ghost use Rattle.clap.specs.Words.{found_of, rows_of};
 ghost use Rattle.pie_commands.specs.StormEnds.{EndsStorm, choice_by, decay_in, elements_in, numbers_in};
-ghost use Rattle.pie_storm.specs.StormPlan.{HasStormRange};
+ghost use Rattle.pie_storm.specs.Plans.{HasStormRange};
 
 use crate::end::{End, end_failed, end_unable, end_with_fault};
 use crate::options::{flag, number_or, text};

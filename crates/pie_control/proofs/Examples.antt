@@ -5,12 +5,10 @@ use Rattle.std.specs.Prelude.{pos, map, true, false}
 use Rattle.pie_fixed.specs.declared.TheConstants.{ONE}
 use Rattle.pie_control.specs.declared.update.TheConstants.{CAPPED_FROM, LARGEST_STEP, MAX_DELAY}
 use Rattle.pie_params.specs.declared.raw.RawParams.{RawParams}
-use Rattle.pie_params.specs.Profile.{default_profile}
-use Rattle.pie_params.specs.Elements.{usual}
+use Rattle.pie_params.specs.Params.{default_profile, usual}
 use Rattle.pie_params.specs.declared.elements.Decay.TheVariants.{Half}
 use Rattle.pie_params.specs.declared.elements.Step.TheVariants.{Uncapped}
-use Rattle.pie_control.specs.{delay_of, ControlEvent, idled, update_at, probability, last_delay, granted_burst}
-use Rattle.pie_control.specs.{is_calm_after, raw_step, tuning_divisor, tuned_step, decayed, next}
+use Rattle.pie_control.specs.{delay_of, ControlEvent, idled, update_at, probability, last_delay, granted_burst, is_calm_after, raw_step, tuning_divisor, tuned_step, decayed, next}
 
 -- values of the constants: the greatest delay is 2 ^ 40 nanoseconds, the cap begins at 0.1, and the largest step is
 -- 0.02

@@ -1,3 +1,2 @@
 mod Examples
 pub mod Laws
-pub mod Bounds

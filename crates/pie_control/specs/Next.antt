@@ -7,7 +7,7 @@ use Rattle.pie_params.specs.declared.elements.Decay.{Decay}
 use Rattle.pie_params.specs.declared.elements.Decay.TheVariants.{Half, Zero}
 use Rattle.pie_params.specs.declared.elements.Elements.{Elements}
 use Rattle.pie_params.specs.declared.elements.Step.{Step}
-use Rattle.pie_params.specs.Elements.{is_capped}
+use Rattle.pie_params.specs.Params.{is_capped}
 
 -- the change of the probability before auto-tuning: alpha times the difference of delay and target, plus beta times the
 -- change of the delay

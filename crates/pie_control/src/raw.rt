@@ -1,6 +1,6 @@
 //! The control law over plain numbers.
 ghost use Rattle.std.specs.Prelude.{◌≡◌, ◌^◌, ◌≤◌};
-ghost use Rattle.pie_params.specs.Range.{IsInRange};
+ghost use Rattle.pie_params.specs.Params.{IsInRange};
 ghost use Rattle.pie_control.specs.declared.update.TheConstants.{MAX_DELAY};
 ghost use Rattle.pie_control.specs.{burst_after, ends_calm, next};
 

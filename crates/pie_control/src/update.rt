@@ -2,9 +2,8 @@ ghost use Rattle.std.specs.Prelude.{◌≡◌, ℕ, ◌+◌, ◌^◌, ◌<◌, �
 ghost use Rattle.std.specs.Int.{int_min};
 ghost use Rattle.pie_fixed.specs.declared.TheConstants.{ONE};
 ghost use Rattle.pie_fixed.specs.Fixed.{bounded_of};
-ghost use Rattle.pie_params.specs.Range.{IsInRange};
+ghost use Rattle.pie_params.specs.Params.{IsInRange, is_capped, usual};
 ghost use Rattle.pie_control.specs.{delay_of, are_below_half, decayed, decays, next, raw_step, tuned_step, tuning_divisor};
-ghost use Rattle.pie_params.specs.Elements.{is_capped, usual};
 ghost use Rattle.pie_params.specs.declared.elements.Step.TheVariants.{Capped};
 
 use pie_fixed::{Prob, bounded};
@@ -98,7 +97,7 @@ fn raw_step(params: &RawParams, delay: u64, old: u64) -> i64
 /// Divides `step` by the divisor of auto-tuning at `prob`, the probability before the update. Each divisor is a constant
 /// power of two, which the compiler turns into a shift.
 #[inline(always)]
-#[tactic(auto, using(crate::proofs::Bounds::quotients), unfolding(crate::specs::Next::tuning_divisor))]
+#[tactic(auto, using(crate::proofs::Laws::quotients), unfolding(crate::specs::Next::tuning_divisor))]
 fn tuned(prob: u64, step: i64) -> i64
     requires above { negsuc (2 ^ 62) ≤ℤ step }
     requires below { step ≤ℤ pos (2 ^ 62) }
@@ -119,7 +118,7 @@ fn tuned(prob: u64, step: i64) -> i64
 
 /// Returns the step after auto-tuning, and after the cap if it is chosen. `prob` is the probability before the update.
 #[inline(always)]
-#[tactic(auto, using(crate::proofs::Bounds::quotients), unfolding(crate::specs::Next::tuned_step))]
+#[tactic(auto, using(crate::proofs::Laws::quotients), unfolding(crate::specs::Next::tuned_step))]
 fn tuned_step(choice: Step, prob: u64, step: i64) -> i64
     requires above { negsuc (2 ^ 62) ≤ℤ step }
     requires below { step ≤ℤ pos (2 ^ 62) }

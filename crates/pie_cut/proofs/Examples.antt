@@ -1,6 +1,6 @@
 -- Worked selections, segments of a text and joints: each theorem computes.
 use Rattle.pie_cut.proofs.Names.{CoreView, EndView, Gap, None, Opening, Option, Position, Some, Span, Unlike, ap, arith, false, refl, true, ℕ, ◌≡◌}
-use Rattle.pie_cut.specs.{Excerpt.is_past, Excerpt.is_reached, Joined.JoinsBy, Segment.segment, declared.joint_audit.Joint.TheVariants.Follows}
+use Rattle.pie_cut.specs.{Excerpt.is_past, Excerpt.is_reached, Joined.JoinsBy, Excerpt.segment, declared.joint_audit.Joint.TheVariants.Follows}
 use Rattle.pie_record.specs.Field.{number}
 use Rattle.pie_units.specs.declared.{when.When.When, when.When.TheVariants.Moment, when.When.TheVariants.Unix}
 

@@ -1,5 +1,5 @@
 mod Names
-pub mod LoopFacts
+pub mod PartFacts
 pub mod TextFacts
 mod PartFacts
 mod Examples

@@ -1,12 +1,10 @@
 -- Examples of the definitions: each theorem computes. bindings/c/rows.c has rows for the bounds of considered, picked
 -- and marked arrivals.
-use Rattle.pie_early.proofs.Names.{Elements, Random, Parts, Ecn, Offered, Enqueue, Drop, a_fifth, accu_after}
-use Rattle.pie_early.proofs.Names.{always_picked, choice_of, is_considered, is_picked, no_pick_below, arrival, accumulated}
+use Rattle.pie_early.proofs.Names.{Elements, Random, Parts, Ecn, Offered, Enqueue, Drop, a_fifth, accu_after, always_picked, choice_of, is_considered, is_picked, no_pick_below, arrival, accumulated}
 use Rattle.std.specs.Prelude.{◌≡◌, ℕ, ◌^◌, ◌*◌, ◌-◌, true, [], ◌∷◌, map, refl}
 use Rattle.pie_fixed.specs.declared.TheConstants.{ALWAYS_PICKED, ONE}
-use Rattle.pie_params.specs.Profile.{default_profile}
+use Rattle.pie_params.specs.Params.{default_profile, usual}
 use Rattle.pie_params.specs.declared.elements.Size.TheVariants.{Unscaled, Scaled}
-use Rattle.pie_params.specs.Elements.{usual}
 use Rattle.pie_queue.specs.declared.ecn.Ecn.TheVariants.{NotEct, Ect0}
 use Rattle.pie_early.specs.declared.early.TheConstants.{LOW_PROB, NO_PICK_BELOW}
 use Rattle.pie_early.specs.Decision.{effective_prob}

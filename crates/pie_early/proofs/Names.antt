@@ -13,7 +13,7 @@ unfoldable pub use Rattle.pie_early.specs.History.{accumulated}
 pub use Rattle.pie_early.specs.declared.decision.Offered.{Offered}
 pub use Rattle.pie_early.specs.declared.early.Choice.{Choice}
 pub use Rattle.pie_early.specs.declared.early.Choice.TheVariants.{Drop, Enqueue}
-pub use Rattle.pie_params.specs.Elements.{accumulates}
+pub use Rattle.pie_params.specs.Params.{accumulates}
 pub use Rattle.pie_params.specs.declared.elements.Elements.{Elements}
 pub use Rattle.pie_params.specs.declared.elements.Picking.{Picking}
 pub use Rattle.pie_params.specs.declared.elements.Picking.TheVariants.{Derandomized, Random}

@@ -5,13 +5,12 @@ use Rattle.std.specs.Prelude.{ℕ, ◌+◌, ◌*◌, ◌==◌, not, ◌&&◌, na
 use Rattle.pie_params.specs.declared.raw.RawParams.{RawParams}
 use Rattle.pie_params.specs.declared.elements.Elements.{Elements}
 use Rattle.pie_params.specs.declared.elements.Picking.{Picking}
-use Rattle.pie_params.specs.Elements.{accumulates}
+use Rattle.pie_params.specs.Params.{accumulates}
 use Rattle.pie_control.specs.Parts.{Parts}
 use Rattle.pie_queue.specs.declared.ecn.Ecn.{Ecn}
-use Rattle.pie_queue.specs.Ecn.{is_capable}
+use Rattle.pie_queue.specs.Queue.{is_capable}
 use Rattle.pie_event.specs.declared.cause.Cause.{Cause}
-use Rattle.pie_event.specs.declared.cause.Cause.TheVariants.{BurstAllowed, LowDelay, ShortQueue}
-use Rattle.pie_event.specs.declared.cause.Cause.TheVariants.{NoProbability, LittleAccumulated, PickedBySum, PickedByWord, WordNotBelow}
+use Rattle.pie_event.specs.declared.cause.Cause.TheVariants.{BurstAllowed, LowDelay, ShortQueue, NoProbability, LittleAccumulated, PickedBySum, PickedByWord, WordNotBelow}
 use Rattle.pie_event.specs.declared.cause.Fate.{Fate}
 use Rattle.pie_event.specs.declared.cause.Fate.TheVariants.{Marked, NotCapable, NotBelow}
 use Rattle.pie_early.specs.declared.decision.Offered.{Offered}

@@ -9,10 +9,10 @@ use Rattle.pie_params.specs.declared.elements.Picking.{Picking}
 use Rattle.pie_params.specs.declared.elements.Picking.TheVariants.{Derandomized, Random}
 use Rattle.pie_params.specs.declared.elements.Size.{Size}
 use Rattle.pie_params.specs.declared.elements.Size.TheVariants.{Unscaled, Scaled}
-use Rattle.pie_params.specs.Elements.{accumulates}
+use Rattle.pie_params.specs.Params.{accumulates}
 use Rattle.pie_control.specs.Parts.{Parts}
 use Rattle.pie_queue.specs.declared.ecn.Ecn.{Ecn}
-use Rattle.pie_queue.specs.Ecn.{is_capable}
+use Rattle.pie_queue.specs.Queue.{is_capable}
 use Rattle.pie_early.specs.declared.decision.Offered.{Offered}
 use Rattle.pie_early.specs.declared.early.Choice.{Choice}
 use Rattle.pie_early.specs.declared.early.Choice.TheVariants.{Enqueue, Mark, Drop}

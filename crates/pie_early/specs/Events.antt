@@ -1,7 +1,7 @@
 -- Inputs of an `Early`: arrivals and clears, in order.
 use Rattle.std.specs.Prelude.{ℕ, Bool, true, false, ◌&&◌, ◌||◌, ◌==◌}
 use Rattle.pie_params.specs.declared.elements.Picking.{Picking}
-use Rattle.pie_params.specs.Elements.{accumulates}
+use Rattle.pie_params.specs.Params.{accumulates}
 use Rattle.pie_early.specs.declared.early.Choice.{Choice}
 use Rattle.pie_early.specs.Decision.{is_pick}
 

@@ -1,7 +1,6 @@
 ghost use Rattle.std.specs.Prelude.{◌≡◌, ◌+◌, ◌*◌, ◌==◌, ◌≤◌, ◌&&◌, ◌||◌, ℕ, nat_lt, is_none, Some, if◌then◌else◌};
 ghost use Rattle.pie_params.specs.declared.elements.Size.TheVariants.{Scaled};
-ghost use Rattle.pie_event.specs.Cause.{verdict_named, verdict_of};
-ghost use Rattle.pie_event.specs.CauseName.{name_of};
+ghost use Rattle.pie_event.specs.Cause.{verdict_named, verdict_of, name_of};
 ghost use Rattle.pie_early.specs.Cause.{considered_cause, early_cause, fate_of};
 ghost use Rattle.pie_early.specs.Decision.{a_fifth, accu_after, choice_of, chosen, effective_prob, is_below, is_considered, is_picked, joined};
 

@@ -1,8 +1,3 @@
 pub mod Types
-pub mod Verdict
 pub mod Cause
-pub mod CauseName
-pub mod Opening
-pub mod Effect
-pub mod Ranges
-pub mod Setter
+pub mod Event

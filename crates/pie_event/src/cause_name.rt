@@ -1,7 +1,6 @@
 //! Names of causes.
 ghost use Rattle.std.specs.Prelude.{◌≡◌, ◌<◌};
-ghost use Rattle.pie_event.specs.Cause.{verdict_named};
-ghost use Rattle.pie_event.specs.CauseName.{name_of, place_of_cause, word_of_cause};
+ghost use Rattle.pie_event.specs.Cause.{verdict_named, name_of, place_of_cause, word_of_cause};
 
 use crate::{Cause, Fate, Verdict};
 
@@ -42,7 +41,7 @@ pub enum CauseName {
 
 impl CauseName {
     /// Returns the keyword of the cause in records of explanations and summaries.
-    #[tactic(auto, unfolding(crate::specs::CauseName::word_of_cause))]
+    #[tactic(auto, unfolding(crate::specs::Cause::word_of_cause))]
     pub fn word(self) -> &'static str
         ensures { result.now ≡ word_of_cause self }
     {

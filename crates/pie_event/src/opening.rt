@@ -1,9 +1,9 @@
 //! The opening of a book.
 
 ghost use Rattle.std.specs.Prelude.{◌≡◌};
-ghost use Rattle.pie_event.specs.Opening.{are_in_range, are_of_version_two};
+ghost use Rattle.pie_event.specs.Event.{are_in_range, are_of_version_two};
 ghost use Rattle.pie_event.specs.Types.{Bounded, One};
-ghost use Rattle.pie_params.specs.Elements.{usual};
+ghost use Rattle.pie_params.specs.Params.{usual};
 
 pub use crate::profile::Profile;
 pub use pie_params::Elements;

@@ -1,4 +1,3 @@
 mod Names
-pub mod RowFacts
 pub mod BackFacts
 mod Examples

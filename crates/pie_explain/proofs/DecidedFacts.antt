@@ -4,21 +4,17 @@ use Rattle.std.specs.Option.{option_or}
 use Rattle.std.specs.Prelude.{ℕ, Bool, true, false, List, [], Option, Some, None, Result, Ok, Err, IfSome, map, if◌then◌else◌, ◌≡◌, ◌+◌, ◌∷◌, ◌++◌}
 use Rattle.pie_aqm.specs.Steps.{delay_in}
 use Rattle.pie_explain.proofs.Names.{along-push, difference-push}
-use Rattle.pie_audit.specs.Auditor.{AuditorView}
+use Rattle.pie_audit.specs.Replay.{AuditorView, difference_from, differs_from, finding_by, line_places, Origin, RepresentsAfter, at_core, at_opening, count_after, start_after, start_at, Replays, next_number, Start}
 use Rattle.pie_audit.specs.Beginnings.{ReplaysText}
-use Rattle.pie_audit.specs.Finding.{difference_from, differs_from, finding_by, line_places}
-use Rattle.pie_audit.specs.Origin.{Origin, RepresentsAfter, at_core, at_opening, count_after}
-use Rattle.pie_audit.specs.Start.{start_after, start_at}
 use Rattle.pie_audit.specs.Text.{BeginsAtCore, remaining_of, text_fault}
 use Rattle.pie_audit.specs.declared.auditor.Finding.TheVariants.{Differs}
 use Rattle.pie_book.specs.Core.{CoreView, Represents, answer_in, core_after, refusal_of, registers_of}
 use Rattle.pie_book.specs.Decision.{decision, refusal_by_rule}
 use Rattle.pie_book.specs.Estimates.{delay_after}
-use Rattle.pie_book.specs.Registers.{registers_after}
-use Rattle.pie_book.specs.Run.{refused_or}
+use Rattle.pie_book.specs.Statistics.{registers_after, wait_of}
+use Rattle.pie_book.specs.Book.{refused_or}
 use Rattle.pie_book.specs.Snapshot.{step_in}
-use Rattle.pie_book.specs.Statistics.{wait_of}
-use Rattle.pie_event.specs.Effect.{effect}
+use Rattle.pie_event.specs.Event.{effect}
 use Rattle.pie_event.specs.declared.command.Answer.{Answer}
 use Rattle.pie_event.specs.declared.command.Event.{Event}
 use Rattle.pie_event.specs.declared.opening.Opening.{Opening}
@@ -26,23 +22,19 @@ use Rattle.pie_event.specs.declared.refusal.Refusal.{Refusal}
 use Rattle.pie_event.specs.declared.registers.Registers.{Registers}
 use Rattle.pie_event.specs.declared.setter.Setter.{Setter}
 use Rattle.pie_excerpt.specs.Beginning.{Beginning, beginning_of}
-use Rattle.pie_explain.specs.DecidedEvent.{DecidesAfter, DecidesEvent, HasReached, IsDecided, decision_at, decision_by, result_after, wait_if_decided}
-use Rattle.pie_explain.specs.DecidedEvent.{with_answer}
+use Rattle.pie_explain.specs.DecidedEvent.{DecidesAfter, DecidesEvent, HasReached, IsDecided, decision_at, decision_by, result_after, wait_if_decided, with_answer}
 use Rattle.pie_explain.specs.Explanation.{explanation, explanation_in, with_core}
 use Rattle.pie_explain.specs.declared.decided_event.DecidedEvent.{DecidedEvent}
 use Rattle.pie_explain.specs.declared.decided_event.EventDecision.{EventDecision}
 use Rattle.pie_explain.specs.declared.decided_event.EventDecision.TheVariants.{Answered}
 use Rattle.pie_explain.specs.declared.explanation.Explained.{Explained}
 use Rattle.pie_explain.specs.declared.explanation.Explanation.{Explanation}
-use Rattle.pie_record.specs.HistoryLines.{RemainingLines}
+use Rattle.pie_record.specs.HistoryLines.{RemainingLines, is_event}
 use Rattle.pie_record.specs.Text.{Row}
 use Rattle.pie_record.specs.declared.clock.Clock.{Clock}
 use Rattle.pie_record.specs.declared.fault.TraceFault.{TraceFault}
-use Rattle.pie_audit.specs.Replay.{Replays, next_number}
-use Rattle.pie_audit.specs.Start.{Start}
 use Rattle.pie_audit.specs.declared.replay.Replay.{Replay}
 use Rattle.pie_queue.specs.Queue.{bytes_of}
-use Rattle.pie_record.specs.HistoryLines.{is_event}
 use Rattle.pie_record.specs.declared.history_record.Line.{Line}
 use Rattle.pie_record.specs.declared.history_record.Line.TheVariants.{Invalid, Valid}
 

@@ -4,14 +4,11 @@ pub use Rattle.std.proofs.lemmas.Bool.Decides.{nat_tests}
 pub use Rattle.std.proofs.lemmas.List.{append-nil}
 pub use Rattle.std.specs.Option.{is_some, option_or}
 pub use Rattle.std.specs.Prelude.{Ok, if◌then◌else◌, map, min, nat_le, ◌&&◌}
-pub use Rattle.pie_explain.specs.{AuditorView, AuditsFrom, Event, Line, Valid, Opening, Setter, Start, event_count, events_of, from_opening, moment_of}
-pub use Rattle.pie_explain.specs.{Origin, RepresentsAfter, at_core, at_opening, count_after, difference_from, ended_after, explanation_after, moment_after}
-pub use Rattle.pie_explain.specs.{core_along, moment_at, setter_in, with_after, with_core}
-pub use Rattle.pie_explain.specs.{HasExplained, IsExplaining, IsExplanationText, answer_since, traced, no_event, picks, setter_from_start, explanation_of, explanation_if}
+pub use Rattle.pie_explain.specs.{AuditorView, AuditsFrom, Event, Line, Valid, Opening, Setter, Start, event_count, events_of, from_opening, moment_of, Origin, RepresentsAfter, at_core, at_opening, count_after, difference_from, ended_after, explanation_after, moment_after, core_along, moment_at, setter_in, with_after, with_core, HasExplained, IsExplaining, IsExplanationText, answer_since, traced, no_event, picks, setter_from_start, explanation_of, explanation_if}
 unfoldable pub use Rattle.pie_explain.specs.{explanation, explanation_in, explanations_since}
 pub use Rattle.pie_explain.specs.Names.{Explanation, Selection}
 pub use Rattle.pie_record.specs.HistoryLines.{clock_in_line}
 pub use Rattle.pie_record.specs.declared.clock.Clock.{Clock}
 pub use Rattle.pie_audit.proofs.AuditorFacts.{along-push, count-push, difference-push, event_count-append, few-may, is-since, latest_clock-push, line_places-push, made-count, none-before, none_of, place_of}
 pub use Rattle.pie_audit.proofs.ProcessorFacts.{begun-fails, processed-failed, processed-fault, processed-text, processed-visited}
-pub use Rattle.pie_audit.specs.Reading.{reads-more, reads-none}
+pub use Rattle.pie_audit.specs.Text.{reads-more, reads-none}

@@ -2,7 +2,7 @@
 use Rattle.std.proofs.Common.{List, [], ap, append-nil, append_assoc, arith, codes, drop, length, length-append, refl, sym, ℕ, ◌++◌, ◌-◌, ◌∙◌, ◌∷◌, ◌≡◌}
 use Rattle.std.specs.Prelude.{false}
 use Rattle.std.specs.Fmt.{char_count, decimal, format_spec, padded_integral}
-use Rattle.pie_units.specs.Utc.{with_zeros}
+use Rattle.pie_units.specs.Time.{with_zeros}
 use Rattle.pie_explain.specs.declared.explanation.Explained.{Explained}
 use Rattle.pie_explain.specs.Record.{active_field, line_of, most_fields, onto, record_of}
 use Rattle.std.proofs.lemmas.List.{drop_at}

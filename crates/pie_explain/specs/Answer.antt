@@ -1,12 +1,10 @@
 -- The result of an explanation: as the audit's, or an error if no event was explained.
 use Rattle.std.specs.Prelude.{◌≡◌, ◌==◌, ◌≤◌, nat_le, ◌&&◌, Ok, if◌then◌else◌}
-use Rattle.pie_explain.specs.Names.{ℕ, nat_lt, List, length, Bool, true, false, Option, Some, None, Result, Err, Appends, append_known, TraceFault, Line}
-use Rattle.pie_explain.specs.Names.{Finding, AuditsFrom, AuditorView, count_after, Explained, Setter, Selection, is_whole, Start, Origin}
-use Rattle.pie_record.specs.Fault.{is_io_or_memory}
+use Rattle.pie_explain.specs.Names.{ℕ, nat_lt, List, length, Bool, true, false, Option, Some, None, Result, Err, Appends, append_known, TraceFault, Line, Finding, AuditsFrom, AuditorView, count_after, Explained, Setter, Selection, is_whole, Start, Origin}
+use Rattle.pie_record.specs.Field.{is_io_or_memory}
 use Rattle.pie_audit.specs.declared.auditor.Finding.TheVariants.{Clean}
 use Rattle.pie_audit.specs.declared.replay.Replay.{Replay}
-use Rattle.pie_audit.specs.Replay.{Replays}
-use Rattle.pie_audit.specs.Finding.{finding_from}
+use Rattle.pie_audit.specs.Replay.{Replays, finding_from}
 use Rattle.pie_explain.specs.declared.fault.ExplainFault.{ExplainFault}
 use Rattle.pie_explain.specs.declared.fault.ExplainFault.TheVariants.{Trace, Differs, Earlier, NoEvent, NoTag, NoneWithin}
 use Rattle.pie_explain.specs.declared.choice.EventChoice.{EventChoice}

@@ -1,20 +1,15 @@
 -- The decision of the rules at the place of an event, whatever a text records there.
 use Rattle.std.specs.Prelude.{ℕ, Bool, true, false, List, [], Option, Some, None, Result, Ok, Err, map, ◌≡◌, ◌+◌, ◌∷◌, ◌++◌}
-use Rattle.pie_audit.specs.Auditor.{AuditorView}
+use Rattle.pie_audit.specs.Replay.{AuditorView, difference_from, events_of, Origin, at_core, at_opening, count_after, Replays, setter_in, Start, setter_from_start, start_after, start_at}
 use Rattle.pie_audit.specs.Beginnings.{BeginsBy}
-use Rattle.pie_audit.specs.Finding.{difference_from, events_of}
-use Rattle.pie_audit.specs.Origin.{Origin, at_core, at_opening, count_after}
-use Rattle.pie_audit.specs.Replay.{Replays}
-use Rattle.pie_audit.specs.Setters.{setter_in}
-use Rattle.pie_audit.specs.Start.{Start, setter_from_start, start_after, start_at}
 use Rattle.pie_audit.specs.Text.{BeginsAtCore, finding_at, text_fault, text_lines}
 use Rattle.pie_audit.specs.declared.auditor.Finding.TheVariants.{Differs}
 use Rattle.pie_book.specs.Core.{CoreView, answer_in, core_along}
 use Rattle.pie_book.specs.Decision.{decision, refusal_by_rule}
-use Rattle.pie_book.specs.Run.{refused_or}
+use Rattle.pie_book.specs.Book.{refused_or}
 use Rattle.pie_book.specs.Snapshot.{step_in}
 use Rattle.pie_book.specs.Statistics.{wait_of}
-use Rattle.pie_event.specs.Effect.{effect}
+use Rattle.pie_event.specs.Event.{effect}
 use Rattle.pie_event.specs.declared.command.Answer.{Answer}
 use Rattle.pie_event.specs.declared.command.Command.{Command}
 use Rattle.pie_event.specs.declared.command.Event.{Event}
@@ -22,7 +17,7 @@ use Rattle.pie_event.specs.declared.opening.Opening.{Opening}
 use Rattle.pie_event.specs.declared.refusal.Refusal.{Refusal}
 use Rattle.pie_event.specs.declared.setter.Setter.{Setter}
 use Rattle.pie_excerpt.specs.Beginning.{Beginning, beginning_of}
-use Rattle.pie_record.specs.Fault.{is_io_or_memory}
+use Rattle.pie_record.specs.Field.{is_io_or_memory}
 use Rattle.pie_record.specs.HistoryLines.{RemainingLines, is_event, latest_clock}
 use Rattle.pie_record.specs.Text.{Row}
 use Rattle.pie_record.specs.declared.clock.Clock.{Clock}

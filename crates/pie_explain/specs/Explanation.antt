@@ -1,16 +1,15 @@
 -- The explanation of an event after a history: the numbers before it, and its cause.
 use Rattle.std.specs.Prelude.{ℕ, max, List, Option}
 use Rattle.pie_aqm.specs.Steps.{delay_in}
-use Rattle.pie_audit.specs.Origin.{Origin, at_core, at_opening}
+use Rattle.pie_audit.specs.Replay.{Origin, at_core, at_opening}
 use Rattle.pie_book.specs.Core.{CoreView, cause_in, core_along, registers_of}
 use Rattle.pie_queue.specs.Queue.{bytes_of}
 use Rattle.pie_event.specs.declared.command.Event.{Event}
 use Rattle.pie_event.specs.declared.opening.Opening.{Opening}
-use Rattle.pie_event.specs.Effect.{effect_of, caller_moment, is_update}
+use Rattle.pie_event.specs.Event.{effect_of, caller_moment, is_update}
 use Rattle.pie_book.specs.History.{effective_moment, waiting_after}
 use Rattle.pie_book.specs.Estimates.{delay_after}
-use Rattle.pie_book.specs.Registers.{registers_after}
-use Rattle.pie_book.specs.Statistics.{count_of, wait_of}
+use Rattle.pie_book.specs.Statistics.{registers_after, count_of, wait_of}
 use Rattle.pie_book.specs.Decision.{cause_after}
 use Rattle.pie_record.specs.declared.clock.Clock.{Clock}
 use Rattle.pie_explain.specs.declared.explanation.Explained.{Explained}

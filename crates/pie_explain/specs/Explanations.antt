@@ -1,9 +1,7 @@
 -- The explanations of the events of a history's lines.
 use Rattle.std.specs.Prelude.{◌+◌, ◌∷◌, ◌++◌, if◌then◌else◌}
-use Rattle.pie_explain.specs.Names.{ℕ, Bool, true, false, List, [], Option, Some, None, option_map, filter_map, Line, Valid, latest_clock, events_of}
-use Rattle.pie_explain.specs.Names.{Explained, Explanation, Selection, Setter, picks, setter_from_start, nat_lt, Start, Origin, count_after, difference_from}
-use Rattle.pie_explain.specs.Names.{ended_after, explanation_after, moment_after, setter_in}
-use Rattle.pie_audit.specs.Finding.{LinePlace, line_places, number_at}
+use Rattle.pie_explain.specs.Names.{ℕ, Bool, true, false, List, [], Option, Some, None, option_map, filter_map, Line, Valid, latest_clock, events_of, Explained, Explanation, Selection, Setter, picks, setter_from_start, nat_lt, Start, Origin, count_after, difference_from, ended_after, explanation_after, moment_after, setter_in}
+use Rattle.pie_audit.specs.Replay.{LinePlace, line_places, number_at}
 
 -- the explanation if the flag is true
 abbrev pub explanation_if : Bool → Explanation → Option Explanation

@@ -2,12 +2,8 @@
 pub use Rattle.std.specs.Io.KnownBytes.{Appends, append_known}
 pub use Rattle.std.specs.List.{filter_map}
 pub use Rattle.std.specs.Prelude.{Bool, Err, List, None, Option, Result, Some, [], false, length, nat_lt, option_map, true, ℕ}
-pub use Rattle.pie_audit.specs.Auditor.{AuditorView, AuditsFrom}
-pub use Rattle.pie_audit.specs.Finding.{difference_from, events_of}
-pub use Rattle.pie_audit.specs.Origin.{Origin, RepresentsAfter, at_core, at_opening, count_after}
+pub use Rattle.pie_audit.specs.Replay.{AuditorView, AuditsFrom, difference_from, events_of, Origin, RepresentsAfter, at_core, at_opening, count_after, setter_in, Start, from_opening, setter_from_start}
 pub use Rattle.pie_book.specs.Core.{core_along}
-pub use Rattle.pie_audit.specs.Setters.{setter_in}
-pub use Rattle.pie_audit.specs.Start.{Start, from_opening, setter_from_start}
 pub use Rattle.pie_audit.specs.declared.auditor.Finding.{Finding}
 pub use Rattle.pie_event.specs.declared.command.Event.{Event}
 pub use Rattle.pie_event.specs.declared.opening.Opening.{Opening}

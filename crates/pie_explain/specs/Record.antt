@@ -3,21 +3,19 @@ use Rattle.std.specs.Prelude.{ℕ, Bool, true, false, List, [], ◌∷◌, ◌++
 use Rattle.std.specs.Fmt.{decimal}
 use Rattle.pie_queue.specs.declared.packet.Packet.{Packet}
 use Rattle.pie_event.specs.declared.cause.Cause.{Cause}
-use Rattle.pie_event.specs.CauseName.{name_of, word_of_cause}
+use Rattle.pie_event.specs.Cause.{name_of, word_of_cause}
 use Rattle.pie_event.specs.declared.command.Command.{Command}
 use Rattle.pie_event.specs.declared.command.Command.TheVariants.{Arrive, Depart, Update, Reset, SetParams}
 use Rattle.pie_event.specs.declared.command.Answer.{Answer}
-use Rattle.pie_event.specs.declared.command.Answer.TheVariants.{Enqueued, Marked, DroppedEarly, DroppedBytes, DroppedPackets, Empty, Left, Updated}
-use Rattle.pie_event.specs.declared.command.Answer.TheVariants.{Done}
+use Rattle.pie_event.specs.declared.command.Answer.TheVariants.{Enqueued, Marked, DroppedEarly, DroppedBytes, DroppedPackets, Empty, Left, Updated, Done}
 use Rattle.pie_event.specs.declared.registers.Registers.{Registers}
-use Rattle.pie_event.specs.Effect.{caller_moment}
+use Rattle.pie_event.specs.Event.{caller_moment, setter_number}
 use Rattle.pie_record.specs.declared.words.Kind.TheVariants as kind
 use Rattle.pie_record.specs.declared.words.AnswerKeyword.TheVariants as explanation_texts
-use Rattle.pie_record.specs.Words.{ecn_word, word_of_kind, word_of_answer}
-use Rattle.pie_units.specs.Utc.{utc_text}
+use Rattle.pie_record.specs.Field.{ecn_word, word_of_kind, word_of_answer}
+use Rattle.pie_units.specs.Time.{utc_text}
 use Rattle.pie_explain.specs.declared.explanation.Explained.{Explained}
 use Rattle.pie_explain.specs.declared.explanation.Explanation.{Explanation}
-use Rattle.pie_event.specs.Setter.{setter_number}
 use Rattle.pie_explain.specs.Selection.{time_of}
 use Rattle.pie_explain.specs.Choice.{packet_of}
 

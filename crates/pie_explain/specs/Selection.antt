@@ -2,7 +2,7 @@
 use Rattle.std.specs.Prelude.{ℕ, Bool, true, false, not, ◌&&◌, ◌||◌, Option, Some, None, nat_le, is_some}
 use Rattle.pie_event.specs.declared.command.Event.{Event}
 use Rattle.pie_record.specs.declared.clock.Clock.{Clock}
-use Rattle.pie_record.specs.Clock.{unix_at}
+use Rattle.pie_record.specs.Field.{unix_at}
 use Rattle.pie_explain.specs.declared.selection.Selection.{Selection}
 use Rattle.pie_units.specs.declared.when.When.{When}
 use Rattle.pie_units.specs.declared.when.When.TheVariants.{Moment, Unix}

@@ -8,11 +8,7 @@ ghost use Rattle.pie_record.specs.declared.history_record.Line.{Line};
 ghost use Rattle.pie_record.specs.HistoryLines.{is_event};
 ghost use Rattle.pie_record.specs.Text.{records_of};
 ghost use Rattle.pie_record.specs.declared.history_reader.ReaderState.TheVariants.{Going};
-ghost use Rattle.pie_audit.specs.Auditor.{AuditsFrom};
-ghost use Rattle.pie_audit.specs.Finding.{difference_from};
-ghost use Rattle.pie_audit.specs.Origin.{Origin, RepresentsAfter, count_after};
-ghost use Rattle.pie_audit.specs.Replay.{Replays, next_number};
-ghost use Rattle.pie_audit.specs.Start.{Start};
+ghost use Rattle.pie_audit.specs.Replay.{AuditsFrom, difference_from, Origin, RepresentsAfter, count_after, Replays, next_number, Start};
 ghost use Rattle.pie_explain.specs.DecidedEvent.{DecidesAfter, DecidesEvent, ReadsTo, decision_at, decision_by, result_after, wait_if_decided};
 
 use crate::explanation::Explained;

@@ -1,16 +1,9 @@
 -- The verdict of every packet.
-use Rattle.pie_guarantees.proofs.Names.{◌≡◌, ◌≤◌, ◌+◌, ◌*◌, ◌^◌, ℕ, List, [], ◌∷◌, ◌++◌, map, Bool, refl, sym, ap, ◌∙◌, cond, ◌⊎◌, AtEachEvent}
-use Rattle.pie_guarantees.proofs.Names.{AtEachHistory, BetweenAny, if◌then◌else◌, inl, length, arith, subst, All, Some, Option, sum_by, append-nil}
-use Rattle.pie_guarantees.proofs.Names.{append_assoc, length-map, map-append, filter_map-append, sum_by_push, sum_by-cons, bytes_of, Effect, effect}
-use Rattle.pie_guarantees.proofs.Names.{effect_of, departure, answer_of, after_call, ControllerState, filter_map-push, with_one, Packet, Waiting, Verdict, Command}
-use Rattle.pie_guarantees.proofs.Names.{Arrive, Depart, Answer, Event, Opening, arrival_of, call_of, answer_by, state_after, params_after, bytes_after}
-use Rattle.pie_guarantees.proofs.Names.{effective_moment, waiting_after, count_of, is_dropped_bytes, is_dropped_early, is_dropped_packets, is_marked}
-use Rattle.pie_guarantees.proofs.Names.{is_queued, waiting_next, first_shows, IsLawful, nat_tests, take, take-append_seam}
+use Rattle.pie_guarantees.proofs.Names.{◌≡◌, ◌≤◌, ◌+◌, ◌*◌, ◌^◌, ℕ, List, [], ◌∷◌, ◌++◌, map, Bool, refl, sym, ap, ◌∙◌, cond, ◌⊎◌, AtEachEvent, AtEachHistory, BetweenAny, if◌then◌else◌, inl, length, arith, subst, All, Some, Option, sum_by, append-nil, append_assoc, length-map, map-append, filter_map-append, sum_by_push, sum_by-cons, bytes_of, Effect, effect, effect_of, departure, answer_of, after_call, ControllerState, filter_map-push, with_one, Packet, Waiting, Verdict, Command, Arrive, Depart, Answer, Event, Opening, arrival_of, call_of, answer_by, state_after, params_after, bytes_after, effective_moment, waiting_after, count_of, is_dropped_bytes, is_dropped_early, is_dropped_packets, is_marked, is_queued, waiting_next, first_shows, IsLawful, nat_tests, take, take-append_seam}
 use Rattle.std.proofs.lemmas.List.{append_cancel_left, length_push}
 use Rattle.std.proofs.lemmas.List.Recursion.{is_sum_by}
-use Rattle.pie_guarantees.specs.{Carries, SetsLimit, bytes_departed, is_packet_arrival, packet_queued, packets_departed, packets_arrived}
-use Rattle.pie_guarantees.specs.{packets_queued, packets_waiting, time_of}
-use Rattle.pie_event.specs.Verdict as Verdicts
+use Rattle.pie_guarantees.specs.{Carries, SetsLimit, bytes_departed, is_packet_arrival, packet_queued, packets_departed, packets_arrived, packets_queued, packets_waiting, time_of}
+use Rattle.pie_event.specs.Cause as Verdicts
 use Rattle.pie_aqm.specs.Steps as Steps
 use Rattle.pie_guarantees.proofs.LawfulFacts.{IsStep, all_along, along, beginning, first-state, step_at, throughout}
 

@@ -1,15 +1,8 @@
 -- In a lawful history, a core represents the events before each place, and each event changes the core as its call does.
-use Rattle.pie_guarantees.proofs.Names.{◌≡◌, ◌≤◌, ◌<◌, ◌+◌, ℕ, List, [], ◌∷◌, ◌++◌, false, sym, subst, ap, ◌∙◌, arith, ⊤, All, None, length, ◌^◌}
-use Rattle.pie_guarantees.proofs.Names.{append-nil, append_assoc, All-head, All-tail, first_bad, effect_of, caller_moment, IsTaken, after_call, ControllerState}
-use Rattle.pie_guarantees.proofs.Names.{IsSound, places, place_of, Waiting, Command, Event, Opening, call_of, IsLegalAt, has_bad_size, is_too_soon}
-use Rattle.pie_guarantees.proofs.Names.{refusal_by_rule, due_after, state_after, effective_moment, waiting_after, after_command, call_in, waiting_next}
-use Rattle.pie_guarantees.proofs.Names.{at_place, departed-of-legal, state-is, first_shows, first_core, next-core, next-legal, AllAlong, IsLawful}
-use Rattle.pie_guarantees.proofs.Names.{SetsInRange, nat_tests, map, drop, All-nil, Place, decision, Answer, answer_by, Sound_call}
-use Rattle.pie_guarantees.proofs.Names.{Sound_opened, cond, is_update, sum_by-cons, updates_in, drop-append_seam, take-append_seam, Update, effect}
-use Rattle.pie_guarantees.proofs.Names.{effective_moment-push, waiting_after-push}
+use Rattle.pie_guarantees.proofs.Names.{◌≡◌, ◌≤◌, ◌<◌, ◌+◌, ℕ, List, [], ◌∷◌, ◌++◌, false, sym, subst, ap, ◌∙◌, arith, ⊤, All, None, length, ◌^◌, append-nil, append_assoc, All-head, All-tail, first_bad, effect_of, caller_moment, IsTaken, after_call, ControllerState, IsSound, places, place_of, Waiting, Command, Event, Opening, call_of, IsLegalAt, has_bad_size, is_too_soon, refusal_by_rule, due_after, state_after, effective_moment, waiting_after, after_command, call_in, waiting_next, at_place, departed-of-legal, state-is, first_shows, first_core, next-core, next-legal, AllAlong, IsLawful, SetsInRange, nat_tests, map, drop, All-nil, Place, decision, Answer, answer_by, Sound_call, Sound_opened, cond, is_update, sum_by-cons, updates_in, drop-append_seam, take-append_seam, Update, effect, effective_moment-push, waiting_after-push}
 use Rattle.std.proofs.lemmas.List.Elements.{All-drop, All-take}
 use Rattle.pie_book.specs.Core.{CoreView, Represents, largest_queue_updated}
-use Rattle.pie_event.specs.Opening as Opens
+use Rattle.pie_event.specs.Event as Opens
 
 -- ---- accepted commands
 

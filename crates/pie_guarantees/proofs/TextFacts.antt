@@ -1,11 +1,9 @@
 -- The contents of a valid text: an accepted opening, and parameters in their ranges.
 use Rattle.std.proofs.lemmas.Bool.Decides.{nat_tests}
 use Rattle.std.proofs.Common.{arith}
-use Rattle.pie_guarantees.proofs.Names.{◌≡◌, ℕ, List, [], ◌∷◌, subst, All, None, Some, Option, Result, Ok, Err, All-cons, All-head, All-nil}
-use Rattle.pie_guarantees.proofs.Names.{All-tail, first_bad, Command, Event, Opening, SetsInRange}
+use Rattle.pie_guarantees.proofs.Names.{◌≡◌, ℕ, List, [], ◌∷◌, subst, All, None, Some, Option, Result, Ok, Err, All-cons, All-head, All-nil, All-tail, first_bad, Command, Event, Opening, SetsInRange}
 use Rattle.std.specs.List.{filter_map}
-use Rattle.pie_event.specs.Opening.{opening_refusal}
-use Rattle.pie_event.specs.Ranges.{CommandFits}
+use Rattle.pie_event.specs.Event.{opening_refusal, CommandFits}
 use Rattle.pie_record.specs.declared.fault.RecordFault.{RecordFault}
 use Rattle.pie_record.specs.declared.first_record.Draft.{Draft}
 use Rattle.pie_record.specs.declared.first_record.FirstKind.{FirstKind}
@@ -15,9 +13,9 @@ use Rattle.pie_record.specs.FirstRecord.{first_fields, first_kind, opening_by, o
 use Rattle.pie_record.specs.HistoryLines.{history_opening}
 use Rattle.pie_record.specs.ReadBack.{IsHistoryText}
 use Rattle.pie_record.specs.Text.{Row, records_of}
-use Rattle.pie_record.proofs.Laws.{LineFits, lines-fit}
+use Rattle.pie_record.proofs.InputFacts.{LineFits, lines-fit}
 use Rattle.pie_record.proofs.OpeningBack.{checked}
-use Rattle.pie_audit.specs.Finding.{event_in, events_of}
+use Rattle.pie_audit.specs.Replay.{event_in, events_of}
 
 -- ---- the opening
 

@@ -1,10 +1,9 @@
 -- Worked histories in which an expected law fails, or a bound is nearly reached.
 use Rattle.std.specs.Prelude.{ℕ, List, [], ◌∷◌, ◌&&◌, ◌==◌, count_by}
-use Rattle.pie_params.specs.Elements.{usual}
+use Rattle.pie_params.specs.Params.{usual}
 use Rattle.pie_params.specs.declared.elements.Delay.TheVariants.{Stamp}
 use Rattle.pie_params.specs.declared.elements.Picking.TheVariants.{Random}
-use Rattle.pie_guarantees.specs.Names.{NotEct, RawParams, One, Command, Arrive, Depart, Update, SetParams, Answer, Enqueued, DroppedEarly, Left}
-use Rattle.pie_guarantees.specs.Names.{Updated, Done, Event, Bounded, Elements, Opening, Packet}
+use Rattle.pie_guarantees.specs.Names.{NotEct, RawParams, One, Command, Arrive, Depart, Update, SetParams, Answer, Enqueued, DroppedEarly, Left, Updated, Done, Event, Bounded, Elements, Opening, Packet}
 use Rattle.pie_guarantees.specs.Verdicts.{is_early}
 
 abbrev pub happened : Command → Answer → Event

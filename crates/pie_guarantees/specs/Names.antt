@@ -2,12 +2,9 @@
 pub use Rattle.pie_aqm.specs.History.{considered_where}
 unfoldable pub use Rattle.pie_aqm.specs.History.{departure_inputs}
 pub use Rattle.pie_book.specs.Estimates.{active_after, delay_after, params_after, parts_after}
-pub use Rattle.pie_book.specs.History.{bytes_after}
-unfoldable pub use Rattle.pie_book.specs.History.{effective_moment, waiting_after}
-pub use Rattle.pie_book.specs.ControllerEvents.{arriving_size, opened_of}
-unfoldable pub use Rattle.pie_book.specs.ControllerEvents.{controller_events}
+pub use Rattle.pie_book.specs.History.{bytes_after, arriving_size, opened_of}
+unfoldable pub use Rattle.pie_book.specs.History.{effective_moment, waiting_after, controller_events}
 pub use Rattle.pie_book.specs.Statistics.{count_of, is_dropped_bytes, is_dropped_packets, is_reset}
-pub use Rattle.pie_book.specs.Types.{Answer, Arrive, Bounded, Command, Depart, Done, DroppedEarly, Elements, Enqueued, Event, Left, Marked, One}
-pub use Rattle.pie_book.specs.Types.{Opening, Packet, RawParams, SetParams, Update, Updated, Waiting}
-pub use Rattle.pie_event.specs.Effect.{Effect, effect_of, departure, dropped_early, is_update, marked, queued}
+pub use Rattle.pie_book.specs.Types.{Answer, Arrive, Bounded, Command, Depart, Done, DroppedEarly, Elements, Enqueued, Event, Left, Marked, One, Opening, Packet, RawParams, SetParams, Update, Updated, Waiting}
+pub use Rattle.pie_event.specs.Event.{Effect, effect_of, departure, dropped_early, is_update, marked, queued}
 pub use Rattle.pie_queue.specs.declared.ecn.Ecn.TheVariants.{Ce, NotEct}

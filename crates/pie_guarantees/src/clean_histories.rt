@@ -5,7 +5,7 @@ ghost use Rattle.pie_record.specs.ReadBack.{IsHistoryText};
 ghost use Rattle.pie_record.specs.Text.{records_of};
 ghost use Rattle.pie_record.specs.declared.history_record.Line.{Line};
 ghost use Rattle.pie_audit.specs.declared.auditor.Finding.TheVariants.{Clean};
-ghost use Rattle.pie_audit.specs.Finding.{events_of};
+ghost use Rattle.pie_audit.specs.Replay.{events_of};
 ghost use Rattle.pie_audit.specs.Text.{text_finding};
 
 use pie_audit::clean_is_legal;

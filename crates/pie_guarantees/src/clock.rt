@@ -2,7 +2,7 @@
 ghost use Rattle.std.specs.Prelude.{◌≡◌, ◌≤◌, ◌<◌, ◌+◌, ◌++◌, ◌∷◌, [], List, ℕ, Some, true};
 ghost use Rattle.pie_book.specs.Decision.{refusal_by_rule};
 ghost use Rattle.pie_event.specs.declared.refusal.Refusal.TheVariants.{TooSoon};
-ghost use Rattle.pie_event.specs.Effect.{caller_moment};
+ghost use Rattle.pie_event.specs.Event.{caller_moment};
 ghost use Rattle.pie_guarantees.specs.{Event, Opening, Update, effect_of, is_update, params_after, effective_moment, IsLawful, AtEachEvent};
 
 /// Let a moment be `ahead` nanoseconds above the greatest moment before it. After it an update is refused as too soon

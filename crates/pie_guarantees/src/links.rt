@@ -5,7 +5,7 @@ ghost use Rattle.pie_guarantees.specs.{Opening, IsLawful};
 ghost use Rattle.pie_link.specs.Entries.{events_in};
 ghost use Rattle.pie_link.specs.declared.entry.Entry.{Entry};
 ghost use Rattle.pie_link.specs.Headline.{IsFree, IsKeyOf, IsOneHistory, KeepsOneHistory, LiesIn, LockKey, LockState, callers_of};
-ghost use Rattle.pie_link.specs.Views.{LinkView};
+ghost use Rattle.pie_link.specs.Callers.{LinkView};
 
 use atomic_table::TableRule;
 use pie_book::Opening as LinkOpening;

@@ -1,12 +1,8 @@
 //! The relation of the probability to the delay (RFC 8033, sections 4.2, 5.1 and 5.5).
 ghost use Rattle.std.specs.Prelude.{◌≡◌, ◌≤◌, ◌<◌, ◌+◌, ◌*◌, ◌/◌, ◌^◌, min, ◌⊎◌, ◌++◌, ◌∷◌, [], List, ℕ, true, false};
 ghost use Rattle.pie_control.specs.Next.{decays, next, tuning_divisor};
-ghost use Rattle.pie_guarantees.specs.{effect_of, is_update, Event, Opening, RawParams, active_after, delay_after, params_after, updates_in, AllAlong};
-ghost use Rattle.pie_guarantees.specs.{AtEachEvent, BetweenAny};
-ghost use Rattle.pie_guarantees.specs.{IsLawful, IsActiveUpdate, IsSteady, after_updates, least_rise, old_delay_after, probability_after};
-ghost use Rattle.pie_guarantees.specs.{untuned_fall, untuned_rise, updates_to_a_tenth};
-ghost use Rattle.pie_params.specs.Elements.{is_capped, usual};
-ghost use Rattle.pie_params.specs.Profile.{default_profile};
+ghost use Rattle.pie_guarantees.specs.{effect_of, is_update, Event, Opening, RawParams, active_after, delay_after, params_after, updates_in, AllAlong, AtEachEvent, BetweenAny, IsLawful, IsActiveUpdate, IsSteady, after_updates, least_rise, old_delay_after, probability_after, untuned_fall, untuned_rise, updates_to_a_tenth};
+ghost use Rattle.pie_params.specs.Params.{is_capped, usual, default_profile};
 ghost use Rattle.pie_params.specs.declared.elements.Elements.{Elements};
 
 /// The probability is always 0 to 1, in units of 10^-12 (`bounded`). An update of an active controller does not

@@ -2,11 +2,8 @@
 //! 4.4 and 5.4).
 ghost use Rattle.std.specs.Prelude.{◌≡◌, ◌≤◌, ◌<◌, ◌*◌, ◌^◌, ◌++◌, ◌∷◌, List, ℕ, true};
 ghost use Rattle.pie_control.specs.Next.{next};
-ghost use Rattle.pie_params.specs.Elements.{usual};
-ghost use Rattle.pie_params.specs.Profile.{default_profile};
-ghost use Rattle.pie_guarantees.specs.{Event, Opening, active_after, bytes_after, effect_of, params_after, AllAlong, BetweenAny, IsLasting, IsLawful};
-ghost use Rattle.pie_guarantees.specs.{burst_left, had_room, probability_after, untuned_rise, updates_in, updates_to_a_tenth, was_considered};
-ghost use Rattle.pie_guarantees.specs.{after_updates, untuned_fall, FindsNoDelay, HasRecovered};
+ghost use Rattle.pie_params.specs.Params.{usual, default_profile};
+ghost use Rattle.pie_guarantees.specs.{Event, Opening, active_after, bytes_after, effect_of, params_after, AllAlong, BetweenAny, IsLasting, IsLawful, burst_left, had_room, probability_after, untuned_rise, updates_in, updates_to_a_tenth, was_considered, after_updates, untuned_fall, FindsNoDelay, HasRecovered};
 
 /// Let each update find a delay that is at least `least`, at least the target, and at least the delay of the update before it. After the number of
 /// updates that the rows of the table of auto-tuning take, the probability is at least 10 per cent (`probability`): with the defaults after 164 at

@@ -2,7 +2,7 @@
 //! receives the call's number, and a fold is made at the time that its gate allows. (Storms of the program:
 //! tests/program/storms.sh.)
 
-ghost use Rattle.pie_storm.specs.StormPlan.{HasStormRange};
+ghost use Rattle.pie_storm.specs.Plans.{HasStormRange};
 
 use crate::books::arrival;
 use crossbeam_utils::Backoff;

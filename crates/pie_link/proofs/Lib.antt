@@ -1,5 +1,4 @@
 mod Names
-pub mod EntryLists
 pub mod KeptFacts
 pub mod Bursting
 pub mod Headline

@@ -3,7 +3,7 @@
 -- verdict is the one that the rules give at its place, and the look-back over the whole history is the book's state. In
 -- a bounded link no recorded event is lost: the folded events, in order, followed by the log are all events of the
 -- history.
-use Rattle.std.specs.Prelude.{◌≡◌, ℕ, List, [], ◌∷◌, ◌++◌, length, slice_index, Option, Some, None, All}
+use Rattle.std.specs.Prelude.{◌≡◌, ℕ, List, [], ◌∷◌, ◌++◌, length, slice_index, Option, Some, None, All, ◌==◌, ◌⊎◌, if◌then◌else◌, ◌≤◌, Bool}
 use mathlib.Core.List.{IsPrefix}
 use mathlib.Core.Option.{some}
 use lib.ListN.{get_elem?}
@@ -11,19 +11,23 @@ use Rattle.atomic_table.specs.Table.{State}
 use Rattle.pie_lock.specs.declared.view.PassKnowledge.{PassKnowledge}
 use Rattle.pie_lock.specs.declared.view.SeatKnowledge.{SeatKnowledge}
 use Rattle.pie_lock.specs.declared.view.SeatKnowledge.TheVariants.{Spent, Idle, Holds, HasTwo}
-use Rattle.pie_lock.specs.Own.{own}
+use Rattle.pie_lock.specs.Rule.{own}
 use Rattle.pie_lock.specs.declared.view.LockOpening.{LockOpening}
 use Rattle.pie_event.specs.declared.opening.Mode.TheVariants.{Bounded}
-use Rattle.pie_link.specs.Names.{Opening, IsLegal, Entry, number_of, events_in, tail_in, folded_events}
+use Rattle.pie_link.specs.Names.{Opening, IsLegal, Entry, number_of, events_in, tail_in, folded_events, Command, Reply, entries_within}
 use Rattle.pie_book.specs.Book.{BookView, BookRepresents, last_events}
 use Rattle.pie_book.specs.Core.{registers_of}
 use Rattle.pie_book.specs.History.{waiting_after}
-use Rattle.pie_book.specs.Registers.{registers_after}
-use Rattle.pie_book.specs.Statistics.{stats_after}
-use Rattle.pie_params.specs.Range.{first_bad}
-use Rattle.pie_event.specs.Opening.{opening_refusal}
-use Rattle.pie_link.specs.Kept.{KeptView, SetsInRange}
-use Rattle.pie_link.specs.Views.{LinkView}
+use Rattle.pie_book.specs.Statistics.{registers_after, stats_after}
+use Rattle.pie_params.specs.Params.{first_bad}
+use Rattle.pie_event.specs.Event.{opening_refusal}
+use Rattle.pie_link.specs.Entries.{KeptView, SetsInRange, departed_bytes, folded_for}
+use Rattle.pie_link.specs.Callers.{LinkView}
+use Rattle.pie_event.specs.declared.opening.Limits.{Limits}
+use Rattle.pie_event.specs.declared.refusal.OpenRefusal.{OpenRefusal}
+use Rattle.pie_event.specs.declared.refusal.OpenRefusal.TheVariants as of_book
+use Rattle.pie_link.specs.declared.refusal.LinkRefusal.{LinkRefusal}
+use Rattle.pie_link.specs.declared.refusal.LinkRefusal.TheVariants.{Book, NoCallers, Memory}
 
 -- a caller: its front, and its numbers first..limit
 pub record CallerKnowledge : Type 0 where
@@ -110,3 +114,38 @@ KeepsOneHistory rule link =
     (opening : Opening) → link.origin ≡ Some opening → (key : LockKey) → IsKeyOf link opening key
     → (lock : LockState) → rule key lock → IsFree lock
     → (book : BookView) × LiesIn lock book × ((history : List Entry) × IsOneHistory opening book (callers_of lock.views) history)
+
+-- ---- Refusals of a link's opening.
+
+-- the book's refusal, otherwise that there are no callers
+abbrev pub or_no_callers : Option OpenRefusal → ℕ → Option LinkRefusal
+or_no_callers (Some why) callers = Some (Book why)
+or_no_callers None callers = if callers == 0 then Some NoCallers else None
+
+-- the refusal of a link's opening, out of memory aside
+abbrev pub link_refusal : Limits → ℕ → ℕ → Option LinkRefusal
+link_refusal limits moment callers = or_no_callers (opening_refusal limits moment) callers
+
+-- out of memory, for the book or for the lock
+abbrev pub IsWantOfMemory : LinkRefusal → Type 0
+IsWantOfMemory why = (why ≡ Book of_book.Memory) ⊎ (why ≡ Memory)
+
+-- the opening was refused for this reason, and without one because of memory
+abbrev pub IsRefusedFor : Option LinkRefusal → LinkRefusal → Type 0
+IsRefusedFor (Some reason) why = why ≡ reason
+IsRefusedFor None why = IsWantOfMemory why
+
+-- ---- The law of a link's entries, for crates whose proofs look back over a growing history, and the law of a burst's budget.
+
+-- two lists of entries, one after the other: their events are those of the first followed by those of the second, and
+-- so are the events that their folds returned, at their places
+pub record EntriesLookBack : Type 0 where
+  pub events : (entries later : List Entry) → events_in (entries ++ later) ≡ events_in entries ++ events_in later
+  pub folds_split : (whom : ℕ → Bool) (opening : Opening) (before entries later : List Entry)
+      → folded_for whom opening before (entries ++ later)
+      ≡ folded_for whom opening before entries ++ folded_for whom opening (before ++ entries) later
+
+-- the bytes of the packets that depart in a burst are at most its budget
+abbrev pub BurstsStayWithin : Type 0
+BurstsStayWithin = (bytes : ℕ) (continues : Reply → Bool) (opening : Opening) (caller : ℕ) (history : List Entry) (commands : List Command)
+    → departed_bytes (entries_within (Some bytes) continues opening caller history [] commands) ≤ bytes

@@ -1,14 +1,4 @@
 pub mod Entries
-pub mod Kept
-pub mod Bursts
 pub mod Names
-pub mod EntryLaws
-pub mod Results
-pub mod Views
-pub mod Opening
-pub mod Commands
-pub mod CallerBursts
-pub mod CallerFolds
-pub mod CallerReadings
-pub mod CallerExcerpts
 pub mod Headline
+pub mod Callers

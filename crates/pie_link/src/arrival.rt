@@ -1,6 +1,6 @@
 //! Arrivals of a burst.
 ghost use Rattle.std.specs.Prelude.{◌≡◌};
-ghost use Rattle.pie_link.specs.Bursts.{arrive};
+ghost use Rattle.pie_link.specs.Entries.{arrive};
 
 use pie_book::Command;
 use pie_queue::Packet;

@@ -1,7 +1,7 @@
 //! Several commands of one caller that are decided one after another.
 ghost use Rattle.std.specs.Prelude.{◌≡◌, ℕ, ◌+◌, ◌<◌, Bool, List, [], ◌∷◌, ◌++◌, length};
 ghost use Rattle.pie_event.specs.declared.command.Command.{Command};
-ghost use Rattle.pie_link.specs.Bursts.{Reply};
+ghost use Rattle.pie_link.specs.Entries.{Reply};
 
 use crate::call_result::Told;
 use pie_book::{Answer, Command, Refusal};

@@ -1,11 +1,9 @@
 //! Bursts: several commands of one caller in one turn at the lock, with no call of another caller between.
 //!
 //! No burst allocates: the caller owns the memory of the results, such as a vector with enough room.
-ghost use Rattle.std.specs.Prelude.{◌≡◌, ◌≢◌, ◌+◌, ◌≤◌, ◌<◌, ◌↔◌, IsTrue, Err, IfErr, IfOk, IsOk, List, None, OnOk, OnErr, length, map, vec_len};
-ghost use Rattle.std.specs.Prelude.{vec_capacity};
-ghost use Rattle.pie_link.specs.Bursts.{Reply, always, arrive, departures, has_left};
-ghost use Rattle.pie_link.specs.CallerBursts.{AnswersAll, AnswersWithin, TriesToAnswerAll, WasNotDone, WasRefused};
-ghost use Rattle.pie_link.specs.Views.{HasSameNumbers, WasBusy};
+ghost use Rattle.std.specs.Prelude.{◌≡◌, ◌≢◌, ◌+◌, ◌≤◌, ◌<◌, ◌↔◌, IsTrue, Err, IfErr, IfOk, IsOk, List, None, OnOk, OnErr, length, map, vec_len, vec_capacity};
+ghost use Rattle.pie_link.specs.Entries.{Reply, always, arrive, departures, has_left};
+ghost use Rattle.pie_link.specs.Callers.{AnswersAll, AnswersWithin, TriesToAnswerAll, WasNotDone, WasRefused, HasSameNumbers, WasBusy};
 ghost use Rattle.pie_link.specs.declared.call_result.Tried.TheVariants.{Busy};
 
 use crate::arrival::Arrival;
@@ -113,7 +111,7 @@ impl Link {
     ///
     /// `Refused` with `NoRoom` if `answers` has room for fewer results than there are packets. `Busy` if another caller
     /// has the book and the burst has packets. Nothing is done then.
-    #[tactic(auto, unfolding(crate::specs::CallerBursts::TriesToAnswerAll))]
+    #[tactic(auto, unfolding(crate::specs::Callers::TriesToAnswerAll))]
     pub fn try_arrive_all(
         &self,
         caller: &mut Caller,

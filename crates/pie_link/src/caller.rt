@@ -14,7 +14,7 @@ pub struct Caller {
 }
 
 impl Model for Caller {
-    ghost use Rattle.pie_link.specs.Views.{CallerView};
+    ghost use Rattle.pie_link.specs.Callers.{CallerView};
 
     ghost Value = { CallerView };
 

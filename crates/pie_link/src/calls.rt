@@ -4,13 +4,8 @@
 //! of the calls of two callers.
 ghost use Rattle.std.specs.Prelude.{◌≡◌, ◌+◌, ◌-◌, ◌≤◌, min, vec_capacity, vec_len};
 ghost use Rattle.pie_event.specs.declared.command.Command.TheVariants.{Arrive, Depart, Update, Reset, SetParams};
-ghost use Rattle.pie_book.specs.Registers.{registers_after};
-ghost use Rattle.pie_book.specs.Statistics.{stats_after};
-ghost use Rattle.pie_link.specs.Commands.{Answers, TriesToAnswer};
-ghost use Rattle.pie_link.specs.CallerFolds.{Folds, TriesToFold, TriesToFoldInto};
-ghost use Rattle.pie_link.specs.CallerReadings.{Reads, TriesToRead};
-ghost use Rattle.pie_link.specs.Views.{HasSameNumbers};
-ghost use Rattle.pie_link.specs.CallerExcerpts.{FillsExcerpt, TriesToFillExcerpt};
+ghost use Rattle.pie_book.specs.Statistics.{registers_after, stats_after};
+ghost use Rattle.pie_link.specs.Callers.{Answers, TriesToAnswer, Folds, TriesToFold, TriesToFoldInto, Reads, TriesToRead, HasSameNumbers, FillsExcerpt, TriesToFillExcerpt};
 
 use crate::call_result::{Told, Tried};
 use crate::caller::Caller;

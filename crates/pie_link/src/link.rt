@@ -1,10 +1,9 @@
 //! The link: opening, sharing and closing.
 ghost use Rattle.std.specs.Prelude.{◌≡◌, ◌+◌, ◌<◌, ◌≤◌, ◌↔◌, [], All, Some, None, IsOk, IsErr, IfOk, IfErr, IfSome, OnOk, OnErr, List};
-ghost use Rattle.pie_params.specs.Range.{first_bad};
-ghost use Rattle.pie_event.specs.Opening.{opening_refusal};
+ghost use Rattle.pie_params.specs.Params.{first_bad, usual};
+ghost use Rattle.pie_event.specs.Event.{opening_refusal};
 ghost use Rattle.pie_event.specs.declared.opening.Mode.TheVariants.{Bounded};
 ghost use Rattle.pie_event.specs.declared.profile.Profile.TheVariants.{One};
-ghost use Rattle.pie_params.specs.Elements.{usual};
 ghost use Rattle.pie_link.specs.declared.entry.Entry.{Entry};
 
 use crate::caller::Caller;
@@ -26,7 +25,7 @@ pub struct Link {
 }
 
 impl Model for Link {
-    ghost use Rattle.pie_link.specs.Views.{LinkView};
+    ghost use Rattle.pie_link.specs.Callers.{LinkView};
 
     ghost Value = { LinkView };
 
@@ -35,13 +34,11 @@ impl Model for Link {
 
 impl Link {
     ghost use Rattle.pie_book.specs.Book.{BookRepresents};
-    ghost use Rattle.pie_lock.specs.Views.{HasAllNumbers};
+    ghost use Rattle.pie_lock.specs.Rule.{HasAllNumbers};
     ghost use Rattle.pie_lock.specs.Promises.{first_pass, without_highest, highest_alone, IsBeside, IsBothOf};
-    ghost use Rattle.pie_link.specs.Entries.{number_of};
-    ghost use Rattle.pie_link.specs.Kept.{RepresentsEntries};
-    ghost use Rattle.pie_link.specs.Views.{IsHistoryFor};
-    ghost use Rattle.pie_link.specs.Headline.{KeepsOneHistory};
-    ghost use Rattle.pie_link.specs.Opening.{link_refusal, IsRefusedFor};
+    ghost use Rattle.pie_link.specs.Entries.{number_of, RepresentsEntries};
+    ghost use Rattle.pie_link.specs.Callers.{IsHistoryFor};
+    ghost use Rattle.pie_link.specs.Headline.{KeepsOneHistory, link_refusal, IsRefusedFor};
 
     /// Opens a link around a bounded book of profile one with the usual elements: `open_with` at `Opening::usual`.
     ///

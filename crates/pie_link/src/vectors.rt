@@ -1,7 +1,7 @@
 //! Bursts that push their results to a vector with enough room.
 ghost use Rattle.std.specs.Prelude.{◌≡◌, ◌+◌, ◌-◌, ◌≤◌, drop, length, map, vec_capacity, vec_len};
 ghost use Rattle.pie_event.specs.declared.command.Command.TheVariants.{Depart};
-ghost use Rattle.pie_link.specs.Bursts.{always, arrive, departures, has_left};
+ghost use Rattle.pie_link.specs.Entries.{always, arrive, departures, has_left};
 
 use crate::arrival::Arrival;
 use crate::burst::{Burst, Replies, Reply};

@@ -1,8 +1,8 @@
 //! Excerpts: the last events of the history behind their preamble, as a text that is written record by record.
 ghost use Rattle.std.specs.Prelude.{◌≡◌, ◌≢◌, None};
-ghost use Rattle.pie_abi.specs.Opening.{opening_in};
+ghost use Rattle.pie_abi.specs.Structs.{opening_in};
 ghost use Rattle.pie_port.specs.Calls.{close_code};
-ghost use Rattle.pie_port.specs.Excerpts.{IsEmpty, IsOpenWith, TriesToFill, WritesNext, room_refusal};
+ghost use Rattle.pie_port.specs.Bursts.{IsEmpty, IsOpenWith, TriesToFill, WritesNext, room_refusal};
 
 use pie_abi::opening::PieOpening;
 use pie_port::{PieExcerpt, PiePort};

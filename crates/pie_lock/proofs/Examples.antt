@@ -2,7 +2,7 @@
 use Rattle.pie_lock.proofs.Names.{◌≡◌, ℕ, List, [], ◌∷◌, refl, own, longer}
 use Rattle.pie_lock.specs.declared.lock.TheConstants.{WORD, SLOT, FREE, HELD}
 use Rattle.pie_lock.specs.declared.counter.CounterEntry.{CounterEntry}
-use Rattle.pie_lock.specs.Tally.{Tally, Represents}
+use Rattle.pie_lock.specs.Promises.{Tally, Represents}
 
 -- the constants of the code are the numbers of the rule
 constants : (WORD ≡ 0) × (SLOT ≡ 0) × (FREE ≡ 0) × (HELD ≡ 1)

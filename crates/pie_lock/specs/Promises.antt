@@ -1,7 +1,9 @@
 -- Promises of the lock's calls, over the views of passes and helds.
-use Rattle.std.specs.Prelude.{◌≡◌, ℕ, ◌-◌, ◌<◌, ◌⊎◌, min, max, List, [], ◌++◌, All, Some}
-use Rattle.pie_lock.specs.Views.{LockView, PassView, HeldView, HasAllNumbers}
-use Rattle.pie_lock.specs.Steps.{Extends}
+use Rattle.std.specs.Prelude.{◌≡◌, ℕ, ◌-◌, ◌<◌, ◌⊎◌, min, max, List, [], ◌++◌, All, Some, length}
+use Rattle.pie_lock.specs.Rule.{LockView, PassView, HeldView, HasAllNumbers, Extends}
+use Rattle.std.specs.List.{sum_by}
+use Rattle.std.proofs.Common.{sym, ◌∙◌}
+use Rattle.pie_lock.specs.declared.counter.CounterEntry.{CounterEntry}
 
 module _ {S E O : Type 0} where
   -- the held has the lock and the numbers of the pass
@@ -50,3 +52,18 @@ module _ {E O : Type 0} where
   IsBothOf number p q r =
       (r.lock ≡ p.lock) × (r.first ≡ min p.first q.first) × (r.limit ≡ max p.limit q.limit)
       × ((IsBehind number p q × (r.front ≡ q.front)) ⊎ (IsBehind number q p × (r.front ≡ p.front)))
+
+-- ---- The histories that a counter represents.
+
+-- the view of a counter
+pub record Tally : Type 0 where
+  pub count : ℕ
+  pub total : ℕ
+
+-- the count is the number of entries of the history, and the total is the sum of their amounts
+pub record Represents (tally : Tally) (history : List CounterEntry) : Type 0 where
+  pub counted : length history ≡ tally.count
+  pub added_up : sum_by (λ e. e.amount) history ≡ tally.total
+
+pub Represents-one_length : (tally : Tally) (xs ys : List CounterEntry) → Represents tally xs → Represents tally ys → length xs ≡ length ys
+Represents-one_length tally xs ys a b = a.counted ∙ sym b.counted

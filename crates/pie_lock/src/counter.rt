@@ -22,7 +22,7 @@ pub struct Counter {
 }
 
 impl Model for Counter {
-    ghost use Rattle.pie_lock.specs.Tally.{Tally};
+    ghost use Rattle.pie_lock.specs.Promises.{Tally};
 
     ghost Value = { Tally };
 
@@ -30,7 +30,7 @@ impl Model for Counter {
 }
 
 impl Counter {
-    ghost use Rattle.pie_lock.specs.Tally.{Tally};
+    ghost use Rattle.pie_lock.specs.Promises.{Tally};
 
     /// Returns a counter without additions.
     pub fn new() -> Counter
@@ -74,7 +74,7 @@ impl Counter {
 
 impl Kept for Counter {
     ghost use Rattle.std.specs.Prelude.{ℕ};
-    ghost use Rattle.pie_lock.specs.Tally.{Represents, Represents-one_length};
+    ghost use Rattle.pie_lock.specs.Promises.{Represents, Represents-one_length};
 
     type Entry = CounterEntry;
 

@@ -14,7 +14,7 @@ pub struct Entries<E> {
 impl<E> Model for Entries<E> {
     ghost use Rattle.std.specs.Prelude.{List, length};
     ghost use Rattle.std.proofs.Common.{arith, length-append};
-    ghost use Rattle.pie_lock.specs.Entries.{entries_of};
+    ghost use Rattle.pie_lock.specs.Rule.{entries_of};
 
     ghost Value = { List E };
 

@@ -62,7 +62,7 @@ pub struct RuledLock<S: Kept> {
 
 impl<S: Kept> Model for RuledLock<S> {
     ghost use Rattle.std.specs.Prelude.{◌≡◌, Some};
-    ghost use Rattle.pie_lock.specs.Views.{LockView};
+    ghost use Rattle.pie_lock.specs.Rule.{LockView};
 
     ghost Value = { LockView S.Origin };
 
@@ -76,10 +76,8 @@ impl<S: Kept> Model for RuledLock<S> {
 }
 
 impl<S: Kept> RuledLock<S> {
-    ghost use Rattle.pie_lock.specs.Views.{HasAllNumbers};
-    ghost use Rattle.pie_lock.specs.Steps.{Extends, HasMerged, pass_at, with_front, AreAdjacent};
+    ghost use Rattle.pie_lock.specs.Rule.{HasAllNumbers, Extends, HasMerged, pass_at, with_front, AreAdjacent, IsIdle, IsLeaving};
     ghost use Rattle.pie_lock.specs.declared.view.SeatKnowledge.TheVariants.{Idle};
-    ghost use Rattle.pie_lock.specs.Seating.{IsIdle, IsLeaving};
     ghost use Rattle.pie_lock.specs.Promises.{first_pass, HasTaken, pass_after, without_highest, highest_alone, IsBeside, IsBothOf};
 
     /// Returns a lock around `state`, and a pass with the numbers `0..numbers`.

@@ -19,11 +19,11 @@ pub struct Pass<S: Kept> {
 }
 
 impl<S: Kept> Model for Pass<S> {
-    ghost use Rattle.pie_lock.specs.Views.{PassView};
+    ghost use Rattle.pie_lock.specs.Rule.{PassView};
 
     ghost Value = { PassView S.Entry S.Origin };
 
-    ghost use Rattle.pie_lock.specs.Seating.{pass_of_seat, IsIdleWithNumbers};
+    ghost use Rattle.pie_lock.specs.Rule.{pass_of_seat, IsIdleWithNumbers};
 
     ghost view = { λ p. pass_of_seat p.first p.limit p.seat };
 
@@ -57,11 +57,11 @@ pub struct Held<S: Kept> {
 }
 
 impl<S: Kept> Model for Held<S> {
-    ghost use Rattle.pie_lock.specs.Views.{HeldView};
+    ghost use Rattle.pie_lock.specs.Rule.{HeldView};
 
     ghost Value = { HeldView S S.Entry S.Origin };
 
-    ghost use Rattle.pie_lock.specs.Seating.{held_of_seat, IsHolding};
+    ghost use Rattle.pie_lock.specs.Rule.{held_of_seat, IsHolding};
 
     ghost view = { λ h. held_of_seat h.first h.limit h.seat h.state };
 
@@ -72,7 +72,7 @@ impl<S: Kept> Held<S> {
     ghost use types.Logic.{sem};
     ghost use Rattle.std.specs.Borrow.{Lends};
     ghost use Rattle.pie_lock.specs.contracts.pass.Held.{the_row};
-    ghost use Rattle.pie_lock.specs.Views.{with_state};
+    ghost use Rattle.pie_lock.specs.Rule.{with_state};
 
     /// Returns the state. `RuledLock::put` puts its last value back into the lock.
     pub fn state(&mut self) -> &mut S

@@ -1,6 +1,6 @@
 //! The rule of the lock's table, and the facts that its steps give.
 ghost use Rattle.std.specs.Prelude.{List, []};
-ghost use Rattle.pie_lock.specs.Steps.{looked, taken, freed, merged, all_but_highest, highest, meeting};
+ghost use Rattle.pie_lock.specs.Rule.{looked, taken, freed, merged, all_but_highest, highest, meeting};
 ghost use Rattle.pie_lock.specs.declared.view.SeatKnowledge.TheVariants.{Spent};
 
 use crate::kept::Kept;

@@ -3,8 +3,7 @@ use Rattle.std.proofs.Common.{◌≡◌, ◌*◌, ◌^◌, ◌∷◌, [], refl}
 use Rattle.std.specs.Prelude.{true, false, Some, None, map}
 use Rattle.pie_fixed.specs.declared.TheConstants.{ONE}
 use Rattle.pie_params.specs.declared.raw.Field.TheVariants.{Target, TUpdate, DqThreshold}
-use Rattle.pie_params.specs.Profile.{default_profile, limit_for, profile_for}
-use Rattle.pie_params.specs.Range.{first_bad, is_dq_threshold}
+use Rattle.pie_params.specs.Params.{default_profile, limit_for, profile_for, first_bad, is_dq_threshold}
 
 -- `ONE`, the bound of the marking threshold, is the probability 1
 one : ONE ≡ 10 ^ 12

@@ -1,4 +1,1 @@
-pub mod Name
-pub mod Profile
-pub mod Range
-pub mod Elements
+pub mod Params

@@ -28,7 +28,7 @@ impl Model for Params {
 
     ghost Value = { RawParams };
 
-    ghost use Rattle.pie_params.specs.Range.{IsInRange, raw_params};
+    ghost use Rattle.pie_params.specs.Params.{IsInRange, raw_params};
 
     ghost view = { raw_params };
 
@@ -50,8 +50,7 @@ impl Model for Params {
 }
 
 impl Params {
-    ghost use Rattle.pie_params.specs.Profile.{default_profile, profile_for};
-    ghost use Rattle.pie_params.specs.Range.{first_bad, is_dq_threshold, IsInRange};
+    ghost use Rattle.pie_params.specs.Params.{default_profile, profile_for, first_bad, is_dq_threshold, IsInRange};
 
     /// Returns the default parameters: the values of RFC 8033 (sections 4.2, 4.4, 5.1 and 5.2) if it states one,
     /// otherwise this project's own.

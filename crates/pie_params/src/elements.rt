@@ -22,7 +22,7 @@ pub enum Picking {
 }
 
 impl Picking {
-    ghost use Rattle.pie_params.specs.Elements.{accumulates};
+    ghost use Rattle.pie_params.specs.Params.{accumulates};
 
     /// Returns true if probabilities accumulate.
     #[inline(always)]
@@ -77,7 +77,7 @@ pub struct Elements {
 }
 
 impl Elements {
-    ghost use Rattle.pie_params.specs.Elements.{usual};
+    ghost use Rattle.pie_params.specs.Params.{usual};
 
     /// Returns the default choices: the delay from the departure rate, de-randomized picking, capped steps, no scaling
     /// by size, and the decay at delays of 0.

@@ -73,7 +73,7 @@ pub struct BadParam(pub Field);
 
 impl fmt::Display for Field {
     ghost use Rattle.std.specs.Prelude.{Some};
-    ghost use Rattle.pie_params.specs.Name.{field_name};
+    ghost use Rattle.pie_params.specs.Params.{field_name};
 
     ghost output = { λ field. Some (field_name field) };
 
@@ -93,7 +93,7 @@ impl fmt::Display for Field {
 }
 
 impl RawParams {
-    ghost use Rattle.pie_params.specs.Range.{first_bad, is_in_range};
+    ghost use Rattle.pie_params.specs.Params.{first_bad, is_in_range};
 
     /// Returns true if the field `field` is in its range.
     fn is_in_range(self, field: Field) -> bool

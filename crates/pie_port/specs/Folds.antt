@@ -1,11 +1,9 @@
 -- Promises of a fold at a port, and the form of an event of the history in a caller's struct.
 use Rattle.std.specs.Prelude.{ℕ, ◌≡◌, List, [], ◌∷◌, ◌++◌, Option, Result, Ok, Err, drop, length, map, min}
-use Rattle.pie_port.specs.Names.{bits_of, Answer, Command, SetParams, Event, Refusal, TriesToFoldInto, CallerView, HasSameNumbers, Tried, PieEvent}
-use Rattle.pie_port.specs.Names.{RawParams, Told, arrived_event, bare_event}
+use Rattle.pie_port.specs.Names.{bits_of, Answer, Command, SetParams, Event, Refusal, TriesToFoldInto, CallerView, HasSameNumbers, Tried, PieEvent, RawParams, Told, arrived_event, bare_event}
 use Rattle.pie_event.specs.declared.command.Command.TheVariants.{Arrive, Depart, Update, Reset}
 use Rattle.pie_port.specs.declared.event_results.EventCall.TheVariants as call
-use Rattle.pie_port.specs.Calls.{AtPort}
-use Rattle.pie_port.specs.Events.{answer_code, answered_event}
+use Rattle.pie_port.specs.Calls.{AtPort, answer_code, answered_event}
 
 -- ---- an event in a struct
 

@@ -1,7 +1,7 @@
 //! The calls for one event, and the fields that they write.
 ghost use Rattle.std.specs.Prelude.{◌≡◌};
 ghost use Rattle.pie_port.specs.{set_event, code_of, answered_event, event_with_code, under};
-ghost use Rattle.pie_port.specs.Events.{filled};
+ghost use Rattle.pie_port.specs.Calls.{filled};
 
 use crate::code::{BUSY, code_of_answer, code_of_refusal, code_of_reply};
 use pie_abi::event::{DEPART, PARAMS, PieEvent, RESET, UPDATE};

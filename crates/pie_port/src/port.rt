@@ -1,6 +1,5 @@
 //! An open port: a caller of a link, and a share of the link.
-ghost use Rattle.std.specs.Prelude.{◌≡◌, ◌≢◌, ◌==◌, ◌+◌, ◌↔◌, ◌≤◌, IfOk, IfErr, IfSome, IsOk, IsTrue, OnOk, OnErr, Some, false, if◌then◌else◌};
-ghost use Rattle.std.specs.Prelude.{vec_capacity};
+ghost use Rattle.std.specs.Prelude.{◌≡◌, ◌≢◌, ◌==◌, ◌+◌, ◌↔◌, ◌≤◌, IfOk, IfErr, IfSome, IsOk, IsTrue, OnOk, OnErr, Some, false, if◌then◌else◌, vec_capacity};
 ghost use Rattle.pie_port.specs.{arc_value, has_bad_ecn};
 
 use crate::code::{NO_MEMORY, ONE_NUMBER};
@@ -42,8 +41,7 @@ impl Model for Port {
 }
 
 impl Port {
-    ghost use Rattle.pie_port.specs.{first_pass, without_highest, highest_alone, IsBeside, IsBothOf, number_of, are_in_range, TriesToAnswer};
-    ghost use Rattle.pie_port.specs.{KeepsOneHistory, HasSameNumbers, IsSetIfInRange, IsTriedUnless, IsFolded, command_in, has_bad_ecn};
+    ghost use Rattle.pie_port.specs.{first_pass, without_highest, highest_alone, IsBeside, IsBothOf, number_of, are_in_range, TriesToAnswer, KeepsOneHistory, HasSameNumbers, IsSetIfInRange, IsTriedUnless, IsFolded, command_in, has_bad_ecn};
 
     /// Returns the boxed port with all numbers of a new link, or `None` if there is no memory or `callers` is 0.
     pub(crate) fn of_opening(alloc: Global, opening: Opening, callers: u16) -> Option<Box<Port>>
@@ -126,7 +124,7 @@ impl Port {
     }
 
     /// Sets the parameters, and writes the result to `event`.
-    #[tactic(auto, unfolding(pie_abi::specs::Params::are_in_range))]
+    #[tactic(auto, unfolding(pie_abi::specs::Structs::are_in_range))]
     pub(crate) fn try_set_params(&mut self, params: &RawParams, event: &mut PieEvent) -> u32
         ensures { IsSetIfInRange (are_in_range params.now) params.now self.old event.old result event.new self.new }
     {

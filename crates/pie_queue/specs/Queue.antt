@@ -1,6 +1,8 @@
 -- The model of a byte queue: the waiting packets, in order, and the capacity of the ring.
-use Rattle.std.specs.Prelude.{ℕ, List, ◌≤◌, ◌^◌, length, sum_by, All}
+use Rattle.std.specs.Prelude.{ℕ, List, ◌≤◌, ◌^◌, length, sum_by, All, Bool, true, false}
 use Rattle.pie_queue.specs.declared.packet.Waiting.{Waiting}
+use Rattle.pie_queue.specs.declared.ecn.Ecn.{Ecn}
+use Rattle.pie_queue.specs.declared.ecn.Ecn.TheVariants.{NotEct, Ect1, Ect0, Ce}
 
 -- the waiting packets, the oldest first, and the greatest number of packets
 pub record Queue : Type 0 where
@@ -24,3 +26,19 @@ pub record IsQueue (queue : Queue) : Type 0 where
   pub ring : queue.capacity ≤ 2 ^ 20
   pub within : length queue.waiting ≤ queue.capacity
   pub sizes : All HasSize queue.waiting
+
+-- ---- Codepoints of the ECN field (RFC 3168, section 5).
+
+-- the two bits of a codepoint
+abbrev pub bits_of : Ecn → ℕ
+bits_of NotEct = 0
+bits_of Ect1 = 1
+bits_of Ect0 = 2
+bits_of Ce = 3
+
+-- true if the endpoints understand a mark, that is, not for Not-ECT
+abbrev pub is_capable : Ecn → Bool
+is_capable NotEct = false
+is_capable Ect1 = true
+is_capable Ect0 = true
+is_capable Ce = true

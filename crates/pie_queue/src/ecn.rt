@@ -14,7 +14,7 @@ pub enum Ecn {
 }
 
 impl Ecn {
-    ghost use Rattle.pie_queue.specs.Ecn.{bits_of, is_capable};
+    ghost use Rattle.pie_queue.specs.Queue.{bits_of, is_capable};
 
     /// Returns the two bits of the codepoint, 0 to 3 (RFC 3168, section 5).
     pub fn bits(self) -> u8

@@ -1,18 +1,26 @@
 -- The remaining bytes of a reader that has read bytes ahead.
 use Rattle.std.proofs.lemmas.Bool.Decides.{nat_tests}
-use Rattle.std.proofs.Common.{sym, ap, ◌∙◌, arith, take, drop, append_assoc, get_or}
+use Rattle.std.proofs.Common.{sym, ap, ◌∙◌, arith, take, drop, append_assoc, get_or, drop-drop, take-append-drop, length-take, length-drop, take_all, take-take, get_or-take, length-take-le, subst}
 use Rattle.std.specs.Prelude.{slice_range, slice_get, Result}
 use lib.Seq.{paste}
 use Rattle.std.specs.List.{copy_within}
 use Rattle.std.specs.Io.KnownBytes.{ReadConsumes}
-use Rattle.std.proofs.Common.{drop-drop, take-append-drop, length-take, length-drop, take_all, take-take, get_or-take, length-take-le}
 use Rattle.std.proofs.Math.Seq.{take-append_seam, take-add, drop-cons}
-use Rattle.std.proofs.lemmas.List.{drop-take}
+use Rattle.std.proofs.lemmas.List.{drop-take, append-nil, take_more}
 use Rattle.std.proofs.lemmas.List.Edits.{take-paste}
 use Rattle.std.proofs.lemmas.Option.{slice_get_within, get_or_from_slice_get}
 use Rattle.csv.proofs.ReadFacts.{prepend-nil}
-use Rattle.pie_record.specs.{HasTakenLine, IsFound, WasTaken}
-use Rattle.pie_record.specs.{◌≡◌, ◌<◌, ◌≤◌, ◌+◌, ◌-◌, ◌++◌, ◌∷◌, ◌==◌, ℕ, suc, List, [], length, refl, false, Option, Some, None, Keeps, Consumes, prepend_known}
+use Rattle.pie_record.specs.{HasTakenLine, IsFound, WasTaken, ◌≡◌, ◌<◌, ◌≤◌, ◌+◌, ◌-◌, ◌++◌, ◌∷◌, ◌==◌, ℕ, suc, List, [], length, refl, false, Option, Some, None, Keeps, Consumes, prepend_known, OnOk, TraceFault, Appends, append_known, Bool, IfSome, Row, TakesRow, true, split_line, records_left, records_at, strip_bom, ReadsPlain, IsPlainLine, IsAtEnd, commas, IsPlain}
+use Rattle.std.proofs.KnownBytes.{Appends-nil}
+use Rattle.pie_record.proofs.LineReads.{line-read, feed-read}
+use Rattle.pie_record.proofs.HistoryFacts.{none-left}
+use Rattle.pie_record.specs.declared.record.Found.TheVariants as found
+use Rattle.csv.specs.declared.parser.State.TheVariants as st
+use Rattle.std.proofs.lemmas.List.Elements.{All-append, All-cons, All-nil}
+pub use Rattle.pie_record.proofs.FieldFacts.{decimal-some, number-back, and_after, drop-has, back_ecn, back_u32, back_u64, has-all, kind-first, number-then, ok-same, numbers-back, packet-read, params-back, tested, word-has}
+pub use Rattle.pie_record.proofs.HistoryFacts.{line_in-flaw, line_in-line, line_in-long, lines_from-failed, lines_from-line, lines_from-none, event_count-cons, read-all, reads-one, last-push, latest_clock-made, latest_clock-none, latest_clock-push, records_left-written, records_of-first, records_of-written, rows_text-cons}
+pub use Rattle.pie_record.proofs.LinesBack.{same-before-three, LineFits, line-again, lines-fit}
+pub use Rattle.pie_record.proofs.OpeningBack.{chosen-read, long-draft, field-reads}
 
 none-ahead : (bytes : List ℕ) (at end : ℕ) → end ≤ at → slice_range bytes at end ≡ []
 none-ahead bytes at end over = let none : end - at ≡ 0 = omega arith in rw none refl
@@ -118,3 +126,120 @@ module _ (known : Option (List ℕ)) (bytes all copied rest : List ℕ) (at end 
           let ahead = slice_range bytes at end in
           rw (copied-is, range-behind bytes at count end ahead-long)
           (ap (λ (l : List ℕ). l ++ ys) (sym (take-append-drop count ahead)) ∙ append_assoc (take count ahead) (drop count ahead) ys)
+
+-- ---- The text appended to a writer's bytes and to the rows that wait behind them.
+
+-- the pending rows were written, and none remains
+pub moved_ok : (out now : Option (List ℕ)) (rows left : List ℕ) (result : Result (Unit {0}) TraceFault) → OnOk result (Appends out now rows)
+    → left ≡ [] → OnOk result (Appends (append_known out rows) (append_known now left) [])
+moved_ok out now rows left result written none = grind (arith, nat_tests, append-nil)
+
+-- while few rows wait, nothing is written
+pub unmoved : (known : Option (List ℕ)) → Appends known known []
+unmoved known = Appends-nil known
+
+-- if no row waited at first, the appended text is in the writer's bytes
+pub finished-ok : (before out now : Option (List ℕ)) (rows text : List ℕ) (result : Result (Unit {0}) TraceFault)
+    → Appends (append_known before []) (append_known out rows) text → OnOk result (Appends out now rows) → OnOk result (Appends before now text)
+finished-ok before out now rows text result stands written = grind (arith, nat_tests, append-nil)
+
+-- ---- The records that remain after one step of a read.
+
+-- a step after steps that took no record
+pub takes_later : (first now later : Option (List Row)) (found : Bool) (row : Row) → IfSome first (λ rows. now ≡ Some rows) → TakesRow now found row later
+    → TakesRow first found row later
+takes_later first now later found row same takes = grind (arith, nat_tests)
+
+pub left-later : (first now later : Option (List Row)) → IfSome first (λ rows. now ≡ Some rows) → IfSome now (λ rows. later ≡ Some rows)
+    → IfSome first (λ rows. later ≡ Some rows)
+left-later first now later same left = grind (arith, nat_tests)
+
+-- ---- The result of reading a line, as a statement on the remaining records.
+
+-- bytes that do not begin with the first byte of a byte order mark begin with none
+no-mark : (byte : ℕ) (rest : List ℕ) → (byte == 239) ≡ false → strip_bom (byte ∷ rest) ≡ byte ∷ rest
+unfolding strip_bom
+no-mark byte rest other = grind (arith, nat_tests)
+
+at-left : (is_first : Bool) (byte : ℕ) (rest : List ℕ) → (is_first ≡ true → (byte == 239) ≡ false)
+    → records_at is_first (byte ∷ rest) ≡ records_left st.StartRecord (byte ∷ rest)
+at-left true byte rest other = ap (records_left st.StartRecord) (no-mark byte rest (other refl))
+at-left false byte rest other = refl
+
+none-at : (is_first : Bool) → records_at is_first [] ≡ []
+unfolding strip_bom
+none-at true = none-left
+none-at false = none-left
+
+plain-at : (is_first : Bool) (line rest : List ℕ) → IsPlainLine line → 0 < length line → (is_first ≡ true → (get_or line 0 0 == 239) ≡ false)
+    → records_at is_first (line ++ 10 ∷ rest) ≡ split_line line ∷ records_left st.StartRecord rest
+plain-at is_first [] rest plain some other = absurd (omega arith)
+plain-at is_first (byte ∷ line) rest plain some other = at-left is_first byte (line ++ 10 ∷ rest) other ∙ line-read (byte ∷ line) rest plain some
+
+module _ (is_first : Bool) (before after : Option (List ℕ)) (line ends : List ℕ) (long : ℕ) (it : HasTakenLine before line ends long after) where
+  pub plain-found : 0 < long → ReadsPlain found.Plain is_first before (split_line line) after
+  plain-found some = grind (arith, nat_tests, plain-at)
+
+  pub empty-found : long ≡ 0 → (row : Row) → ReadsPlain found.Empty is_first before row after
+  empty-found none row = by line before (it.is_long ∙ none) it.taken
+    where
+      by : (l : List ℕ) (o : Option (List ℕ)) → length l ≡ 0 → WasTaken o l after → ReadsPlain found.Empty is_first o row after
+      by (byte ∷ l) o none taken = absurd (omega (arith, none))
+      by [] None none taken = tt
+      by [] (Some all) none taken =
+          (taken.0, taken.1, ap (records_at is_first) taken.2 ∙ at-left is_first 10 taken.0 (λ _. refl) ∙ feed-read taken.0)
+
+-- ---- more bytes were read
+
+kept : (rest : List ℕ) (after : Option (List ℕ)) → Keeps (Some rest) after → after ≡ Some rest
+kept rest after keeps = grind (arith, nat_tests)
+
+pub nothing_found : (is_first : Bool) (before after : Option (List ℕ)) (row : Row) → Keeps before after → IsAtEnd after
+    → ReadsPlain found.Nothing is_first before row after
+nothing_found is_first None after row keeps over = tt
+nothing_found is_first (Some all) after row keeps over =
+    let same = kept all after keeps in
+    let none : all ≡ [] = subst (λ (o : Option (List ℕ)). IsAtEnd o) same over in
+    (all, same, ap (records_at is_first) none ∙ none-at is_first)
+
+pub later_left : (before after : Option (List ℕ)) (row : Row) → after ≡ prepend_known (10 ∷ []) before → ReadsPlain found.Odd false before row after
+later_left before after row back = grind (arith, nat_tests, feed-read, no-mark)
+
+-- ---- Plain lines: their commas, their fields, csv's reading of them and its writing of them.
+
+-- the commas of a line and of the bytes after it
+pub commas-append : (from : ℕ) (line more : List ℕ) → commas from (line ++ more) ≡ commas from line ++ commas (from + length line) more
+unfolding commas
+commas-append from [] more = let same : from + 0 ≡ from = omega arith in rw same refl
+commas-append from (byte ∷ rest) more = grind (arith, nat_tests, commas-append (from + 1) rest more)
+
+-- the commas of a line and of one more byte
+pub commas-more : (from : ℕ) (bytes : List ℕ) (i : ℕ) → i < length bytes
+    → commas from (take (i + 1) bytes) ≡ commas from (take i bytes) ++ commas (from + i) (get_or bytes i 0 ∷ [])
+commas-more from bytes i before =
+    let long : length (take i bytes) ≡ i = length-take-le i bytes (omega arith) in
+    ap (commas from) (take_more bytes i 0 before) ∙ commas-append from (take i bytes) (get_or bytes i 0 ∷ [])
+    ∙ ap (λ (n : ℕ). commas from (take i bytes) ++ commas (from + n) (get_or bytes i 0 ∷ [])) long
+
+-- the commas of a line and of one more byte: a comma, or another byte
+pub commas-comma : (from : ℕ) (bytes : List ℕ) (i : ℕ) → i < length bytes → get_or bytes i 0 ≡ 44
+    → commas from (take (i + 1) bytes) ≡ commas from (take i bytes) ++ (from + i) ∷ []
+unfolding commas
+commas-comma from bytes i before is = rw (commas-more from bytes i before) (grind (arith, nat_tests, is))
+
+pub commas-other : (from : ℕ) (bytes : List ℕ) (i : ℕ) → i < length bytes → (get_or bytes i 0 ≡ 44 → 1 ≤ 0)
+    → commas from (take (i + 1) bytes) ≡ commas from (take i bytes)
+unfolding commas
+commas-other from bytes i before other = rw (commas-more from bytes i before) (grind (arith, nat_tests, append-nil (commas from (take i bytes)), other))
+
+-- a plain byte more
+pub plain-more : (bytes : List ℕ) (i : ℕ) → i < length bytes → IsPlainLine (take i bytes) → IsPlain (get_or bytes i 0) → IsPlainLine (take (i + 1) bytes)
+plain-more bytes i before plain one =
+    rw (take_more bytes i 0 before) (All-append IsPlain (take i bytes) (get_or bytes i 0 ∷ []) plain (All-cons IsPlain (get_or bytes i 0) [] one (All-nil IsPlain)))
+
+-- a byte above the comma is plain, and so is the comma
+pub plain-above : (byte : ℕ) → 44 ≤ byte → IsPlain byte
+plain-above byte above = grind (arith, nat_tests, above)
+
+-- ---- The laws of this crate's definitions that crates above cite: of numbers and fields, read and written; of lines and faults, one record after
+-- another; and of texts that were written, read again. They name no other module of proofs/.

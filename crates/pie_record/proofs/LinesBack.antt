@@ -5,21 +5,9 @@ use Rattle.std.proofs.lemmas.Bool.{eqb-true}
 use Rattle.std.proofs.lemmas.Bool.Decides.{nat_tests}
 use Rattle.std.proofs.lemmas.Slice.Eq.{bytes_eq-Decides}
 use Rattle.pie_record.specs.Names.{Answer, Command, Clock, Field}
-use Rattle.pie_record.specs.{One, Two, ◌≡◌, ◌<◌, ◌==◌, ◌^◌, ℕ, List, [], ◌∷◌, ◌++◌, Bool, true, length, decimal, refl, Option, Some, None, Result, Ok}
-use Rattle.pie_record.specs.{codes, ⊤, field_at, Packet, AnswerFits, RegistersFit, StatsFit, Empty, Left, Updated, Done, Arrive, Depart, Update}
-use Rattle.pie_record.specs.{Reset, SetParams, Event, CommandFields, CommandKind, RecordFault, Line, Version, Three, clock_at, clock_in, clock_row, most_moment}
-use Rattle.pie_record.specs.{command_at, command_kind, is_kind, most_u128, most_u64, packet_at, expect_keyword, active_line, answer_at, departure_at}
-use Rattle.pie_record.specs.{event_line, has_length, line_by, line_for, line_of, made, note_line, numbers_at, registers_at, shown_line, update_at}
-use Rattle.pie_record.specs.{verdict_of, number, EventFits, AreLinesOf, Row, request_of, word_of_answer, command_fields, event_row, line_rows, without_notes}
-use Rattle.pie_record.specs.{fits, Registers, Stats, answer_fields, counted, flag, folded_row, refused_row, shown_row, tallied_row, All, and_then}
-use Rattle.pie_record.specs.{lines_from, ◌≤◌, drop, map, first_bad, RawParams, CommandFits, ParamsFit, arrival_at, command_fields_at, change_at, change_to}
-use Rattle.pie_record.specs.{command_length, most_u16, params_at, NineFit, command_request, fold_request, request_by, nine_of, BadChange}
-use Rattle.pie_record.specs.{command_word, false, ◌+◌, ◌||◌, if◌then◌else◌, is_word, rows_unless_note}
-use Rattle.pie_record.proofs.FieldFacts.{and_after, back_ecn, back_u32, back_u64, field-read, number-then, one-way, no-flaw, packet-read, tested}
-use Rattle.pie_record.proofs.FieldFacts.{Says, numbers-back, read-as, Has, HasAll, has-all, ok-same, ParamsRead, params-back, params-read, word-has}
-use Rattle.pie_record.proofs.FieldFacts.{found, same-bytes}
+use Rattle.pie_record.specs.{One, Two, ◌≡◌, ◌<◌, ◌==◌, ◌^◌, ℕ, List, [], ◌∷◌, ◌++◌, Bool, true, length, decimal, refl, Option, Some, None, Result, Ok, codes, ⊤, field_at, Packet, AnswerFits, RegistersFit, StatsFit, Empty, Left, Updated, Done, Arrive, Depart, Update, Reset, SetParams, Event, CommandFields, CommandKind, RecordFault, Line, Version, Three, clock_at, clock_in, clock_row, most_moment, command_at, command_kind, is_kind, most_u128, most_u64, packet_at, expect_keyword, active_line, answer_at, departure_at, event_line, has_length, line_by, line_for, line_of, made, note_line, numbers_at, registers_at, shown_line, update_at, verdict_of, number, EventFits, AreLinesOf, Row, request_of, word_of_answer, command_fields, event_row, line_rows, without_notes, fits, Registers, Stats, answer_fields, counted, flag, folded_row, refused_row, shown_row, tallied_row, All, and_then, lines_from, ◌≤◌, drop, map, first_bad, RawParams, CommandFits, ParamsFit, arrival_at, command_fields_at, change_at, change_to, command_length, most_u16, params_at, NineFit, command_request, fold_request, request_by, nine_of, BadChange, command_word, false, ◌+◌, ◌||◌, if◌then◌else◌, is_word, rows_unless_note}
+use Rattle.pie_record.proofs.FieldFacts.{and_after, back_ecn, back_u32, back_u64, field-read, number-then, one-way, no-flaw, packet-read, tested, Says, numbers-back, read-as, Has, HasAll, has-all, ok-same, ParamsRead, params-back, params-read, word-has, found, same-bytes, number-back}
 use Rattle.pie_record.proofs.HistoryFacts.{read-all}
-use Rattle.pie_record.proofs.NumberFacts.{number-back}
 use Rattle.pie_record.specs.declared.command.CommandFields.TheVariants as fields
 use Rattle.pie_record.specs.declared.fault.RecordFault.TheVariants as flaw
 use Rattle.pie_record.specs.declared.history_record.Line.TheVariants as line

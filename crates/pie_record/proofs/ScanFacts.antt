@@ -8,7 +8,7 @@ use Rattle.std.specs.Int.{bit_at}
 use lib.Bits.{bit_and}
 use Rattle.std.specs.Prelude.{slice_get, slice_range}
 use Rattle.pie_record.specs.{◌≡◌, ◌<◌, ◌+◌, ◌-◌, ◌++◌, ◌∷◌, ◌≤◌, ℕ, List, [], length, IsFound, IsLowest, IsScanned, IsWithout, AreMarked, Some}
-use Rattle.pie_record.proofs.LineFacts.{commas-comma, commas-other, plain-above, plain-more}
+use Rattle.pie_record.proofs.InputFacts.{commas-comma, commas-other, plain-above, plain-more}
 
 module _ (bytes : List ℕ) where
   -- the next byte is a comma, or another plain one

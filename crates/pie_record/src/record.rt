@@ -1,8 +1,7 @@
 //! One record of a text.
 ghost use Rattle.std.specs.Prelude.{◌≡◌, ◌≤◌, ◌<◌, ◌+◌, ◌-◌, ◌^◌, ◌++◌, ◌∷◌, get_or};
-ghost use Rattle.pie_record.specs.{[], ℕ, IfSome, Some, drop, length, number, option_and_then, option_map, field_at, text_of, IsLine, Row};
-ghost use Rattle.pie_record.specs.{split_line, start_of, IfOk, IfErr, ReadsPlain, TraceFault, IsReading, rows_left, fields_of};
-ghost use Rattle.pie_record.specs.Source.{StepsBy};
+ghost use Rattle.pie_record.specs.{[], ℕ, IfSome, Some, drop, length, number, option_and_then, option_map, field_at, text_of, IsLine, Row, split_line, start_of, IfOk, IfErr, ReadsPlain, TraceFault, IsReading, rows_left, fields_of};
+ghost use Rattle.pie_record.specs.Text.{StepsBy};
 
 use crate::TraceFault;
 use crate::fault::ReadFailure;
@@ -91,7 +90,7 @@ fn field_between<'a>(line: &'a [u8], ends: &[usize], place: usize) -> &'a [u8]
 /// Leaves the bytes to csv, as the beginning of a text with the same records.
 #[cold]
 #[inline(never)]
-#[tactic(auto, using(crate::proofs::FoundFacts::later_left))]
+#[tactic(auto, using(crate::proofs::InputFacts::later_left))]
 fn leave_to_csv<R: Read>(
     alloc: Global,
     input: &mut Input<R>,
@@ -111,7 +110,7 @@ fn leave_to_csv<R: Read>(
 /// Reads more bytes of a line, or finds that there are none.
 #[cold]
 #[inline(never)]
-#[tactic(auto, using(crate::proofs::FoundFacts::nothing_found))]
+#[tactic(auto, using(crate::proofs::InputFacts::nothing_found))]
 fn read_on<R: Read>(
     alloc: Global,
     input: &mut Input<R>,
@@ -160,7 +159,7 @@ impl Record {
     }
 
     /// Returns the number of fields.
-    #[tactic(auto, using(crate::proofs::PlainFacts::line_long, crate::proofs::PlainFacts::some_fields))]
+    #[tactic(auto, using(crate::proofs::LineReads::line_long, crate::proofs::LineReads::some_fields))]
     pub fn len(&self) -> usize
         ensures { result ≡ length self.now }
     {
@@ -173,7 +172,7 @@ impl Record {
 
     /// Returns the field at `place`, counted from 0, or `None` if there are fewer fields.
     #[inline(always)]
-    #[tactic(auto, using(crate::proofs::PlainFacts::line_past, crate::proofs::PlainFacts::some_fields))]
+    #[tactic(auto, using(crate::proofs::LineReads::line_past, crate::proofs::LineReads::some_fields))]
     pub fn get(&self, place: usize) -> Option<&[u8]>
         ensures { option_map (λ field. field.now) result ≡ field_at self.now place }
     {
@@ -203,7 +202,7 @@ impl Record {
     /// # Errors
     ///
     /// `Memory`.
-    #[tactic(auto, using(crate::proofs::LineReads::line_text, crate::proofs::PlainFacts::some_fields))]
+    #[tactic(auto, using(crate::proofs::LineReads::line_text, crate::proofs::LineReads::some_fields))]
     pub fn text(&self, alloc: Global) -> Result<Vec<u8>, TraceFault>
         ensures text { IfOk result (λ bytes. bytes.items ≡ text_of self.now) }
         ensures memory { IfErr result (λ why. why ≡ TraceFault.Memory) }
@@ -224,7 +223,7 @@ impl Record {
 
     /// Returns the line of a plain record, without its line feed: the text of the record as csv writes it. `None` if csv read the
     /// record: it reads all records from the first line on that is not plain.
-    #[tactic(auto, using(crate::proofs::LineReads::line_text, crate::proofs::PlainFacts::some_fields))]
+    #[tactic(auto, using(crate::proofs::LineReads::line_text, crate::proofs::LineReads::some_fields))]
     pub fn line(&self) -> Option<&[u8]>
         ensures { IfSome result (λ line. text_of self.now ≡ line.now ++ 10 ∷ []) }
     {
@@ -263,7 +262,7 @@ impl Record {
 
     /// Lets csv read a record. After a failure no record is left.
     #[inline(never)]
-    #[tactic(auto, using(crate::proofs::RecordFacts::takes_row))]
+    #[tactic(auto, using(crate::proofs::HistoryFacts::takes_row))]
     pub(crate) fn read_csv_record<R: Read>(
         &mut self,
         reader: &mut csv::Reader<R>,

@@ -1,22 +1,12 @@
 -- The entries of a caller's calls in a growing history, one by one or in bursts; and the events of its folds.
-use Rattle.pie_storm.proofs.Names.{◌≡◌, ℕ, ◌+◌, true, false, List, [], ◌∷◌, ◌++◌, take, refl, ap, sym, ◌∙◌, arith, All, nat_tests, append-nil}
-use Rattle.pie_storm.proofs.Names.{All-head, All-tail, is_within, NoneOwn, gone_on, Event, Opening, folded_for, number_of, tail_in, EntriesLookBack}
-use Rattle.pie_storm.proofs.Names.{Entry, Applied, Folded, HasNoMore, is_number, zero, suc, ◌≤◌, Some, None, Ok, Err, Option, Result, Vec, drop, min}
-use Rattle.pie_storm.proofs.Names.{length, slice_get, subst, inl, inr, length-append, length-drop, Global, take-add, take-length, length-take}
-use Rattle.pie_storm.proofs.Names.{append_assoc, Extends, goes_on_itself, Answer, Command, Refusal, refusal_by_rule, event_of, entries_of, events_in}
-use Rattle.pie_storm.proofs.Names.{Told, CallerView, LinkView, Call, Apply, Fold, Plan, IsFair, calls_of, folder, opening_of, AreMade, IsOutcomeBy}
-use Rattle.pie_storm.proofs.Names.{IsOutcomeOf, IsAt, IsCutShort, IsFor, WereFolded, map, IfSome, IsOk, length-map, All-cons, All-nil, Arrival, Reply}
-use Rattle.pie_storm.proofs.Names.{always, arrive, arriving, AddedByAll, decision}
+use Rattle.pie_storm.proofs.Names.{◌≡◌, ℕ, ◌+◌, true, false, List, [], ◌∷◌, ◌++◌, take, refl, ap, sym, ◌∙◌, arith, All, nat_tests, append-nil, All-head, All-tail, is_within, NoneOwn, gone_on, Event, Opening, folded_for, number_of, tail_in, EntriesLookBack, Entry, Applied, Folded, HasNoMore, is_number, zero, suc, ◌≤◌, Some, None, Ok, Err, Option, Result, Vec, drop, min, length, slice_get, subst, inl, inr, length-append, length-drop, Global, take-add, take-length, length-take, append_assoc, Extends, goes_on_itself, Answer, Command, Refusal, refusal_by_rule, event_of, entries_of, events_in, Told, CallerView, LinkView, Call, Apply, Fold, Plan, IsFair, calls_of, folder, opening_of, AreMade, IsOutcomeBy, IsOutcomeOf, IsAt, IsCutShort, IsFor, WereFolded, map, IfSome, IsOk, length-map, All-cons, All-nil, Arrival, Reply, always, arrive, arriving, AddedByAll, decision}
 use Rattle.std.proofs.lemmas.List.Elements.{filter-append, All-drop, All-take}
 use Rattle.pie_event.specs.declared.refusal.FoldRefusal.{FoldRefusal}
 use Rattle.pie_event.specs.declared.refusal.FoldRefusal.TheVariants.{TooMany, Memory}
 use Rattle.pie_event.specs.declared.refusal.Refusal.TheVariants.{TooSoon, Moment, Size, Exhausted, HistoryFull}
-use Rattle.pie_link.specs.Commands.{Answers}
-use Rattle.pie_link.specs.CallerFolds.{Folds}
+use Rattle.pie_link.specs.Callers.{Answers, Folds, AnswersAll, AnswersWithin, IsTurn}
 use Rattle.pie_storm.specs.Storms.{IsEntryOf, TakenIn, WasPassedOver, added_by}
-use Rattle.pie_link.specs.Bursts.{burst_within, entries_by, entries_within, refused_or_answered, replies_within, reply_in, refusal_in}
-use Rattle.pie_link.specs.CallerBursts.{AnswersAll, AnswersWithin}
-use Rattle.pie_link.specs.Views.{IsTurn}
+use Rattle.pie_link.specs.Entries.{burst_within, entries_by, entries_within, refused_or_answered, replies_within, reply_in, refusal_in}
 use Rattle.pie_storm.proofs.PlanFacts.{IsCallOf, all_at, calls_are}
 
 -- one more fold of the caller

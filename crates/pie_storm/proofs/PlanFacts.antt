@@ -1,19 +1,15 @@
 -- The lists of a storm's plan grow by one entry, the random words are taken one after another, and the calls of a sound
 -- plan's callers.
-use Rattle.pie_storm.proofs.Names.{◌≡◌, ◌+◌, ◌*◌, ◌/◌, ◌^◌, ◌≤◌, ℕ, List, [], ◌∷◌, ◌++◌, map, refl, sym, arith, Vec, range_with_len, Global}
-use Rattle.pie_storm.proofs.Names.{length, map-append, take, take-length, total, Arrival, arrivals_of, list_in, ◌-◌, ◌==◌, nat_le, Bool, true, false}
-use Rattle.pie_storm.proofs.Names.{Some, slice_get, drop, subst, if◌then◌else◌, All, drop-map, take-map, nat_tests, All-nil, Call, Apply, Fold, Plan}
-use Rattle.pie_storm.proofs.Names.{IsFair, IsSound, arriving, calls_of, changing, departing, folder, senders, updater, updating, None, Option}
+use Rattle.pie_storm.proofs.Names.{◌≡◌, ◌+◌, ◌*◌, ◌/◌, ◌^◌, ◌≤◌, ℕ, List, [], ◌∷◌, ◌++◌, map, refl, sym, arith, Vec, range_with_len, Global, length, map-append, take, take-length, total, Arrival, arrivals_of, list_in, ◌-◌, ◌==◌, nat_le, Bool, true, false, Some, slice_get, drop, subst, if◌then◌else◌, All, drop-map, take-map, nat_tests, All-nil, Call, Apply, Fold, Plan, IsFair, IsSound, arriving, calls_of, changing, departing, folder, senders, updater, updating, None, Option}
 use Rattle.std.proofs.Common.{add-one}
 use Rattle.std.proofs.Math.Nat.{div-le_self, mul-le-mul_left}
 use Rattle.std.proofs.lemmas.List.FromFn.{map-range_with_len_more}
 use Rattle.rand_core.specs.Stream.{Stream, next_u64}
-use Rattle.pie_storm.specs.StormPlan.{after_three}
+use Rattle.pie_storm.specs.Plans.{after_three, IsMoment, IsSoundArrival, sent_by}
 use Rattle.std.proofs.lemmas.List.Elements.{All-map, All-weaker}
 use Rattle.std.proofs.lemmas.Option.{get_or_from_slice_get, slice_get_within}
 use Rattle.pie_book.specs.Decision.{is_too_soon}
 use Rattle.pie_storm.specs.declared.plan.Change.{Change}
-use Rattle.pie_storm.specs.Plans.{IsMoment, IsSoundArrival, sent_by}
 
 -- ---- numbers
 

@@ -1,17 +1,13 @@
 -- A plan from numbers in their ranges is sound, and its link is opened if there is memory. The events of a legal history
 -- have the kinds of their commands, and are few; their text is clean.
-use Rattle.pie_storm.proofs.Names.{◌≡◌, ◌≤◌, ◌<◌, ◌+◌, ◌*◌, ◌/◌, ◌∙◌, ℕ, zero, suc, List, Vec, Global, All, map, length, refl, sym, ap, subst}
-use Rattle.pie_storm.proofs.Names.{⊎_elim, arith, ◌^◌, ◌∷◌, [], nat_tests, range_with_len, slice_get, Some, None, Arrival, Plan, IsSound, arrivals_of}
-use Rattle.pie_storm.proofs.Names.{list_in, length-map, arriving, planned_arrival, sender_words, senders, total, calls_of, ◌++◌, true, IfSome, Option}
-use Rattle.pie_storm.proofs.Names.{Result, Ok, Err, append-nil, Command, Event, Opening, IsLegal, IsLegalAt, decision, opening_of}
+use Rattle.pie_storm.proofs.Names.{◌≡◌, ◌≤◌, ◌<◌, ◌+◌, ◌*◌, ◌/◌, ◌∙◌, ℕ, zero, suc, List, Vec, Global, All, map, length, refl, sym, ap, subst, ⊎_elim, arith, ◌^◌, ◌∷◌, [], nat_tests, range_with_len, slice_get, Some, None, Arrival, Plan, IsSound, arrivals_of, list_in, length-map, arriving, planned_arrival, sender_words, senders, total, calls_of, ◌++◌, true, IfSome, Option, Result, Ok, Err, append-nil, Command, Event, Opening, IsLegal, IsLegalAt, decision, opening_of}
 use Rattle.pie_storm.proofs.PlanFacts.{all_at, sender_has, total_more, all_of}
-use Rattle.pie_storm.specs.Plans.{IsMoment, IsSoundArrival, planned}
-use Rattle.pie_storm.specs.StormPlan.{HasStormRange, IsStormPlan, change_at, command_count, words_after}
-use Rattle.pie_storm.specs.Storms.{refusal_of}
+use Rattle.pie_storm.specs.Plans.{IsMoment, IsSoundArrival, planned, HasStormRange, IsStormPlan, change_at, command_count, words_after}
+use Rattle.pie_storm.specs.Storms.{refusal_of, WritesHistory}
 unfoldable use Rattle.pie_storm.specs.Storms.{CanStop, HasFault}
 use Rattle.pie_storm.specs.declared.storm_end.StormFault.{StormFault}
 use Rattle.pie_event.specs.declared.opening.Limits.{Limits}
-use Rattle.pie_link.specs.Opening.{link_refusal}
+use Rattle.pie_link.specs.Headline.{link_refusal}
 use Rattle.rand_core.specs.Stream.{next_u64}
 use Rattle.pie_storm.specs.declared.plan_numbers.StormNumbers.{StormNumbers}
 use Rattle.pie_storm.specs.declared.plan.Change.{Change}
@@ -21,21 +17,17 @@ use Rattle.std.proofs.Math.ListN.{get_or-map}
 use Rattle.std.proofs.lemmas.List.FromFn.{get_or-map-range_with_len, length-map-range_with_len}
 use Rattle.std.specs.Prelude.{OnOk}
 use Rattle.std.specs.Io.KnownBytes.{Appends}
-use Rattle.pie_aqm.specs.Places.{Place, after, places}
-use Rattle.pie_event.specs.Effect.{fits}
-use Rattle.pie_event.specs.Opening.{opening_refusal}
+use Rattle.pie_aqm.specs.History.{Place, after, places}
+use Rattle.pie_event.specs.Event.{fits, opening_refusal}
 use Rattle.pie_record.specs.ReadBack.{IsHistoryText}
 use Rattle.pie_record.specs.Text.{Row, records_of, rows_text}
 use Rattle.pie_excerpt.specs.Beginning.{beginning_of}
 use Rattle.pie_record.specs.Write.{written_rows}
 use Rattle.pie_record.specs.declared.history_record.Line.{Line}
 use Rattle.pie_record.specs.declared.history_record.Line.TheVariants.{Valid}
-use Rattle.pie_audit.specs.Auditor.{Audits, AuditorView}
-use Rattle.pie_audit.specs.Finding.{events_of, finding, first_difference}
-use Rattle.pie_audit.specs.Legal.{EventsAreLines, AreLegal}
+use Rattle.pie_audit.specs.Replay.{Audits, AuditorView, events_of, finding, first_difference, EventsAreLines, AreLegal}
 use Rattle.pie_audit.specs.Text.{text_lines, text_finding, whole_finding}
 use Rattle.pie_audit.specs.declared.auditor.Finding.TheVariants.{Clean, Differs}
-use Rattle.pie_storm.specs.StormHistory.{WritesHistory}
 
 -- ---- lists
 

@@ -1,4 +1,2 @@
 pub mod Plans
 pub mod Storms
-pub mod StormHistory
-pub mod StormPlan

@@ -1,9 +1,8 @@
 -- The calls that a storm's callers made, and its result. A history is the list of all entries of the link: its events
 -- and folds.
-use Rattle.std.specs.Prelude.{◌≡◌, ◌==◌, ◌+◌, ◌<◌, ◌≤◌, ◌⊎◌, ℕ, Bool, false, All, List, [], ◌∷◌, ◌++◌, Option, Some, None, Result, Ok, Err}
-use Rattle.std.specs.Prelude.{IfSome, IsOk, Vec, drop, min, length, take}
+use Rattle.std.specs.Prelude.{◌≡◌, ◌==◌, ◌+◌, ◌<◌, ◌≤◌, ◌⊎◌, ℕ, Bool, false, All, List, [], ◌∷◌, ◌++◌, Option, Some, None, Result, Ok, Err, IfSome, IsOk, Vec, drop, min, length, take}
 use Rattle.std.specs.declared.alloc.Global.{Global}
-use Rattle.pie_lock.specs.Steps.{Extends}
+use Rattle.pie_lock.specs.Rule.{Extends}
 use Rattle.pie_event.specs.declared.command.Command.{Command}
 use Rattle.pie_event.specs.declared.command.Event.{Event}
 use Rattle.pie_event.specs.declared.opening.Opening.{Opening}
@@ -14,13 +13,12 @@ use Rattle.pie_event.specs.declared.refusal.FoldRefusal.{FoldRefusal}
 use Rattle.pie_event.specs.declared.refusal.FoldRefusal.TheVariants.{TooMany, Memory}
 use Rattle.pie_link.specs.declared.call_result.Told.{Told}
 use Rattle.pie_book.specs.Decision.{IsLegal, refusal_by_rule}
-use Rattle.pie_book.specs.Registers.{registers_after}
-use Rattle.pie_book.specs.Statistics.{stats_after}
+use Rattle.pie_book.specs.Statistics.{registers_after, stats_after}
 use Rattle.pie_link.specs.declared.entry.Entry.{Entry}
 use Rattle.pie_link.specs.declared.entry.Entry.TheVariants.{Applied, Folded}
 use Rattle.pie_link.specs.Entries.{entries_of, events_in, folded_events, folded_for, number_of, tail_in}
-use Rattle.pie_link.specs.Opening.{IsRefusedFor, IsWantOfMemory, link_refusal}
-use Rattle.pie_link.specs.Views.{LinkView, CallerView}
+use Rattle.pie_link.specs.Headline.{IsRefusedFor, IsWantOfMemory, link_refusal}
+use Rattle.pie_link.specs.Callers.{LinkView, CallerView}
 use Rattle.pie_link.specs.declared.refusal.LinkRefusal.{LinkRefusal}
 use Rattle.pie_storm.specs.declared.storm_end.StormEnd.{StormEnd}
 use Rattle.pie_storm.specs.declared.storm_end.StormFault.{StormFault}
@@ -31,6 +29,11 @@ use Rattle.pie_storm.specs.declared.plan.Call.TheVariants.{Apply, Fold}
 use Rattle.pie_storm.specs.declared.worker.Folding.{Folding}
 use Rattle.pie_storm.specs.declared.worker.Work.{Work}
 use Rattle.pie_storm.specs.Plans.{IsSound, calls_of, folder, opening_of, senders, updater}
+use Rattle.std.specs.Io.KnownBytes.{Appends}
+use Rattle.pie_record.specs.Text.{rows_text, records_of}
+use Rattle.pie_record.specs.Write.{written_rows}
+use Rattle.pie_audit.specs.declared.auditor.Finding.TheVariants.{Clean}
+use Rattle.pie_audit.specs.Text.{text_finding}
 
 -- this entry is the one that the caller's call adds to this history; a fold found its events in the log
 abbrev pub IsEntryOf : Opening → List Entry → ℕ → Call → Entry → Type 0
@@ -205,3 +208,22 @@ CanStop (fault.Opening why) = IsWantOfMemory why
 CanStop fault.Memory = Unit {0}
 CanStop fault.Thread = Unit {0}
 CanStop fault.Gap = ⊥
+
+-- ---- The written history of a storm.
+
+-- the history of these events, from the opening of this plan, was written
+pub record WritesHistory (plan : Plan) (events : List Event) (before now : Option (List ℕ)) : Type 0 where
+  pub written : Appends before now (rows_text (written_rows (opening_of plan) events))
+  -- if it is the whole text, it is clean
+  pub clean : before ≡ Some [] → IfSome now (λ text. text_finding (records_of text) ≡ Ok (Clean (length events)))
+
+-- the history of a storm was written
+pub record WritesStorm (plan : Plan) (before now : Option (List ℕ)) : Type 0 where
+  pub events : List Event
+  pub too_soon : ℕ
+  pub too_many : ℕ
+  -- its events are those of the plan, except `too_soon` updates that were too soon
+  pub planned : IsStorm plan events too_soon too_many
+  -- each event is the one that the rules give at its place
+  pub legal : IsLegal (opening_of plan) events
+  pub history : WritesHistory plan events before now

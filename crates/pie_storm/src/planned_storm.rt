@@ -2,14 +2,11 @@
 ghost use Rattle.std.specs.Prelude.{◌≡◌, IfErr, IfOk, OnOk, map};
 ghost use Rattle.pie_book.specs.Decision.{IsLegal};
 ghost use Rattle.pie_record.specs.declared.history_record.Line.TheVariants.{Valid};
-ghost use Rattle.pie_audit.specs.Auditor.{Audits};
-ghost use Rattle.pie_storm.specs.Plans.{opening_of};
-ghost use Rattle.pie_book.specs.Registers.{registers_after};
-ghost use Rattle.pie_book.specs.Statistics.{stats_after};
-ghost use Rattle.pie_record.specs.Fault.{IsWriteOrMemory};
-ghost use Rattle.pie_storm.specs.Storms.{CanStop, HasFault, IsEndOf, IsStorm};
-ghost use Rattle.pie_storm.specs.StormHistory.{WritesHistory};
-ghost use Rattle.pie_storm.specs.StormPlan.{HasStormRange, IsStormPlan};
+ghost use Rattle.pie_audit.specs.Replay.{Audits};
+ghost use Rattle.pie_storm.specs.Plans.{opening_of, HasStormRange, IsStormPlan};
+ghost use Rattle.pie_book.specs.Statistics.{registers_after, stats_after};
+ghost use Rattle.pie_record.specs.Field.{IsWriteOrMemory};
+ghost use Rattle.pie_storm.specs.Storms.{CanStop, HasFault, IsEndOf, IsStorm, WritesHistory};
 
 use crate::pace::Pace;
 use crate::plan::Plan;

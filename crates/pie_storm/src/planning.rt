@@ -1,8 +1,7 @@
 //! Planning a storm.
 ghost use Rattle.std.specs.Prelude.{◌≡◌, ◌+◌, ◌*◌, ◌/◌, ◌^◌, ◌<◌, ◌≤◌, IfOk, map};
 ghost use Rattle.std.specs.List.{range_with_len};
-ghost use Rattle.pie_storm.specs.StormPlan.{IsStormPlan, after_three, arrival_by, arrivals_of, change_at, changes_of, departs_of, ecn_of};
-ghost use Rattle.pie_storm.specs.StormPlan.{HasStormRange, usual_storm, folds_of, list_in, moment_of, params_at, updates_of, words_of};
+ghost use Rattle.pie_storm.specs.Plans.{IsStormPlan, after_three, arrival_by, arrivals_of, change_at, changes_of, departs_of, ecn_of, HasStormRange, usual_storm, folds_of, list_in, moment_of, params_at, updates_of, words_of};
 
 use crate::plan::{Change, Plan};
 use crate::plan_numbers::StormNumbers;

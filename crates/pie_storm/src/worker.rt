@@ -1,7 +1,6 @@
 //! The workers of a storm: each makes the calls of one caller, one after another.
 ghost use Rattle.std.specs.Prelude.{◌≡◌, ◌+◌, ◌<◌, ◌≤◌, ◌-◌, [], false, Some, IfSome, length};
-ghost use Rattle.pie_link.specs.Commands.{Answers};
-ghost use Rattle.pie_link.specs.Views.{HasSameNumbers};
+ghost use Rattle.pie_link.specs.Callers.{Answers, HasSameNumbers};
 ghost use Rattle.pie_storm.specs.Plans.{calls_of, senders, turn_of};
 ghost use Rattle.pie_storm.specs.Storms.{AddedByAll, Begins, IsAt, IsFor, IsWell, IsWorkOf, TakenIn, TakesTurn, added_by};
 

@@ -1,13 +1,10 @@
 -- The last events of a list with one more.
-use Rattle.pie_summary.proofs.Names.{◌≡◌, ◌==◌, ℕ, Bool, true, false, not, List, [], ◌∷◌, ◌++◌, map, refl, subst, sym, ap, ◌∙◌, Option, Some, None, eq-eqb}
-use Rattle.pie_summary.proofs.Names.{Err, Ok, OnOk, Result, Place, places}
-use Rattle.pie_summary.proofs.Names.{eqb-true, map_push, last_or, last_or-push, Explained, last_events, last_interval, interval_at, since, starts_interval}
+use Rattle.pie_summary.proofs.Names.{◌≡◌, ◌==◌, ℕ, Bool, true, false, not, List, [], ◌∷◌, ◌++◌, map, refl, subst, sym, ap, ◌∙◌, Option, Some, None, eq-eqb, Err, Ok, OnOk, Result, Place, places, eqb-true, map_push, last_or, last_or-push, Explained, last_events, last_interval, interval_at, since, starts_interval}
 use Rattle.std.proofs.Common.{◌⊎◌, inl, inr, arith, length}
-use Rattle.std.proofs.lemmas.List.{length_push}
+use Rattle.std.proofs.lemmas.List.{length_push, flat_map_more}
 use Rattle.pie_early.proofs.Laws.{after_last-push_no, after_last-push_yes}
 use Rattle.std.specs.List.{flat_map}
-use Rattle.std.proofs.lemmas.List.{flat_map_more}
-use Rattle.pie_aqm.proofs.Places.{place_of, places-push}
+use Rattle.pie_aqm.proofs.Laws.{place_of, places-push}
 use Rattle.pie_explain.specs.Report.{Grows}
 use Rattle.pie_summary.specs.Interval.{Keeps, ends_interval, is_elsewhere}
 

@@ -1,6 +1,5 @@
 -- Definitions from lower crates that the files of this folder use.
-pub use Rattle.std.proofs.Common.{Bool, List, [], ap, append-nil, append_assoc, arith, cond, false, filter, length, lit≤, map, not, refl, rules}
-pub use Rattle.std.proofs.Common.{subst, suc, sym, true, zero, ℕ, ◌%◌, ◌*◌, ◌++◌, ◌+◌, ◌-◌, ◌/◌, ◌<◌, ◌==◌, ◌∙◌, ◌∷◌, ◌≡◌, ◌≤◌}
+pub use Rattle.std.proofs.Common.{Bool, List, [], ap, append-nil, append_assoc, arith, cond, false, filter, length, lit≤, map, not, refl, rules, subst, suc, sym, true, zero, ℕ, ◌%◌, ◌*◌, ◌++◌, ◌+◌, ◌-◌, ◌/◌, ◌<◌, ◌==◌, ◌∙◌, ◌∷◌, ◌≡◌, ◌≤◌}
 pub use Rattle.std.proofs.lemmas.Bool.{eq-eqb, eqb-true, ne_eqb}
 pub use Rattle.std.proofs.lemmas.Bool.Decides.{nat_tests}
 pub use Rattle.std.proofs.lemmas.List.{map_push}
@@ -9,13 +8,12 @@ pub use Rattle.std.proofs.lemmas.List.Sums.{sum_by_push}
 unfoldable pub use Rattle.std.specs.Fmt.{digits}
 pub use Rattle.std.specs.List.{cons_option, filter_map, find, range_with_len, sum}
 pub use Rattle.std.specs.Map.{values_of}
-pub use Rattle.std.specs.Prelude.{Err, None, Ok, OnOk, Option, Result, Some, codes, count_by, if◌then◌else◌, max, min, nat_le, nat_lt, replicate}
-pub use Rattle.std.specs.Prelude.{slice_index, slice_set, take, unwrap_or, ⊤, ◌^◌}
-pub use Rattle.pie_aqm.proofs.Places.{greatest-push, last_or-push}
-pub use Rattle.pie_aqm.specs.Places.{Place}
-unfoldable pub use Rattle.pie_aqm.specs.Places.{greatest, last_or, places}
-unfoldable pub use Rattle.pie_event.specs.CauseName.{word_of_cause}
-pub use Rattle.pie_event.specs.Verdict.{answer_of}
+pub use Rattle.std.specs.Prelude.{Err, None, Ok, OnOk, Option, Result, Some, codes, count_by, if◌then◌else◌, max, min, nat_le, nat_lt, replicate, slice_index, slice_set, take, unwrap_or, ⊤, ◌^◌}
+pub use Rattle.pie_aqm.proofs.Laws.{greatest-push, last_or-push}
+pub use Rattle.pie_aqm.specs.History.{Place}
+unfoldable pub use Rattle.pie_aqm.specs.History.{greatest, last_or, places}
+unfoldable pub use Rattle.pie_event.specs.Cause.{word_of_cause}
+pub use Rattle.pie_event.specs.Cause.{answer_of}
 pub use Rattle.pie_event.specs.declared.command.Answer.{Answer}
 pub use Rattle.pie_event.specs.declared.command.Answer.TheVariants.{Done, Left, Updated}
 pub use Rattle.pie_explain.specs.Selection.{time_of}
@@ -44,4 +42,4 @@ pub use Rattle.pie_summary.specs.declared.meter.Meter.{Meter}
 pub use Rattle.pie_summary.specs.declared.meter_input.MeterInput.{MeterInput}
 pub use Rattle.pie_summary.specs.declared.aggregates.Bounds.{Bounds}
 pub use Rattle.pie_summary.specs.declared.interval.Sums.{Sums}
-unfoldable pub use Rattle.pie_units.specs.Utc.{utc_text}
+unfoldable pub use Rattle.pie_units.specs.Time.{utc_text}

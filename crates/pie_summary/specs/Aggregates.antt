@@ -1,7 +1,7 @@
 -- Aggregates of a list of numbers, and of the times of a list of events.
 use Rattle.std.specs.Prelude.{ℕ, ◌+◌, ◌-◌, ◌*◌, ◌/◌, ◌%◌, ◌^◌, ◌==◌, min, max, List, length, map, slice_index, Option, Some, None, if◌then◌else◌}
 use Rattle.std.specs.List.{filter_map, sum}
-use Rattle.pie_aqm.specs.Places.{greatest, last_or}
+use Rattle.pie_aqm.specs.History.{greatest, last_or}
 use Rattle.pie_explain.specs.Selection.{time_of}
 use Rattle.pie_explain.specs.declared.explanation.Explained.{Explained}
 use Rattle.pie_summary.specs.declared.aggregates.Bounds.{Bounds}

@@ -1,7 +1,7 @@
 -- The output of sums by flow of the explained events.
 use Rattle.std.specs.Prelude.{ℕ, ◌≡◌, List, ◌++◌}
 use Rattle.std.specs.List.{flat_map}
-use Rattle.pie_aqm.specs.Places.{places}
+use Rattle.pie_aqm.specs.History.{places}
 use Rattle.pie_explain.specs.declared.explanation.Explained.{Explained}
 use Rattle.pie_explain.specs.declared.form.Form.{Form}
 use Rattle.pie_explain.specs.Output.{header_of}

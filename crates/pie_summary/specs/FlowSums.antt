@@ -1,7 +1,7 @@
 -- The numbers of a flow: its events, and their sums.
 use Rattle.std.specs.Prelude.{ℕ, ◌-◌, ◌*◌, ◌/◌, ◌^◌, ◌==◌, min, Bool, false, List, map, Option, Some, None, unwrap_or, is_some, if◌then◌else◌}
 use Rattle.std.specs.List.{sum}
-use Rattle.pie_aqm.specs.Places.{greatest}
+use Rattle.pie_aqm.specs.History.{greatest}
 use Rattle.pie_event.specs.declared.command.Command.{Command}
 use Rattle.pie_event.specs.declared.command.Command.TheVariants.{Arrive}
 use Rattle.pie_event.specs.declared.command.Answer.{Answer}

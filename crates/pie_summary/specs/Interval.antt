@@ -1,7 +1,7 @@
 -- Intervals of equal length: the explained events that are summed up together.
 use Rattle.std.specs.Prelude.{ℕ, ◌≡◌, ◌/◌, ◌==◌, max, if◌then◌else◌, Bool, true, false, not, List, [], map, Option, Some, None, is_some}
 use Rattle.std.specs.List.{after_last}
-use Rattle.pie_aqm.specs.Places.{Place, last_or}
+use Rattle.pie_aqm.specs.History.{Place, last_or}
 use Rattle.pie_explain.specs.declared.explanation.Explained.{Explained}
 
 -- the number of the interval of a moment, counted from moment 0. Each interval lasts `every` nanoseconds, at least

@@ -1,13 +1,12 @@
 -- The output of one line for each interval of the explained events, under a header.
-use Rattle.std.specs.Prelude.{ℕ, ◌≡◌, ◌+◌, ◌-◌, ◌/◌, ◌%◌, ◌^◌, ◌==◌, ◌&&◌, ◌||◌, max, Bool, true, false, List, [], ◌∷◌, ◌++◌, length, map, replicate}
-use Rattle.std.specs.Prelude.{Some, codes, if◌then◌else◌, slice_index}
+use Rattle.std.specs.Prelude.{ℕ, ◌≡◌, ◌+◌, ◌-◌, ◌/◌, ◌%◌, ◌^◌, ◌==◌, ◌&&◌, ◌||◌, max, Bool, true, false, List, [], ◌∷◌, ◌++◌, length, map, replicate, Some, codes, if◌then◌else◌, slice_index}
 use Rattle.std.specs.List.{flat_map, sum}
 use Rattle.std.specs.Fmt.{decimal}
-use Rattle.pie_aqm.specs.Places.{Place, places}
+use Rattle.pie_aqm.specs.History.{Place, places}
 use Rattle.pie_event.specs.declared.command.Answer.TheVariants.{DroppedBytes, DroppedEarly, DroppedPackets, Marked}
 use Rattle.pie_explain.specs.declared.explanation.Explained.{Explained}
 use Rattle.pie_explain.specs.Words.{joined}
-use Rattle.pie_units.specs.Utc.{utc_text, with_zeros}
+use Rattle.pie_units.specs.Time.{utc_text, with_zeros}
 use Rattle.pie_summary.specs.declared.lines.IntervalLines.{IntervalLines}
 use Rattle.pie_summary.specs.declared.lines.LinesState.{LinesState}
 use Rattle.pie_summary.specs.declared.meter.Meter.{Meter}

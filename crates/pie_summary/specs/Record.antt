@@ -2,10 +2,10 @@
 use Rattle.std.specs.Prelude.{ℕ, ◌==◌, if◌then◌else◌, Bool, true, false, List, [], ◌∷◌, ◌++◌, map, slice_index, take, codes}
 use Rattle.std.specs.Fmt.{decimal}
 use Rattle.std.specs.List.{sum}
-use Rattle.pie_event.specs.CauseName.{cause_names, word_of_cause}
+use Rattle.pie_event.specs.Cause.{cause_names, word_of_cause}
 use Rattle.pie_explain.specs.Words.{joined}
 use Rattle.pie_text.specs.Plain.{onto}
-use Rattle.pie_units.specs.Utc.{utc_text}
+use Rattle.pie_units.specs.Time.{utc_text}
 use Rattle.pie_summary.specs.declared.meter.Meter.{Meter}
 use Rattle.pie_summary.specs.Counts.{kept}
 use Rattle.pie_summary.specs.Aggregates.{mean_in, sum_in}

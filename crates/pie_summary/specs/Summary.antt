@@ -1,7 +1,7 @@
 -- The output of summaries of the explained events, and between them of lost and marked packets.
 use Rattle.std.specs.Prelude.{ℕ, ◌≡◌, Bool, false, ◌&&◌, ◌||◌, if◌then◌else◌, List, [], ◌++◌}
 use Rattle.std.specs.List.{flat_map}
-use Rattle.pie_aqm.specs.Places.{Place, places}
+use Rattle.pie_aqm.specs.History.{Place, places}
 use Rattle.pie_explain.specs.declared.form.Form.{Form}
 use Rattle.pie_explain.specs.declared.explanation.Explained.{Explained}
 use Rattle.pie_explain.specs.declared.choice.EventChoice.TheVariants.{Lost, Marked}

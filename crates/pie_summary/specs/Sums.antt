@@ -1,16 +1,14 @@
 -- The numbers of a summary, each over the whole list of explained events.
-use Rattle.std.specs.Prelude.{ℕ, ◌-◌, ◌&&◌, nat_lt, min, if◌then◌else◌, Bool, true, false, List, [], ◌∷◌, ◌++◌, length, map, slice_index}
-use Rattle.std.specs.Prelude.{◌≡◌, None, Option, Some, option_map}
+use Rattle.std.specs.Prelude.{ℕ, ◌-◌, ◌&&◌, nat_lt, min, if◌then◌else◌, Bool, true, false, List, [], ◌∷◌, ◌++◌, length, map, slice_index, ◌≡◌, None, Option, Some, option_map}
 use Rattle.std.specs.List.{filter_map, sum}
 use Rattle.std.specs.Option.{option_and}
 use Rattle.pie_event.specs.declared.cause_name.CauseName.{CauseName}
-use Rattle.pie_aqm.specs.Places.{Place, greatest, last_or, places, up_to}
-use Rattle.pie_event.specs.CauseName.{name_of, place_of_cause}
+use Rattle.pie_aqm.specs.History.{Place, greatest, last_or, places, up_to}
+use Rattle.pie_event.specs.Cause.{name_of, place_of_cause}
 use Rattle.pie_event.specs.declared.command.Command.{Command}
 use Rattle.pie_event.specs.declared.command.Command.TheVariants.{Arrive}
 use Rattle.pie_event.specs.declared.command.Answer.{Answer}
-use Rattle.pie_event.specs.declared.command.Answer.TheVariants.{Enqueued, Marked, DroppedEarly, DroppedBytes, DroppedPackets, Empty, Left, Updated}
-use Rattle.pie_event.specs.declared.command.Answer.TheVariants.{Done}
+use Rattle.pie_event.specs.declared.command.Answer.TheVariants.{Enqueued, Marked, DroppedEarly, DroppedBytes, DroppedPackets, Empty, Left, Updated, Done}
 use Rattle.pie_explain.specs.declared.explanation.Explained.{Explained}
 use Rattle.pie_summary.specs.declared.meter.Meter.{Meter}
 use Rattle.pie_summary.specs.declared.meter_input.Conditions.{Conditions}

@@ -1,12 +1,11 @@
 -- A summary in words: the arrivals by verdict and by cause, the waiting times, the numbers of the updates, and the changes of activity.
-use Rattle.std.specs.Prelude.{ℕ, ◌-◌, ◌/◌, ◌==◌, ◌||◌, nat_lt, Bool, true, false, List, [], ◌∷◌, ◌++◌, slice_index, codes}
-use Rattle.std.specs.Prelude.{if◌then◌else◌}
+use Rattle.std.specs.Prelude.{ℕ, ◌-◌, ◌/◌, ◌==◌, ◌||◌, nat_lt, Bool, true, false, List, [], ◌∷◌, ◌++◌, slice_index, codes, if◌then◌else◌}
 use Rattle.std.specs.Fmt.{decimal}
-use Rattle.pie_event.specs.CauseName.{cause_names, place_of_cause, word_of_cause}
+use Rattle.pie_event.specs.Cause.{cause_names, place_of_cause, word_of_cause}
 use Rattle.pie_explain.specs.Words.{joined, millis, per_cent, share}
 use Rattle.pie_event.specs.declared.cause_name.CauseName.{CauseName}
 use Rattle.pie_event.specs.declared.command.Answer.TheVariants.{DroppedBytes, DroppedEarly, DroppedPackets, Enqueued, Marked}
-use Rattle.pie_units.specs.Utc.{utc_text}
+use Rattle.pie_units.specs.Time.{utc_text}
 use Rattle.pie_summary.specs.declared.meter.Meter.{Meter}
 use Rattle.pie_summary.specs.declared.aggregates.Bounds.{Bounds}
 use Rattle.pie_summary.specs.declared.interval.Sums.{Sums}

@@ -48,7 +48,7 @@ pub struct FlowInterval {
 
 impl FlowInterval {
     /// Returns the state before the first event.
-    #[tactic(auto, using(crate::proofs::FlowFacts::none_shown), unfolding(pie_aqm::specs::Places::last_or))]
+    #[tactic(auto, using(crate::proofs::FlowFacts::none_shown), unfolding(pie_aqm::specs::History::last_or))]
     pub(crate) fn empty(alloc: Global) -> FlowInterval
         ensures number { result.number ≡ None }
         ensures span { result.span ≡ span_of [] }
@@ -62,7 +62,7 @@ impl FlowInterval {
     }
 
     /// Drops the earlier events if they are in another interval than this one.
-    #[tactic(auto, using(crate::proofs::FlowFacts::none_shown, crate::proofs::IntervalFacts::since_begun, crate::proofs::IntervalFacts::since_same), unfolding(pie_aqm::specs::Places::last_or))]
+    #[tactic(auto, using(crate::proofs::FlowFacts::none_shown, crate::proofs::IntervalFacts::since_begun, crate::proofs::IntervalFacts::since_same), unfolding(pie_aqm::specs::History::last_or))]
     fn begin(&mut self, interval: u64)
         ensures { (shown : List Explained) (every : Option ℕ) → Keeps (HoldsFlows self.old) every self.old.number shown
             → HoldsFlows self.new (since every (Some interval) shown) }
@@ -124,7 +124,7 @@ impl Report for ByFlow {
         false
     }
 
-    #[tactic(auto, unfolding(pie_aqm::specs::Places::last_or))]
+    #[tactic(auto, unfolding(pie_aqm::specs::History::last_or))]
     fn begin(&self, page: &mut Page) -> Result<FlowInterval, AllocError> {
         push_header(page, NAMES, self.form)?;
         Ok(FlowInterval::empty(page.allocator()))

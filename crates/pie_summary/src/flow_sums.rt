@@ -75,7 +75,7 @@ fn numbers_of(one: &MeterInput) -> FlowSums
 
 impl FlowSums {
     /// Returns the numbers of no event.
-    #[tactic(auto, unfolding(crate::specs::FlowSums::added_up, pie_aqm::specs::Places::greatest))]
+    #[tactic(auto, unfolding(crate::specs::FlowSums::added_up, pie_aqm::specs::History::greatest))]
     pub(crate) fn empty() -> FlowSums
         ensures { result ≡ added_up [] }
     {
@@ -83,7 +83,7 @@ impl FlowSums {
     }
 
     /// Returns the sums of both.
-    #[tactic(auto, unfolding(crate::specs::FlowSums::added_up, pie_aqm::specs::Places::greatest))]
+    #[tactic(auto, unfolding(crate::specs::FlowSums::added_up, pie_aqm::specs::History::greatest))]
     pub(crate) fn plus(self, more: &FlowSums) -> FlowSums
         ensures { result ≡ added_up (self ∷ more.now ∷ []) }
     {

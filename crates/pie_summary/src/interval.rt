@@ -103,7 +103,7 @@ impl Sums {
     ghost use Rattle.pie_summary.specs.Sums.{sums_of};
 
     /// Returns the numbers of no event.
-    #[tactic(auto, unfolding(crate::specs::Sums::meter_of, crate::specs::Sums::sums_of, pie_aqm::specs::Places::greatest, pie_aqm::specs::Places::last_or, pie_aqm::specs::Places::places))]
+    #[tactic(auto, unfolding(crate::specs::Sums::meter_of, crate::specs::Sums::sums_of, pie_aqm::specs::History::greatest, pie_aqm::specs::History::last_or, pie_aqm::specs::History::places))]
     pub(crate) fn empty() -> Sums
         ensures { result ≡ sums_of [] }
     {

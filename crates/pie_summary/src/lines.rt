@@ -256,7 +256,7 @@ impl Report for IntervalLines {
         true
     }
 
-    #[tactic(auto, unfolding(pie_aqm::specs::Places::last_or, pie_aqm::specs::Places::places))]
+    #[tactic(auto, unfolding(pie_aqm::specs::History::last_or, pie_aqm::specs::History::places))]
     fn begin(&self, page: &mut Page) -> Result<LinesState, AllocError> {
         let interval = Interval::empty(page.allocator())?;
         let lines = 0;

@@ -47,7 +47,7 @@ pub struct LiveInterval {
 
 impl LiveInterval {
     /// Returns the state before the first event.
-    #[tactic(auto, using(crate::proofs::RangeFacts::no_ranges), unfolding(crate::specs::Sums::meter_of, crate::specs::Sums::waits_of, pie_aqm::specs::Places::last_or, pie_aqm::specs::Places::places))]
+    #[tactic(auto, using(crate::proofs::RangeFacts::no_ranges), unfolding(crate::specs::Sums::meter_of, crate::specs::Sums::waits_of, pie_aqm::specs::History::last_or, pie_aqm::specs::History::places))]
     pub fn open(every: u64, by_wall: bool) -> LiveInterval
         ensures every { result.every ≡ every }
         ensures wall { result.wall ≡ (if by_wall then 1 else 0) }
@@ -167,7 +167,7 @@ impl LiveInterval {
     }
 
     /// Adds the header row of the records to an empty line.
-    #[tactic(auto, unfolding(crate::specs::Summary::header, pie_event::specs::CauseName::word_of_cause))]
+    #[tactic(auto, unfolding(crate::specs::Summary::header, pie_event::specs::Cause::word_of_cause))]
     pub fn put_header(&self, line: &mut LongRow)
         requires { line.old ≡ [] }
         ensures { line.new ≡ header (form_in self.now) }

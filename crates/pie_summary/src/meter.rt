@@ -1,6 +1,5 @@
 //! The numbers of an interval that is summed up event by event, in memory of its owner: those of a summary's record, and no others.
-ghost use Rattle.std.specs.Prelude.{◌≡◌, ◌+◌, ◌-◌, ◌^◌, ◌<◌, ◌++◌, ◌∷◌, [], ℕ, List, length, min, nat_lt, slice_index};
-ghost use Rattle.std.specs.Prelude.{slice_set, if◌then◌else◌};
+ghost use Rattle.std.specs.Prelude.{◌≡◌, ◌+◌, ◌-◌, ◌^◌, ◌<◌, ◌++◌, ◌∷◌, [], ℕ, List, length, min, nat_lt, slice_index, slice_set, if◌then◌else◌};
 ghost use Rattle.std.specs.List.{cons_option};
 ghost use Rattle.pie_summary.specs.Counts.{kept};
 ghost use Rattle.pie_summary.specs.declared.meter_input.MeterInput.{MeterInput};
@@ -111,7 +110,7 @@ fn add_excess(late: &mut u64, excess: Option<u64>, since: u64)
 
 impl Meter {
     /// Returns the numbers of no event, with the first moment at `moment`.
-    #[tactic(auto, unfolding(crate::specs::Sums::meter_of, pie_aqm::specs::Places::greatest, pie_aqm::specs::Places::last_or, pie_aqm::specs::Places::places))]
+    #[tactic(auto, unfolding(crate::specs::Sums::meter_of, pie_aqm::specs::History::greatest, pie_aqm::specs::History::last_or, pie_aqm::specs::History::places))]
     pub(crate) fn begun(moment: u64) -> Meter
         ensures { result ≡ record (meter_of [] []) { first = moment; since = moment } }
     {

@@ -139,7 +139,7 @@ impl Report for Summaries {
         true
     }
 
-    #[tactic(auto, unfolding(pie_aqm::specs::Places::last_or))]
+    #[tactic(auto, unfolding(pie_aqm::specs::History::last_or))]
     fn begin(&self, page: &mut Page) -> Result<Interval, AllocError> {
         push_header(page, NAMES, self.form)?;
         let interval = Interval::empty(page.allocator())?;

@@ -163,7 +163,11 @@ fn left_over(burst: u64) -> &'static str
 fn push_end(page: &mut String, meter: &Meter) -> Written
     ensures { OnOk result (string_bytes page.new ≡ string_bytes page.old ++ end_words meter.now) }
 {
-    let (target, burst, rest) = (Millis(meter.target), Millis(meter.burst), left_over(meter.burst));
+    let (target, burst, rest) = (
+        Millis(meter.target),
+        Millis(meter.burst),
+        left_over(meter.burst),
+    );
     write!(
         page,
         "  after the last event the target was {target}, and the burst allowance {burst}{rest}"

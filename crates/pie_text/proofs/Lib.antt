@@ -1,7 +1,1 @@
-pub mod RowFacts
-pub mod PlainFacts
-pub mod Records
-pub mod EndFacts
-pub mod LostFacts
-pub mod WriteFacts
-pub mod Laws
+pub mod TextFacts

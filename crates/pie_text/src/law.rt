@@ -6,7 +6,7 @@ ghost use Rattle.pie_text.specs.{ℕ, List, IfOk, None, history_opening, later_f
 /// fault: the first record opens no history, or a later one has a fault. So no audit finds the text clean.
 ///
 /// The function does nothing: its contract is the law.
-#[tactic(auto, using(crate::proofs::LostFacts::lost_is_fault))]
+#[tactic(auto, using(crate::proofs::TextFacts::lost_is_fault))]
 pub fn lost_records_are_faults()
     ensures { (max_records count : ℕ) (before after : List Row) → IfOk (history_opening (before ++ lost_row count ∷ after))
         (λ opening. later_fault max_records (before ++ lost_row count ∷ after) ≢ None) }

@@ -1,6 +1,6 @@
 -- Worked examples: the first fault of traces with a low limit of records. Each theorem computes.
 use Rattle.pie_trace.proofs.Names.{None, Row, Some, [], codes, fault_of, first_fault, record_fault, refl, request_of, ◌∷◌, ◌≡◌}
-use Rattle.pie_record.specs.{Command.command_request, Worked.worked_text}
+use Rattle.pie_record.specs.{Command.command_request, ReadBack.worked_text}
 use Rattle.pie_record.specs.declared.fault.TraceFault.TheVariants as fault
 
 abbrev open_row : Row

@@ -1,25 +1,12 @@
 -- The history text of a trace is read back: its opening, the events of its run, and notes.
-use Rattle.pie_trace.proofs.Names.{All, All-append, All-cons, All-nil, AreLegal, AreLinesOf, Apply, BadParams, Begins, Bool, CanBeMade, Clean, Clock}
-use Rattle.pie_trace.proofs.Names.{Command, Draft, Err, Event, Finding, FirstKind, RecordFault, Fold, FoldRefusal, IsHistoryText, IsLegal, Line, List, Mode}
-use Rattle.pie_trace.proofs.Names.{None, Ok, Opening, Option, Progress, Promises, Refusal, Reply, Represents, Request, Result, Row, RunEnd}
-use Rattle.pie_trace.proofs.Names.{Show, Some, Tally, TextsAreReadBack, TraceFault, Version, [], after, and_then, ap, append-nil, append_assoc}
-use Rattle.pie_trace.proofs.Names.{arith, before_fault, code_of, decision, drop, end_left, end_of, event_of, false, fault_from}
-use Rattle.pie_trace.proofs.Names.{fault_of, field_at, filter_map-append, first_bad, first_fault, first_fields, first_kind, flat_map-append}
-use Rattle.pie_trace.proofs.Names.{fold_outcome, fold_reply, tail_length_with_one, history_row, history_rows, history_text, if◌then◌else◌, is_refused_full}
-use Rattle.pie_trace.proofs.Names.{kind-first, kind_word, length, length-append, line_in-line, line_of, line_of_reply, lines_from}
-use Rattle.pie_trace.proofs.Names.{lines_left, lines_of_replies, lost-later, map, nat_lt, nat_tests, opening_of, opening_read, opening_refusal}
-use Rattle.pie_trace.proofs.Names.{or_full, progress_after, progress_at_end, record_fault, recorded, records_of, refl, refusal_by_rule, refused}
-use Rattle.pie_trace.proofs.Names.{refused_or, registers_after, replies, reply, reply_to_command, reply_to_fold, request_of, requests_of, beginning_of, opened_at, Beginning}
-use Rattle.pie_trace.proofs.Names.{resumed_progress, rows_left, rows_text, rows_without_fault, run_lines, start, steps_of, subst, sym}
-use Rattle.pie_trace.proofs.Names.{take, take-append-drop, text_finding, text_left, true, version_of, ℕ, ◌++◌, ◌+◌, ◌-◌, ◌<◌, ◌==◌, ◌^◌, ◌∙◌, ◌∷◌}
-use Rattle.pie_trace.proofs.Names.{◌≡◌, ◌≢◌, ◌≤◌}
-use Rattle.pie_audit.specs.{Finding.event_in, Finding.events_of, Legal.EventsAreLines}
+use Rattle.pie_trace.proofs.Names.{All, All-append, All-cons, All-nil, AreLegal, AreLinesOf, Apply, BadParams, Begins, Bool, CanBeMade, Clean, Clock, Command, Draft, Err, Event, Finding, FirstKind, RecordFault, Fold, FoldRefusal, IsHistoryText, IsLegal, Line, List, Mode, None, Ok, Opening, Option, Progress, Promises, Refusal, Reply, Represents, Request, Result, Row, RunEnd, Show, Some, Tally, TextsAreReadBack, TraceFault, Version, [], after, and_then, ap, append-nil, append_assoc, arith, before_fault, code_of, decision, drop, end_left, end_of, event_of, false, fault_from, fault_of, field_at, filter_map-append, first_bad, first_fault, first_fields, first_kind, flat_map-append, fold_outcome, fold_reply, tail_length_with_one, history_row, history_rows, history_text, if◌then◌else◌, is_refused_full, kind-first, kind_word, length, length-append, line_in-line, line_of, line_of_reply, lines_from, lines_left, lines_of_replies, lost-later, map, nat_lt, nat_tests, opening_of, opening_read, opening_refusal, or_full, progress_after, progress_at_end, record_fault, recorded, records_of, refl, refusal_by_rule, refused, refused_or, registers_after, replies, reply, reply_to_command, reply_to_fold, request_of, requests_of, beginning_of, opened_at, Beginning, resumed_progress, rows_left, rows_text, rows_without_fault, run_lines, start, steps_of, subst, sym, take, take-append-drop, text_finding, text_left, true, version_of, ℕ, ◌++◌, ◌+◌, ◌-◌, ◌<◌, ◌==◌, ◌^◌, ◌∙◌, ◌∷◌, ◌≡◌, ◌≢◌, ◌≤◌}
+use Rattle.pie_audit.specs.{Replay.event_in, Replay.events_of, Replay.EventsAreLines}
 use Rattle.pie_audit.specs.Text.{IsTextAfter, IsFound, text_fault, text_lines, fault_after, whole_finding}
-use Rattle.pie_event.specs.Ranges.{CommandFits, ParamsFit}
-use Rattle.pie_excerpt.specs.{Beginning.IsWellBegun, Beginning.Continues, Reading.resume_of, Rows.queued_row, declared.resume.Resume.Resume}
+use Rattle.pie_event.specs.Event.{CommandFits, ParamsFit}
+use Rattle.pie_excerpt.specs.{Beginning.IsWellBegun, Beginning.Continues, Reading.resume_of, Reading.queued_row, declared.resume.Resume.Resume}
 use Rattle.pie_queue.specs.declared.packet.Waiting.{Waiting}
 use Rattle.pie_record.specs.{FirstRecord.opening_by, declared.history_record.Line.TheVariants.Note, declared.history_record.Line.TheVariants.Valid}
-use Rattle.pie_text.specs.Lost.{lost_row}
+use Rattle.pie_text.specs.Plain.{lost_row}
 use Rattle.pie_trace.proofs.RunFacts.{first-one, progress_after-request, whole-opened}
 use Rattle.pie_trace.specs.{answered, beginning_within, long_by, progress_resumed, end_of_run, fault_of_run, text_of_run, text_in, within_by, within_max}
 use Rattle.pie_record.specs.declared.fault.TraceFault.TheVariants as fault

@@ -1,9 +1,5 @@
 pub mod Names
-pub mod Reply
 pub mod History
-pub mod RunState
-pub mod Steps
-pub mod Laws
 pub mod Runs
 pub mod Migrate
-unfoldable pub use Rattle.pie_trace.specs.{Names.*, Reply.*, History.*, RunState.*, Steps.*, Laws.*, Runs.*, Migrate.*}
+unfoldable pub use Rattle.pie_trace.specs.{Names.*, History.*, Runs.*, Migrate.*}

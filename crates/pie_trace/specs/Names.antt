@@ -1,27 +1,20 @@
 -- Definitions from lower crates that this crate's definitions, code and proofs use.
 pub use Rattle.pie_audit.specs.{Text.text_finding, declared.auditor.Finding.TheVariants.Clean}
-pub use Rattle.pie_book.specs.{Book.BookRepresents, Book.BookView, Core.CoreView, Core.Represents, Core.core_after, Core.registers_of, Run.Progress}
-pub use Rattle.pie_book.specs.{Run.Step, Run.fold_outcome, Run.outcome, Run.start, Snapshot.apply_in, Statistics.stats_after}
-pub use Rattle.pie_event.specs.Opening.{opening_refusal}
-pub use Rattle.pie_event.specs.declared.{command.Answer.Answer, command.Event.Event, opening.Opening.Opening, refusal.FoldRefusal.FoldRefusal}
-pub use Rattle.pie_event.specs.declared.{refusal.Refusal.Refusal, registers.Registers.Registers, stats.Stats.Stats}
+pub use Rattle.pie_book.specs.{Book.BookRepresents, Book.BookView, Core.CoreView, Core.Represents, Core.core_after, Core.registers_of, Book.Progress, Book.Step, Book.fold_outcome, Book.outcome, Book.start, Snapshot.apply_in, Statistics.stats_after}
+pub use Rattle.pie_event.specs.Event.{opening_refusal}
+pub use Rattle.pie_event.specs.declared.{command.Answer.Answer, command.Event.Event, opening.Opening.Opening, refusal.FoldRefusal.FoldRefusal, refusal.Refusal.Refusal, registers.Registers.Registers, stats.Stats.Stats}
 pub use Rattle.pie_event.specs.declared.opening.Mode.TheVariants.{Bounded, Rolling}
-pub use Rattle.pie_excerpt.specs.{Beginning.Beginning, Beginning.Continues, Beginning.begun_by_opening, Rows.queued_row}
-pub use Rattle.pie_record.specs.{Answer.code_of, Answer.code_of_fold, Answer.code_of_params, Fault.IsWriteOrMemory, Fault.NoIoOrMemoryFailed, Fault.after_flush}
-pub use Rattle.pie_record.specs.{Fault.fault_at, Fault.is_io_or_memory, Field.and_then, Field.is_kind, ReadBack.Begins, ReadBack.IsHistoryText}
-pub use Rattle.pie_record.specs.{Text.HasField, Text.Row, Text.records_of, Text.text_of, Write.command_fields, Write.version_two_row}
-pub use Rattle.pie_record.specs.HistoryLines.{RemainingLines, event_count, events_in, fault_from, history_lines, line_in, lines_from}
-pub use Rattle.pie_record.specs.HistoryLines.{remaining_after_opening}
-pub use Rattle.pie_record.specs.declared.{fault.RecordFault.RecordFault, fault.TraceFault.TraceFault, first_record.FirstKind.FirstKind, history_record.Line.Line}
-pub use Rattle.pie_record.specs.declared.{trace_record.Request.Request, version.Version.Version}
+pub use Rattle.pie_excerpt.specs.{Beginning.Beginning, Beginning.Continues, Beginning.begun_by_opening, Reading.queued_row}
+pub use Rattle.pie_record.specs.{Command.code_of, Command.code_of_fold, Command.code_of_params, Field.IsWriteOrMemory, Field.NoIoOrMemoryFailed, Field.after_flush, Field.fault_at, Field.is_io_or_memory, Field.and_then, Field.is_kind, ReadBack.Begins, ReadBack.IsHistoryText, Text.HasField, Text.Row, Text.records_of, Text.text_of, Write.command_fields, Write.version_two_row}
+pub use Rattle.pie_record.specs.HistoryLines.{RemainingLines, event_count, events_in, fault_from, history_lines, line_in, lines_from, remaining_after_opening}
+pub use Rattle.pie_record.specs.declared.{fault.RecordFault.RecordFault, fault.TraceFault.TraceFault, first_record.FirstKind.FirstKind, history_record.Line.Line, trace_record.Request.Request, version.Version.Version}
 pub use Rattle.pie_record.specs.declared.trace_record.Request.TheVariants.{Apply, BadParams, Clock, Fold, Show, Tally}
 pub use Rattle.pie_record.specs.declared.version.Version.TheVariants.{One, Three, Two}
 pub use Rattle.std.specs.{Io.KnownBytes.Appends, Io.KnownBytes.append_known, List.filter_map}
-pub use Rattle.std.specs.Prelude.{All, Bool, Err, IfErr, IfOk, IfSome, List, None, Ok, OnOk, Option, Result, Some, [], codes, cond, count_by, drop}
-pub use Rattle.std.specs.Prelude.{false, length, map, nat_lt, take, true, ℕ, ⊤}
-unfoldable pub use Rattle.pie_book.specs.{Registers.registers_after, Run.progress_after}
+pub use Rattle.std.specs.Prelude.{All, Bool, Err, IfErr, IfOk, IfSome, List, None, Ok, OnOk, Option, Result, Some, [], codes, cond, count_by, drop, false, length, map, nat_lt, take, true, ℕ, ⊤}
+unfoldable pub use Rattle.pie_book.specs.{Statistics.registers_after, Book.progress_after}
 unfoldable pub use Rattle.pie_excerpt.specs.Beginning.{beginning_of}
 unfoldable pub use Rattle.pie_record.specs.{Command.request_of, Text.rows_text}
-unfoldable pub use Rattle.pie_record.specs.Answer.{answer_fields, folded_row, refused_row, shown_row, tallied_row}
+unfoldable pub use Rattle.pie_record.specs.Command.{answer_fields, folded_row, refused_row, shown_row, tallied_row}
 unfoldable pub use Rattle.pie_record.specs.FirstRecord.{first_kind, opening_of, version_of}
 unfoldable pub use Rattle.pie_record.specs.HistoryLines.{after_opening, history_opening, history_version, line_of, shown_line}

@@ -1,13 +1,177 @@
--- The run of a text from its beginning on: the answers of its core, and those after each history that it continues.
-use Rattle.pie_trace.specs.Names.{Appends, Beginning, BookView, CoreView, Err, Event, RecordFault, List, None, Ok, Option, Progress, Represents, Result, Row}
-use Rattle.pie_trace.specs.Names.{Some, TraceFault, Version, [], and_then, beginning_of, false, is_io_or_memory, nat_lt, progress_after, rows_text}
-use Rattle.pie_trace.specs.Names.{take, ℕ}
-use Rattle.pie_excerpt.specs.{Beginning.fault_within, Reading.resume_of, declared.resume.Resume.Resume}
-use Rattle.pie_trace.specs.{Steps.HasOutcome, Steps.IsInState, Steps.Pass, declared.run.RunEnd.RunEnd, declared.session.Session.Session}
-use Rattle.pie_trace.specs.History.{before_fault, end_in, fault_in, requests_of, resumed_progress, steps_of, text_in}
-use Rattle.pie_trace.specs.RunState.{RunState, end_after, looking_back, running, text_at}
-use Rattle.std.specs.Prelude.{if◌then◌else◌, ◌++◌, ◌+◌, ◌==◌, ◌∷◌, ◌≡◌}
+-- The state of a run: the look-back over a history, or a running core, with or without a history that leads to it.
+use Rattle.pie_trace.specs.Names.{Answer, Apply, BadParams, CoreView, Err, Fold, List, Ok, Opening, Progress, Refusal, Request, Result, Row, Show, Tally, Version, [], apply_in, code_of_fold, code_of_params, core_after, nat_lt, registers_of, rows_text, ℕ, Appends, BookRepresents, BookView, None, Option, Some, TraceFault, cond, false, is_io_or_memory, length, opening_refusal, request_of, text_of, Beginning, Event, RecordFault, Represents, and_then, beginning_of, progress_after, take}
+use Rattle.pie_book.specs.Book.{tail_length_after_fold, tail_length_with_one}
+use Rattle.pie_trace.specs.History.{before_fault, end_at, end_left, history_rows, refused_count, requests_of, text_left, first_fault, end_in, fault_in, resumed_progress, steps_of, text_in, Reply, after, clocked, fold_reply, refused, reply, reply_to_command, shown, tallied, history_row, is_refused}
+use Rattle.pie_trace.specs.declared.run.RunEnd.{RunEnd}
+use Rattle.std.specs.Prelude.{if◌then◌else◌, ◌+◌, ◌∷◌, ◌≡◌, ◌++◌, ◌==◌}
+use Rattle.pie_record.specs.declared.trace_record.Request.TheVariants as request
+use Rattle.pie_excerpt.specs.Beginning.{fault_within}
+use Rattle.pie_excerpt.specs.Reading.{resume_of}
+use Rattle.pie_excerpt.specs.declared.resume.Resume.{Resume}
+use Rattle.pie_trace.specs.declared.session.Session.{Session}
 use Rattle.pie_record.specs.declared.fault.TraceFault.TheVariants as fault
+
+-- ---- a running core
+
+-- the core that decides the next command, and the number of events in the tail
+pub record Running : Type 0 where
+  pub core : CoreView
+  pub tail_length : ℕ
+
+-- the reply to a request in this state: the core's answer to a command, and the core's registers and statistics
+abbrev pub reply_in : Opening → Running → Request → Reply
+reply_in opening it (Apply caller command) = reply_to_command (apply_in opening it.core it.tail_length command)
+reply_in opening it BadParams = refused code_of_params
+reply_in opening it (Fold n) = if nat_lt it.tail_length n then refused code_of_fold else fold_reply n
+reply_in opening it Show = shown (registers_of it.core)
+reply_in opening it Tally = tallied it.core.stats
+reply_in opening it (request.Clock clock) = clocked
+
+-- the state of the run after a command with this result
+abbrev pub decided : Opening → Running → CoreView → Result Answer Refusal → Running
+decided opening it next (Ok answer) =
+    record { core = next; tail_length = tail_length_with_one opening.choices.mode opening.limits.tail it.tail_length }
+decided opening it next (Err why) = it
+
+-- the state of the run after a request
+abbrev pub running_after : Opening → Running → Request → Running
+running_after opening it (Apply caller command) =
+    decided opening it (core_after it.core command) (apply_in opening it.core it.tail_length command)
+running_after opening it (Fold n) = record { core = it.core; tail_length = tail_length_after_fold it.tail_length n }
+running_after opening it _ = it
+
+-- the replies to these requests, one after another
+unfoldable pub replies_in : Opening → Running → List Request → List Reply
+replies_in opening it [] = []
+replies_in opening it (request ∷ requests) = reply_in opening it request ∷ replies_in opening (running_after opening it request) requests
+
+-- the state of the run after these requests
+unfoldable pub running_through : Opening → Running → List Request → Running
+running_through opening it [] = it
+running_through opening it (request ∷ requests) = running_through opening (running_after opening it request) requests
+
+-- the result of a run in this state
+abbrev pub end_in_state : Running → ℕ → RunEnd
+end_in_state it refusals = record { events = it.core.count; refused = refusals; registers = registers_of it.core; stats = it.core.stats }
+
+-- the text written for these records, up to the first that has a fault
+unfoldable pub text_in_state : Version → ℕ → Opening → ℕ → Running → List Row → List ℕ
+text_in_state version max_records opening number it rows =
+    let good = before_fault version max_records number rows in
+    rows_text (history_rows version number good (replies_in opening it (requests_of version good)))
+
+-- the result of a run that was in this state before these records
+abbrev pub end_from_state : Version → Opening → Running → ℕ → List Row → RunEnd
+end_from_state version opening it refusals rows =
+    let requests = requests_of version rows in
+    end_in_state (running_through opening it requests) (refusals + refused_count (replies_in opening it requests))
+
+-- ---- the two kinds of run
+
+pub data RunState : Type 0 where
+  looking_back : Progress → RunState
+  running : Running → RunState
+
+abbrev pub reply_at : Opening → RunState → Request → Reply
+reply_at opening (looking_back progress) request = reply opening progress request
+reply_at opening (running it) request = reply_in opening it request
+
+abbrev pub state_after : Opening → RunState → Request → RunState
+state_after opening (looking_back progress) request = looking_back (after opening progress request)
+state_after opening (running it) request = running (running_after opening it request)
+
+abbrev pub end_of_state : Opening → RunState → ℕ → RunEnd
+end_of_state opening (looking_back progress) refusals = end_at opening progress refusals
+end_of_state opening (running it) refusals = end_in_state it refusals
+
+abbrev pub text_at : Version → ℕ → Opening → ℕ → RunState → List Row → List ℕ
+text_at version max_records opening number (looking_back progress) rows = text_left version max_records opening number progress rows
+text_at version max_records opening number (running it) rows = text_in_state version max_records opening number it rows
+
+abbrev pub end_after : Version → Opening → RunState → ℕ → List Row → RunEnd
+end_after version opening (looking_back progress) refusals rows = end_left version opening progress refusals rows
+end_after version opening (running it) refusals rows = end_from_state version opening it refusals rows
+
+-- ---- A pass over records, and its progress; and the pass of a run of a trace.
+
+-- ---- a pass over records: it reads them one after another, writes, and returns a result
+
+-- the outcome of a pass: the first fault, if there is one; otherwise the result; and the output. Result and output
+-- depend on the state before
+pub record Pass (X A : Type 0) : Type 1 where
+  pub found : Option TraceFault
+  pub can_precede : X → Type 0
+  pub gives : X → Option A
+  pub text : X → List ℕ
+
+-- the output of the pass, after every possible past, is appended to the writer's bytes
+abbrev pub Writes : {X A : Type 0} → Pass X A → Option (List ℕ) → Option (List ℕ) → Type 0
+Writes {X} pass before now = (past : X) → pass.can_precede past → Appends before now (pass.text past)
+
+-- the end of a pass, unless the reader, the writer or memory failed: a result, or the fault
+abbrev pub HasOutcome : {X A : Type 0} → Pass X A → Result A TraceFault → Option (List ℕ) → Option (List ℕ) → Type 0
+HasOutcome {X} pass (Ok value) before now =
+    (pass.found ≡ None) × ((past : X) → pass.can_precede past → pass.gives past ≡ Some value) × Writes pass before now
+HasOutcome pass (Err why) before now = is_io_or_memory why ≡ false → (pass.found ≡ Some why) × Writes pass before now
+
+-- the progress of a pass: some records are left, and the outcome for these gives the outcome for all
+pub record IsProgressOf {X A : Type 0} (all : Pass X A) (others : List Row → Pass X A) (left : Option (List Row)) (before now : Option (List ℕ))
+    : Type 0 where
+  pub rows : List Row
+  pub remain : left ≡ Some rows
+  pub comes : (result : Result A TraceFault) (last : Option (List ℕ)) → HasOutcome (others rows) result now last → HasOutcome all result before last
+
+-- ---- the run of a trace
+
+-- a book is in this state of a run from its opening
+pub record IsAt (book : BookView) (opening : Opening) (progress : Progress) : Type 0 where
+  pub opened : book.opening ≡ opening
+  pub accepted : opening_refusal opening.limits opening.moment ≡ None
+  pub book_represents : BookRepresents book progress.history
+  pub tail_length : length book.tail ≡ progress.tail_length
+
+-- a book runs with this core from this opening, and its tail has this number of events
+pub record IsRunning (book : BookView) (opening : Opening) (it : Running) : Type 0 where
+  pub opened : book.opening ≡ opening
+  pub accepted : opening_refusal opening.limits opening.moment ≡ None
+  pub core : book.running ≡ it.core
+  pub tail_length : length book.tail ≡ it.tail_length
+
+-- a book is in this state, of either kind
+abbrev pub IsInState : BookView → Opening → RunState → Type 0
+IsInState book opening (looking_back progress) = IsAt book opening progress
+IsInState book opening (running it) = IsRunning book opening it
+
+-- 1 if a reply is a refusal, otherwise 0
+abbrev pub refusals_in : Reply → ℕ
+refusals_in given = cond (is_refused given) 1 0
+
+-- the effect of a request: the book is in the state after it, a refusal is counted, and the text is that of its
+-- history record
+pub record IsReplied (version : Version) (number : ℕ) (row : Row) (request : Request) (opening : Opening) (new : BookView) (refused refused_then : ℕ)
+    (text : List ℕ) (run_state : RunState) : Type 0 where
+  pub is_in_state : IsInState new opening (state_after opening run_state request)
+  pub refusals : refused_then ≡ refused + refusals_in (reply_at opening run_state request)
+  pub made : text ≡ text_of (history_row version number row (reply_at opening run_state request))
+
+-- the effect of a request, for each record that makes it, and for each state of the book before
+abbrev pub Replies : Version → ℕ → Request → BookView → BookView → ℕ → ℕ → List ℕ → Type 0
+Replies version number request old new refused refused_then text =
+    (row : Row) → request_of version row ≡ Ok request → (run_state : RunState) → IsInState old old.opening run_state
+    → IsReplied version number row request old.opening new refused refused_then text run_state
+
+-- the outcome of the run of these records, by the book's running core, and for every history that the book
+-- represents: the first fault, the result, and the history text up to the first record that has a fault. `number`
+-- is the number of the first record, and `refused` the number of refusals before it
+abbrev pub runs_on : Version → ℕ → Opening → ℕ → BookView → ℕ → List Row → Pass RunState RunEnd
+runs_on version max_records opening number book refused rows = record {
+  found = first_fault version max_records number rows;
+  can_precede = IsInState book opening;
+  gives = λ from. Some (end_after version opening from refused rows);
+  text = λ from. text_at version max_records opening number from rows;
+}
+
+-- ---- The run of a text from its beginning on: the answers of its core, and those after each history that it continues.
 
 -- ---- The beginning of a text with at most `max_records` records
 

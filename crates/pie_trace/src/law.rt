@@ -1,12 +1,8 @@
 //! The laws of runs and migrations: history texts are read back and are clean, and excerpts continue a history.
 ghost use Rattle.pie_audit.specs.Text.{IsFound, text_fault};
-ghost use Rattle.pie_event.specs.Ranges.{CommandFits};
-ghost use Rattle.pie_text.specs.Lost.{lost_row};
-ghost use Rattle.pie_trace.specs.{All, Clean, Event, HaveSameLines, IsHistoryText, List, None, Ok, Opening, Beginning, Continues, Promises, Request};
-ghost use Rattle.pie_trace.specs.{Row, Some, before_fault, end_of, fault_of, first_in_two, fold_reply, history_fault, history_lines, history_opening};
-ghost use Rattle.pie_trace.specs.{history_text, history_version, length, migrated_text, migrated_version, opening_of, progress_after};
-ghost use Rattle.pie_trace.specs.{progress_at_end, progress_resumed, records_of, replies, requests_of, end_of_run, fault_of_run, resumed_progress};
-ghost use Rattle.pie_trace.specs.{text_of_run, beginning_within, run_lines, start, steps_of, text_finding, version_of, whole_begun, ℕ, declared.run.RunEnd.RunEnd};
+ghost use Rattle.pie_event.specs.Event.{CommandFits};
+ghost use Rattle.pie_text.specs.Plain.{lost_row};
+ghost use Rattle.pie_trace.specs.{All, Clean, Event, HaveSameLines, IsHistoryText, List, None, Ok, Opening, Beginning, Continues, Promises, Request, Row, Some, before_fault, end_of, fault_of, first_in_two, fold_reply, history_fault, history_lines, history_opening, history_text, history_version, length, migrated_text, migrated_version, opening_of, progress_after, progress_at_end, progress_resumed, records_of, replies, requests_of, end_of_run, fault_of_run, resumed_progress, text_of_run, beginning_within, run_lines, start, steps_of, text_finding, version_of, whole_begun, ℕ, declared.run.RunEnd.RunEnd};
 ghost use Rattle.std.specs.Prelude.{◌++◌, ◌<◌, ◌^◌, ◌∷◌, ◌≡◌, ◌≢◌, ◌≤◌};
 
 use pie_audit::{

@@ -4,19 +4,16 @@ use Rattle.std.proofs.Common.{◌≡◌, ◌^◌, codes, refl, ◌+◌, ◌*◌,
 use Rattle.std.specs.Prelude.{Ok, Err, ⊤}
 use Rattle.pie_units.specs.declared.unit.Quantity.TheVariants.{Rate, Size, Packets, Time}
 use Rattle.pie_units.specs.declared.number.UnitFault.TheVariants.{NotANumber, TooPrecise}
-use Rattle.pie_units.specs.Scale.{is_word, prefix_scale, rate_scale, size_scale, time_scale}
-use Rattle.pie_units.specs.Number.{digit_count, number_after, value_of}
+use Rattle.pie_units.specs.Number.{is_word, prefix_scale, rate_scale, size_scale, time_scale, digit_count, number_after, value_of, packets_of, rate_of, time_of}
 use Rattle.pie_units.specs.declared.option_units.OptionFault.TheVariants.{NoRate, Unread, NotBytes}
-use Rattle.pie_units.specs.Opening.{gain_of}
-use Rattle.pie_units.specs.Units.{packets_of, rate_of, time_of}
-use Rattle.pie_units.specs.Layer.{overhead_of, size_on_link}
+use Rattle.pie_units.specs.Opening.{gain_of, overhead_of, size_on_link}
 use Rattle.pie_units.specs.declared.layer.Layer.{Layer}
 use Rattle.pie_units.specs.declared.layer.LinkLayer.TheVariants.{Atm, Ethernet}
 use Rattle.pie_units.specs.declared.layer.Overhead.{Overhead}
 use Rattle.pie_units.specs.declared.layer.Overhead.TheVariants.{Added, Removed}
 use Rattle.std.specs.List.{flat_map, range_with_len}
 use Rattle.pie_units.specs.declared.date.Date.{Date}
-use Rattle.pie_units.specs.Date.{date_in, date_of, day_number, days_in_month, is_leap, year_among, year_day}
+use Rattle.pie_units.specs.Time.{date_in, date_of, day_number, days_in_month, is_leap, year_among, year_day}
 
 -- the definitions that computing a value unfolds
 unfoldable worked : Type 0

@@ -1,13 +1,12 @@
 -- Digits of a text, one more at a time: their number, and its value in a unit.
-use Rattle.std.proofs.Common.{◌≡◌, ◌+◌, ◌*◌, ◌-◌, ◌<◌, ◌≤◌, arith, ℕ, zero, suc, List, [], ◌∷◌, ◌++◌, length, slice_index, take, sym, ap, ◌∙◌}
-use Rattle.std.proofs.Common.{append-nil}
+use Rattle.std.proofs.Common.{◌≡◌, ◌+◌, ◌*◌, ◌-◌, ◌<◌, ◌≤◌, arith, ℕ, zero, suc, List, [], ◌∷◌, ◌++◌, length, slice_index, take, sym, ap, ◌∙◌, append-nil}
 use Rattle.std.specs.Prelude.{min, false}
 use Rattle.std.proofs.lemmas.Bool.Decides.{nat_tests}
 use Rattle.std.proofs.lemmas.Nat.{mul-le}
 use Rattle.std.proofs.lemmas.List.Sums.{fold-append, fold_more}
 use Rattle.pie_units.specs.Number.{number_after, whole_in}
 use Rattle.std.specs.Fmt.{char_count, decimal, format_spec, padded_integral}
-use Rattle.pie_units.specs.Utc.{with_zeros}
+use Rattle.pie_units.specs.Time.{with_zeros}
 
 -- ---- The number, limited to a maximum
 

@@ -1,9 +1,3 @@
-pub mod Moment
-pub mod Scale
+pub mod Time
 pub mod Number
-pub mod Date
-pub mod Utc
-pub mod When
-pub mod Layer
 pub mod Opening
-pub mod Units

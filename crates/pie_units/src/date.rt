@@ -1,6 +1,6 @@
 //! Dates of the Gregorian calendar, as days since 1970-01-01.
 ghost use Rattle.std.specs.Prelude.{◌≡◌, ◌≤◌, ◌<◌};
-ghost use Rattle.pie_units.specs.Date.{date_in, date_of, day_number, days_in_month, is_leap, march_month, march_year, month_of, year_among, year_day};
+ghost use Rattle.pie_units.specs.Time.{date_in, date_of, day_number, days_in_month, is_leap, march_month, march_year, month_of, year_among, year_day};
 
 /// A date of the Gregorian calendar.
 #[derive(Clone, Copy)]
@@ -14,7 +14,7 @@ pub struct Date {
 }
 
 /// Returns the year, among 400 years that begin on 1 March, that contains the day `day` of them.
-#[tactic(auto, unfolding(crate::specs::Date::year_among))]
+#[tactic(auto, unfolding(crate::specs::Time::year_among))]
 fn year_among(day: u64) -> u64
     requires { day < 146097 }
     ensures year { result ≡ year_among day }
@@ -24,7 +24,7 @@ fn year_among(day: u64) -> u64
 }
 
 /// Returns the day of that year, counted from 0.
-#[tactic(auto, unfolding(crate::specs::Date::year_day))]
+#[tactic(auto, unfolding(crate::specs::Time::year_day))]
 fn year_day(day: u64) -> u64
     requires { day < 146097 }
     ensures day { result ≡ year_day day }
@@ -47,7 +47,7 @@ fn month_of(march_month: u64) -> u64
 }
 
 /// Returns the date of the day `day` of 400 years that begin on 1 March, `years` years after 0000-03-01.
-#[tactic(auto, unfolding(crate::specs::Date::date_in))]
+#[tactic(auto, unfolding(crate::specs::Time::date_in))]
 fn date_in(years: u64, day: u64) -> Date
     requires few { years ≤ 10000 }
     requires day { day < 146097 }
@@ -64,7 +64,7 @@ fn date_in(years: u64, day: u64) -> Date
 }
 
 /// Returns the date `days` days after 1970-01-01.
-#[tactic(auto, unfolding(crate::specs::Date::date_of))]
+#[tactic(auto, unfolding(crate::specs::Time::date_of))]
 pub fn date_of(days: u64) -> Date
     requires { days ≤ 213504 }
     ensures { result ≡ date_of days }
@@ -116,7 +116,7 @@ fn march_month(month: u64) -> u64
 }
 
 /// Returns the number of days from 1970-01-01 to `date`, which is not before it.
-#[tactic(auto, unfolding(crate::specs::Date::day_number))]
+#[tactic(auto, unfolding(crate::specs::Time::day_number))]
 pub fn day_number(date: Date) -> u64
     requires year { date.year ≤ 9999 }
     requires month { date.month ≤ 12 }

@@ -1,6 +1,6 @@
 //! Sizes of packets on a link, as `tc stab` computes them.
 ghost use Rattle.std.specs.Prelude.{◌≡◌, ◌≤◌, ◌<◌, ◌^◌};
-ghost use Rattle.pie_units.specs.Layer.{bytes_of, entry_at, overhead_of, size_on_link, with_overhead};
+ghost use Rattle.pie_units.specs.Opening.{bytes_of, entry_at, overhead_of, size_on_link, with_overhead};
 
 use crate::number::{digit_count, number_after};
 use crate::option_units::OptionFault;

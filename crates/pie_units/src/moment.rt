@@ -1,6 +1,6 @@
 //! Moments in human-readable form: whole nanoseconds, or a number with a unit, such as `1.5ms`.
 ghost use Rattle.std.specs.Prelude.{◌≡◌};
-ghost use Rattle.pie_units.specs.Moment.{moment_fault, moment_in};
+ghost use Rattle.pie_units.specs.Time.{moment_fault, moment_in};
 
 use crate::number::{UnitFault, read};
 use crate::unit::Quantity;
@@ -46,7 +46,7 @@ pub(crate) fn moment_in(text: &[u8]) -> Result<u64, MomentFault>
 impl FromStr for Moment {
     type Err = MomentFault;
 
-    ghost use Rattle.pie_units.specs.Moment.{ParsesMoment};
+    ghost use Rattle.pie_units.specs.Time.{ParsesMoment};
 
     ghost from_str_gives = { λ text read. ParsesMoment text read };
 

@@ -1,6 +1,6 @@
 //! Numbers of `tc`'s options, with units: `20ms`, `100mbit`, `1000p`.
 ghost use Rattle.std.specs.Prelude.{◌≡◌};
-ghost use Rattle.pie_units.specs.Units.{packets_of, rate_of, time_of, option_number};
+ghost use Rattle.pie_units.specs.Number.{packets_of, rate_of, time_of, option_number};
 
 use crate::number::{UnitFault, read};
 use crate::unit::Quantity;

@@ -1,7 +1,6 @@
 //! Units of `tc`. Their letters may have any case.
 ghost use Rattle.std.specs.Prelude.{◌≡◌, ◌≤◌, ◌^◌, IfSome};
-ghost use Rattle.pie_units.specs.Scale.{base_scale, is_any, is_either, is_word, moment_scale, packets_scale, prefix_scale};
-ghost use Rattle.pie_units.specs.Scale.{rate_scale, scale_of, size_scale, time_scale};
+ghost use Rattle.pie_units.specs.Number.{base_scale, is_any, is_either, is_word, moment_scale, packets_scale, prefix_scale, rate_scale, scale_of, size_scale, time_scale};
 
 /// The kind of a number.
 #[derive(Clone, Copy, Debug, PartialEq, Eq)]
@@ -22,7 +21,7 @@ pub enum Quantity {
 }
 
 /// Returns true if `text` is `word`, with letters of any case.
-#[tactic(auto, unfolding(crate::specs::Scale::is_word))]
+#[tactic(auto, unfolding(crate::specs::Number::is_word))]
 fn is_word(word: &[u8], text: &[u8]) -> bool
     ensures { result ≡ is_word word.now text.now }
 {
@@ -44,7 +43,7 @@ fn is_any(first: &[u8], second: &[u8], third: &[u8], text: &[u8]) -> bool
 }
 
 /// Returns the number of nanoseconds of a unit of time.
-#[tactic(auto, unfolding(crate::specs::Scale::time_scale))]
+#[tactic(auto, unfolding(crate::specs::Number::time_scale))]
 fn time_scale(unit: &[u8]) -> Option<u64>
     ensures { result ≡ time_scale unit.now }
 {
@@ -58,7 +57,7 @@ fn time_scale(unit: &[u8]) -> Option<u64>
 }
 
 /// Returns the factor of the letters before `bit` or `bps`.
-#[tactic(auto, unfolding(crate::specs::Scale::prefix_scale))]
+#[tactic(auto, unfolding(crate::specs::Number::prefix_scale))]
 fn prefix_scale(prefix: &[u8]) -> Option<u64>
     ensures scale { result ≡ prefix_scale prefix.now }
     ensures few { IfSome result (λ scale. scale ≤ 2 ^ 40) }
@@ -90,7 +89,7 @@ fn base_scale(base: &[u8]) -> Option<u64>
 }
 
 /// Returns the bits per second of a unit of rates.
-#[tactic(auto, unfolding(crate::specs::Scale::rate_scale))]
+#[tactic(auto, unfolding(crate::specs::Number::rate_scale))]
 fn rate_scale(unit: &[u8]) -> Option<u64>
     ensures { result ≡ rate_scale unit.now }
 {
@@ -103,7 +102,7 @@ fn rate_scale(unit: &[u8]) -> Option<u64>
 }
 
 /// Returns the bytes of a unit of sizes.
-#[tactic(auto, unfolding(crate::specs::Scale::size_scale))]
+#[tactic(auto, unfolding(crate::specs::Number::size_scale))]
 fn size_scale(unit: &[u8]) -> Option<u64>
     ensures { result ≡ size_scale unit.now }
 {

@@ -1,6 +1,6 @@
 //! Wall-clock times in UTC: `2026-11-24T20:00:00.265333333Z`.
 ghost use Rattle.std.specs.Prelude.{◌≡◌, ◌≤◌, ◌-◌, ◌^◌, IfSome, length, min};
-ghost use Rattle.pie_units.specs.Utc.{date_part, has_marks, nanos_in, number_in, number_within, seconds_part, unix_of, utc_in, utc_with};
+ghost use Rattle.pie_units.specs.Time.{date_part, has_marks, nanos_in, number_in, number_within, seconds_part, unix_of, utc_in, utc_with};
 
 use crate::date::{Date, date_of, day_number, days_in_month};
 use crate::number::{decimals_in, digit_count, number_after, parts_of, unit_in};
@@ -36,7 +36,7 @@ pub struct Utc(pub u64);
 
 impl Display for Utc {
     ghost use Rattle.std.specs.Prelude.{Some};
-    ghost use Rattle.pie_units.specs.Utc.{utc_text};
+    ghost use Rattle.pie_units.specs.Time.{utc_text};
 
     ghost output = { λ time. Some (utc_text time.0) };
 
@@ -75,7 +75,7 @@ fn number_within(digits: &[u8], first: u64, last: u64) -> Option<u64>
 }
 
 /// Returns true if the separators between the numbers of a date and an hour are present.
-#[tactic(auto, unfolding(crate::specs::Utc::has_marks))]
+#[tactic(auto, unfolding(crate::specs::Time::has_marks))]
 fn has_marks(text: &[u8]) -> bool
     requires { 19 ≤ length text.now }
     ensures { result ≡ has_marks text.now }
@@ -84,7 +84,7 @@ fn has_marks(text: &[u8]) -> bool
 }
 
 /// Parses the date at the start of a text.
-#[tactic(auto, unfolding(crate::specs::Utc::date_part))]
+#[tactic(auto, unfolding(crate::specs::Time::date_part))]
 fn date_part(text: &[u8]) -> Option<Date>
     requires { 19 ≤ length text.now }
     ensures date { result ≡ date_part text.now }
@@ -97,7 +97,7 @@ fn date_part(text: &[u8]) -> Option<Date>
 }
 
 /// Returns the nanoseconds of the decimals of a second, at most nine of them.
-#[tactic(auto, unfolding(crate::specs::Utc::nanos_in))]
+#[tactic(auto, unfolding(crate::specs::Time::nanos_in))]
 fn nanos_in(decimals: &[u8]) -> u64
     requires { length decimals.now ≤ 9 }
     ensures { result ≡ nanos_in decimals.now }
@@ -106,7 +106,7 @@ fn nanos_in(decimals: &[u8]) -> u64
 }
 
 /// Parses the hour after the date, in seconds of the day.
-#[tactic(auto, unfolding(crate::specs::Utc::seconds_part))]
+#[tactic(auto, unfolding(crate::specs::Time::seconds_part))]
 fn seconds_part(text: &[u8]) -> Option<u64>
     requires { 19 ≤ length text.now }
     ensures seconds { result ≡ seconds_part text.now }
@@ -119,7 +119,7 @@ fn seconds_part(text: &[u8]) -> Option<u64>
 }
 
 /// Returns the wall-clock time of a date, seconds of its day and nanoseconds.
-#[tactic(auto, unfolding(crate::specs::Utc::unix_of))]
+#[tactic(auto, unfolding(crate::specs::Time::unix_of))]
 fn unix_of(date: Date, seconds: u64, nanos: u64) -> Result<u64, UtcFault>
     requires year { date.year ≤ 9999 }
     requires month { date.month ≤ 12 }
@@ -139,7 +139,7 @@ fn unix_of(date: Date, seconds: u64, nanos: u64) -> Result<u64, UtcFault>
 }
 
 /// Parses a text that has at least 19 bytes and ends with these decimals of a second.
-#[tactic(auto, unfolding(crate::specs::Utc::utc_with))]
+#[tactic(auto, unfolding(crate::specs::Time::utc_with))]
 fn utc_with(text: &[u8], decimals: &[u8]) -> Result<u64, UtcFault>
     requires long { 19 ≤ length text.now }
     requires few { length decimals.now ≤ 9 }
@@ -158,7 +158,7 @@ fn utc_with(text: &[u8], decimals: &[u8]) -> Result<u64, UtcFault>
 }
 
 /// Parses a wall-clock time, in nanoseconds after 1970-01-01T00:00:00Z.
-#[tactic(auto, unfolding(crate::specs::Utc::utc_in))]
+#[tactic(auto, unfolding(crate::specs::Time::utc_in))]
 pub(crate) fn utc_in(text: &[u8]) -> Result<u64, UtcFault>
     ensures { result ≡ utc_in text.now }
 {
@@ -176,7 +176,7 @@ pub(crate) fn utc_in(text: &[u8]) -> Result<u64, UtcFault>
 impl FromStr for Utc {
     type Err = UtcFault;
 
-    ghost use Rattle.pie_units.specs.Utc.{ParsesUtc};
+    ghost use Rattle.pie_units.specs.Time.{ParsesUtc};
 
     ghost from_str_gives = { λ text read. ParsesUtc text read };
 

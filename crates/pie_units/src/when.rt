@@ -1,6 +1,6 @@
 //! Bounds of moments in human-readable form: a moment, or a wall-clock time.
 ghost use Rattle.std.specs.Prelude.{◌≡◌};
-ghost use Rattle.pie_units.specs.When.{is_date, when_in};
+ghost use Rattle.pie_units.specs.Time.{is_date, when_in};
 
 use crate::moment::{MomentFault, moment_in};
 use crate::utc::{UtcFault, utc_in};
@@ -48,7 +48,7 @@ fn when_in(text: &[u8]) -> Result<When, WhenFault>
 impl FromStr for When {
     type Err = WhenFault;
 
-    ghost use Rattle.pie_units.specs.When.{ParsesWhen};
+    ghost use Rattle.pie_units.specs.Time.{ParsesWhen};
 
     ghost from_str_gives = { λ text read. ParsesWhen text read };
 

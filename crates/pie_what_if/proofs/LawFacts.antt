@@ -1,16 +1,15 @@
 -- A history that is not altered is written again, and the other history is legal.
 use Rattle.pie_audit.proofs.LegalFacts.{legal-pop}
-use Rattle.pie_audit.specs.Legal.{CanBeMade}
-use Rattle.pie_audit.specs.Origin.{Origin, at_opening}
-unfoldable use Rattle.pie_audit.specs.Finding.{events_of}
+use Rattle.pie_audit.specs.Replay.{CanBeMade, Origin, at_opening}
+unfoldable use Rattle.pie_audit.specs.Replay.{events_of}
 unfoldable use Rattle.pie_audit.specs.Text.{text_fault, text_lines}
-use Rattle.pie_book.specs.{Decision.IsLegal, Decision.IsLegalAt, Decision.decision, Decision.refusal_by_rule, Run.event_of}
+use Rattle.pie_book.specs.{Decision.IsLegal, Decision.IsLegalAt, Decision.decision, Decision.refusal_by_rule, Book.event_of}
 use Rattle.pie_event.specs.declared.{command.Command.Command, command.Event.Event, opening.Opening.Opening, refusal.Refusal.Refusal}
 use Rattle.pie_event.specs.declared.command.Command.TheVariants.{SetParams}
 use Rattle.pie_excerpt.specs.Beginning.{Beginning}
 unfoldable use Rattle.pie_excerpt.specs.Beginning.{beginning_of}
 use Rattle.pie_params.specs.declared.raw.RawParams.{RawParams}
-use Rattle.pie_record.proofs.Laws.{reads-one}
+use Rattle.pie_record.proofs.InputFacts.{reads-one}
 use Rattle.pie_record.specs.{HistoryLines.IsRecordOf, HistoryLines.line_of, Text.Row, Write.event_row, Write.line_rows, Write.rows_unless_note}
 unfoldable use Rattle.pie_record.specs.HistoryLines.{fault_from, line_in, lines_from}
 unfoldable use Rattle.pie_record.specs.Text.{rows_text}

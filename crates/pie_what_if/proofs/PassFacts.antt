@@ -1,7 +1,7 @@
 -- The pass over a text, one record after another.
 unfoldable use Rattle.pie_audit.specs.Text.{text_fault}
 unfoldable use Rattle.pie_excerpt.specs.Beginning.{beginning_of}
-use Rattle.pie_record.proofs.Laws.{line_in-line}
+use Rattle.pie_record.proofs.InputFacts.{line_in-line}
 use Rattle.pie_record.specs.HistoryLines.{line_of}
 unfoldable use Rattle.pie_record.specs.HistoryLines.{fault_from, line_in}
 use Rattle.pie_record.specs.Text.{Row, TakesRow, Took}
@@ -9,7 +9,7 @@ unfoldable use Rattle.pie_record.specs.Text.{rows_text}
 use Rattle.pie_record.specs.declared.{fault.TraceFault.TraceFault, history_record.Line.Line, version.Version.Version}
 use Rattle.pie_record.specs.declared.fault.TraceFault.TheVariants as fault
 use Rattle.pie_trace.proofs.RunFacts.{Halts, grown-moved}
-use Rattle.pie_trace.specs.Steps.{HasOutcome, IsProgressOf, Pass, Writes}
+use Rattle.pie_trace.specs.Runs.{HasOutcome, IsProgressOf, Pass, Writes}
 use Rattle.pie_what_if.proofs.RowFacts.{rows-both}
 use Rattle.pie_what_if.specs.Decider.{IsAt, end_at}
 use Rattle.pie_what_if.specs.Other.{Point, point_after, rows_at}

@@ -1,6 +1,6 @@
 //! The decision on one command of the other history.
 ghost use Rattle.std.specs.Prelude.{◌≡◌, ◌++◌, List};
-ghost use Rattle.pie_audit.specs.Origin.{Origin, RepresentsAfter};
+ghost use Rattle.pie_audit.specs.Replay.{Origin, RepresentsAfter};
 ghost use Rattle.pie_what_if.specs.Other.{decided, event_if};
 ghost use Rattle.pie_event.specs.declared.command.Event.{Event};
 

@@ -1,10 +1,9 @@
 //! The laws of the other history.
-ghost use Rattle.pie_audit.specs.Legal.{CanBeMade};
+ghost use Rattle.pie_audit.specs.Replay.{CanBeMade, events_of};
 ghost use Rattle.pie_audit.specs.Text.{text_fault, text_lines};
 ghost use Rattle.pie_book.specs.Decision.{IsLegal};
 ghost use Rattle.pie_event.specs.declared.{command.Event.Event, opening.Opening.Opening};
 ghost use Rattle.pie_excerpt.specs.Beginning.{Beginning, beginning_of};
-ghost use Rattle.pie_audit.specs.Finding.{events_of};
 ghost use Rattle.pie_record.specs.FirstRecord.{opening_of};
 ghost use Rattle.pie_record.specs.Text.{Row, rows_text};
 ghost use Rattle.pie_what_if.specs.Other.{ReadLine, first_point, point_at_end};

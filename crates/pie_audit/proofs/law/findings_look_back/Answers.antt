@@ -1,4 +1,4 @@
-use Rattle.pie_audit.proofs.LiftFacts.{StepsLookBack, found-as-whole}
+use Rattle.pie_audit.proofs.AuditorFacts.{StepsLookBack, found-as-whole}
 use Rattle.pie_audit.proofs.law.findings_look_back.Goals as goal
 
 pub returns : goal.returns

@@ -1,4 +1,4 @@
-use Rattle.pie_c.proofs.SummedFacts.{explained}
+use Rattle.pie_c.proofs.Sound.{explained}
 use Rattle.pie_c.proofs.law.summed_calls_are_explained.Goals as goal
 
 pub returns : goal.returns

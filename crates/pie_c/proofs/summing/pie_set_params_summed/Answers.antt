@@ -1,4 +1,4 @@
-use Rattle.pie_c.proofs.SummedFacts.{adds_call, done-decides}
+use Rattle.pie_c.proofs.Sound.{adds_call, done-decides}
 use Rattle.pie_c.proofs.summing.pie_set_params_summed.Goals as goal
 
 pub returns-clause-summed : goal.returns-clause-summed

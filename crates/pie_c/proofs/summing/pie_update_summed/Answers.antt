@@ -1,4 +1,4 @@
-use Rattle.pie_c.proofs.SummedFacts.{adds_call, update-decides}
+use Rattle.pie_c.proofs.Sound.{adds_call, update-decides}
 use Rattle.pie_c.proofs.summing.pie_update_summed.Goals as goal
 
 pub returns-clause-summed : goal.returns-clause-summed

@@ -1,7 +1,7 @@
 use Rattle.std.proofs.Common.{◌≡◌, arith}
 use Rattle.std.proofs.lemmas.Int.{ints}
 use Rattle.std.specs.Prelude.{pos}
-use Rattle.pie_control.proofs.Bounds.{product-above, product-below}
+use Rattle.pie_control.proofs.Laws.{product-above, product-below}
 use Rattle.pie_control.proofs.update.product.Goals as goal
 use mir.Syntax.{w64}
 use mir.Val.{of_z, to_z}

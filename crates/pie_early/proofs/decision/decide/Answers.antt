@@ -1,6 +1,5 @@
 use Rattle.pie_early.proofs.Names.{◌≡◌, ◌∙◌, ap, sym, refl, true, arith, nat_tests, is_considered}
-use Rattle.pie_event.specs.Cause.{verdict_named}
-use Rattle.pie_event.specs.CauseName.{name_of}
+use Rattle.pie_event.specs.Cause.{verdict_named, name_of}
 use Rattle.pie_early.proofs.Laws.{cause_considered, cause_verdict}
 use Rattle.pie_early.proofs.decision.decide.Goals as goal
 

@@ -1,9 +1,6 @@
 use Rattle.std.proofs.Common.{◌≡◌, [], ◌∷◌, ◌++◌, append_assoc, true, List, Some, sym, ◌∙◌}
 use Rattle.pie_explain.proofs.Names.{reads-more}
-use Rattle.pie_audit.specs.Auditor.{AuditsFrom}
-use Rattle.pie_audit.specs.Finding.{difference_from}
-use Rattle.pie_audit.specs.Origin.{Origin, count_after}
-use Rattle.pie_audit.specs.Replay.{next_number}
+use Rattle.pie_audit.specs.Replay.{AuditsFrom, difference_from, Origin, count_after, next_number}
 use Rattle.pie_record.specs.HistoryLines.{is_event}
 use Rattle.pie_record.specs.declared.history_record.Line.{Line}
 use Rattle.pie_explain.proofs.DecidedFacts.{not-here}

@@ -1,5 +1,5 @@
 use Rattle.std.proofs.Common.{◌-◌, ◌^◌}
-use Rattle.pie_audit.specs.Reading.{ReadsWith}
+use Rattle.pie_audit.specs.Text.{ReadsWith}
 use Rattle.pie_explain.proofs.DecidedFacts.{Passed}
 use Rattle.pie_explain.proofs.decided_event.read_to.Given as goal
 

@@ -1,4 +1,4 @@
-use Rattle.pie_record.proofs.NumberFacts.{all_read, none_read}
+use Rattle.pie_record.proofs.FieldFacts.{all_read, none_read}
 use Rattle.pie_record.proofs.number.read_digits.Goals as goal
 
 pub returns-then-len-le-WORD : goal.returns-then-len-le-WORD

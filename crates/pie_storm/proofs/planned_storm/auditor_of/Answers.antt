@@ -1,7 +1,7 @@
 use Rattle.pie_storm.proofs.Names.{map, take}
 use Rattle.std.proofs.lemmas.List.{map_more}
 use Rattle.pie_record.specs.declared.history_record.Line.TheVariants.{Valid}
-use Rattle.pie_audit.specs.Origin.{at_opening}
+use Rattle.pie_audit.specs.Replay.{at_opening}
 use Rattle.pie_storm.proofs.planned_storm.auditor_of.Goals as goal
 
 pub loop-event-preserved : goal.loop-event-preserved

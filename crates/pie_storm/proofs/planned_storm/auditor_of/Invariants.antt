@@ -1,6 +1,6 @@
 use Rattle.std.proofs.Common.{map, take}
 use Rattle.pie_record.specs.declared.history_record.Line.TheVariants.{Valid}
-use Rattle.pie_audit.specs.Auditor.{Audits}
+use Rattle.pie_audit.specs.Replay.{Audits}
 use Rattle.pie_storm.proofs.planned_storm.auditor_of.Given as goal
 
 abbrev pub invariant-loop-event : goal.invariant-loop-event

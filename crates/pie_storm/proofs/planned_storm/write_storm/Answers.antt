@@ -1,4 +1,4 @@
-use Rattle.pie_audit.specs.Origin.{at_opening}
+use Rattle.pie_audit.specs.Replay.{at_opening}
 use Rattle.pie_storm.proofs.Names.{map, opening_of}
 use Rattle.pie_record.specs.declared.history_record.Line.TheVariants.{Valid}
 use Rattle.pie_storm.proofs.StormFacts.{differs-never, fit-legal, writes-answered}

@@ -1,4 +1,4 @@
-use Rattle.pie_record.proofs.Laws.{line_in-flaw, line_in-long}
+use Rattle.pie_record.proofs.InputFacts.{line_in-flaw, line_in-long}
 use Rattle.pie_record.specs.declared.fault.TraceFault.{TraceFault}
 use Rattle.pie_trace.proofs.RunFacts.{progress-done, progress-halted}
 use Rattle.pie_what_if.proofs.PassFacts.{progress-further, rest-faulty, rest-next, rest-none}

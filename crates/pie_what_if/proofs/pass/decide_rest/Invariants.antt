@@ -1,5 +1,5 @@
 use Rattle.pie_record.specs.Text.{Row}
-use Rattle.pie_trace.specs.Steps.{IsProgressOf}
+use Rattle.pie_trace.specs.Runs.{IsProgressOf}
 use Rattle.pie_what_if.specs.Result.{rest_pass}
 use Rattle.std.proofs.Common.{List, ◌+◌, ◌-◌, ◌^◌, ◌≡◌}
 use Rattle.std.specs.Io.KnownBytes.{append_known}

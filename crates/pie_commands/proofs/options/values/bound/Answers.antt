@@ -1,6 +1,6 @@
 use Rattle.pie_commands.proofs.Names.{◌∙◌, ap, found_of, one_text, one_text-rows, option_map, Option, Text}
 use Rattle.std.specs.Option.{option_transpose}
-use Rattle.pie_units.specs.When.{when_in}
+use Rattle.pie_units.specs.Time.{when_in}
 use Rattle.pie_commands.proofs.ValueFacts.{bound-given}
 use Rattle.pie_commands.proofs.options.values.bound.Goals as goal
 

@@ -1,4 +1,4 @@
-use Rattle.pie_audit.specs.Reading.{ReadsWith}
+use Rattle.pie_audit.specs.Text.{ReadsWith}
 use Rattle.pie_explain.proofs.Names.{IsExplaining, Line, List, Option, Origin, Start, ℕ, ◌++◌, ◌-◌, ◌^◌}
 use Rattle.pie_explain.proofs.explainer.Explainer.explain_lines.Given as goal
 

@@ -1,7 +1,7 @@
 use Rattle.std.proofs.Common.{arith, rules, take, ◌≡◌, ◌<◌, ◌+◌}
 use Rattle.pie_record.specs.{fields_of}
-use Rattle.pie_record.proofs.PlainFacts.{some_fields}
-use Rattle.pie_record.proofs.FoundFacts.{plain-found, empty-found}
+use Rattle.pie_record.proofs.LineReads.{some_fields}
+use Rattle.pie_record.proofs.InputFacts.{plain-found, empty-found}
 use Rattle.pie_record.proofs.record.Record.read_line.Goals as goal
 
 pub returns-then-len-eq0 : goal.returns-then-len-eq0

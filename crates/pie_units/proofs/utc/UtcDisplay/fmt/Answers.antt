@@ -1,6 +1,6 @@
 use Rattle.std.proofs.Common.{append_assoc}
 use Rattle.std.proofs.Output.{has_written_of_eq}
-use Rattle.pie_units.specs.Utc.{utc_text}
+use Rattle.pie_units.specs.Time.{utc_text}
 use Rattle.pie_units.proofs.WrittenFacts.{some-digits}
 use Rattle.pie_units.proofs.utc.UtcDisplay.fmt.Goals as goal
 

@@ -2,8 +2,8 @@
 //! rules.
 //!
 //! The definitions that the contracts cite are in `specs/`. `finding` compares each event with the decision after
-//! all lines before it. pie_explain and pie_cut cite two more: `Setters` gives the event that set the probability,
-//! and `Start` the knowledge of an excerpt about that event.
+//! all lines before it. pie_explain and pie_cut cite `specs/Replay.antt` for the event that
+//! set the probability, and for the knowledge of an excerpt about that event.
 //!
 //! `clean_is_legal`: a text without a fault is clean exactly if its events are legal from its opening on; otherwise
 //! it differs at the first event that is not legal.

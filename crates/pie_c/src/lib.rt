@@ -5,7 +5,7 @@
 //! refuses with a code, and then nothing changes.
 //!
 //! - Clause `answer`: the return value of each call for any arguments, with the refusals in their order.
-//! - Clause `fields` (specs/Calls.antt): the state after a call for a packet, for any state before. Clause `after`: the
+//! - Clause `fields` (specs/State.antt): the state after a call for a packet, for any state before. Clause `after`: the
 //!   state after it for a sound state, and after any other call for every state.
 //! - Clause `sound`: a sound state stays sound, so a state from `pie_open` is never refused.
 //! - Clause `represents`: if a state represents the events since the opening, it then represents them with this call added.

@@ -9,8 +9,8 @@
 //!
 //! The clause of each call is pie_link's clause about the caller: in contracts an open port is its caller's front and
 //! numbers. No call waits. `open` promises the headline: whenever the link's lock is free, there is one history behind
-//! all its ports. Contracts state each field that a call writes to its caller's event (`specs/Events.antt`), and each
-//! record of an excerpt's text (`specs/Excerpts.antt`).
+//! all its ports. Contracts state each field that a call writes to its caller's event (`specs/Calls.antt`), and each
+//! record of an excerpt's text (`specs/Bursts.antt`).
 #![tactic(auto)]
 
 mod burst;

@@ -117,8 +117,8 @@ expect 'a mark by the sum' 0 "$header$sum,ect0,18446744073709551615,,1,9,7048,12
 choices='pie: explain takes only one of --event N, --tag T, --lost, --marked and --all; see pie explain --help\n'
 expect 'no choice' 1 '' "$choice" "$history" explain
 expect 'no choice but a form' 1 '' "$choice" "$history" explain --csv
-expect 'two choices' 1 '' "$choices" "$history" explain --lost --all
-expect 'two choices of packets' 1 '' "$choices" "$history" explain --lost --marked
+expect 'two choices' 1 '' "${choices}pie: --lost and --all are both given\n" "$history" explain --lost --all
+expect 'two choices of packets' 1 '' "${choices}pie: --lost and --marked are both given\n" "$history" explain --lost --marked
 marked='10,arrive,1,1001003,1001003,5,500,mark,picked_by_word,2048,2,2000000,903954174169,0,0,ect0,0,,1,9,2548,3,2488281,903954174169,0,0,1\n'
 expect 'a marked packet' 0 "$header$marked" '' "$history" explain --csv --marked
 expect 'no packet marked before a changed verdict' 2 "$header" "$differs" "$changed" explain --csv --marked

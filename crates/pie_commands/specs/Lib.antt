@@ -1,4 +1,5 @@
 pub mod Explanations
+pub mod Nearest
 pub mod CutEnds
 pub mod Ends
 pub mod FileAudits

@@ -48,7 +48,7 @@ pub(crate) fn dispatch<
         Subcommand::Cut => cut(rt, alloc, options, input, output, errors),
         Subcommand::Migrate => migrate(rt, alloc, options, input, output, errors),
         Subcommand::Storm => storm(rt, alloc, options, output, errors),
-        Subcommand::Params => params(options, output, errors),
+        Subcommand::Params => params(alloc, options, output, errors),
     }
 }
 

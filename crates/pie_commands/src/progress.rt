@@ -190,6 +190,11 @@ impl Screen for HostRuntime {
     }
 }
 
+/// Returns true if the output is written to standard output, and that is a terminal.
+pub(crate) fn writes_to_terminal<H: Screen>(rt: &H, options: &ArgMatches<'_>) -> bool {
+    output(options).is_none() && rt.has_output_terminal()
+}
+
 /// Returns true if `--progress` is given or standard error is a terminal. A terminal alone is not enough if output
 /// `is_written` meanwhile to standard output and that is a terminal too: the lines would mix.
 pub(crate) fn shows_progress<H: Screen>(
@@ -197,6 +202,6 @@ pub(crate) fn shows_progress<H: Screen>(
     options: &ArgMatches<'_>,
     is_written: bool,
 ) -> bool {
-    let is_mixed = is_written && output(options).is_none() && rt.has_output_terminal();
+    let is_mixed = is_written && writes_to_terminal(rt, options);
     flag(options, "progress") || (rt.has_error_terminal() && !is_mixed)
 }

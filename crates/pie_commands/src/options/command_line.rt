@@ -54,7 +54,7 @@ fn command_of<'a>(
 ) -> Result<Command<'a>, AllocError>
     ensures { IfOk result (λ command. app_of command ≡ with_rules (new_app name.now) (map rule_for arguments.now)) }
 {
-    let mut command = Ok(Command::new(alloc, name).about(about).after_help(help));
+    let mut command = Ok(Command::new(alloc, name).about(about).after_long_help(help));
     for place in 0..arguments.len() {
         command = with_argument(alloc, command, argument_at(arguments, place));
     }
@@ -77,6 +77,19 @@ fn page_of<'a>(subcommand: Subcommand) -> Page<'a>
     }
 }
 
+/// Returns the options and files of a subcommand.
+pub(crate) fn arguments_of(subcommand: Subcommand) -> &'static [Argument] {
+    match subcommand {
+        Subcommand::Run => RUN.arguments,
+        Subcommand::Audit => AUDIT.arguments,
+        Subcommand::Explain => EXPLAIN.arguments,
+        Subcommand::Cut => CUT.arguments,
+        Subcommand::Migrate => MIGRATE.arguments,
+        Subcommand::Storm => STORM.arguments,
+        Subcommand::Params => PARAMS.arguments,
+    }
+}
+
 /// Returns a subcommand for `clap`, with its arguments.
 fn command_for<'a>(alloc: Global, subcommand: Subcommand) -> Result<Command<'a>, AllocError>
     ensures { IfOk result (λ command. app_of command ≡ app_for subcommand) }
@@ -92,7 +105,7 @@ fn alone<'a>(alloc: Global) -> Command<'a>
     Command::new(alloc, "pie")
         .about("A PIE queue controller (RFC 8033) whose every decision is recorded")
         .version(VERSION)
-        .after_help(PIE_HELP)
+        .after_long_help(PIE_HELP)
         .subcommand_required(true)
 }
 

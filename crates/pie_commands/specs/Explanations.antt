@@ -18,6 +18,7 @@ use Rattle.pie_explain.specs.Output.{as_records, in_words, pages}
 use Rattle.pie_summary.specs.ByFlow.{flows_whole}
 use Rattle.pie_summary.specs.Summary.{without_packets, summary_of}
 use Rattle.pie_summary.specs.Lines.{lines_whole}
+use Rattle.pie_summary.specs.declared.lines.LineStyle.{LineStyle}
 use Rattle.pie_commands.specs.declared.explain.OutputKind.{OutputKind}
 use Rattle.pie_commands.specs.declared.explain.OutputKind.TheVariants.{Digest, Flows, Lines, Records, Sums, Words}
 use Rattle.pie_explain.specs.declared.fault.ExplainFault.{ExplainFault}
@@ -124,24 +125,24 @@ form_of options = record { csv = flag_given (codes "csv") options; by_wall = fla
 abbrev pub each_kind : Form → OutputKind
 each_kind form = if form.csv then Records (record { by_wall = form.by_wall }) else Words (record { by_wall = form.by_wall })
 
--- the kind of summaries: of each interval in words a line, unless `full`, whose header `repeats` or not
-abbrev pub sums_kind : Bool → Bool → Option ℕ → Form → OutputKind
-sums_kind full repeats None form = Sums (record { form = form; every = None })
-sums_kind full repeats (Some every) form =
+-- the kind of summaries: of each interval in words a line of this style, unless `full`
+abbrev pub sums_kind : Bool → LineStyle → Option ℕ → Form → OutputKind
+sums_kind full style None form = Sums (record { form = form; every = None })
+sums_kind full style (Some every) form =
     if form.csv || full then Sums (record { form = form; every = Some every })
-    else Lines (record { every = every; by_wall = form.by_wall; repeats = repeats })
+    else Lines (record { every = every; by_wall = form.by_wall; style = style })
 
 -- the kind of output about the chosen events: each event; sums by flow; or summaries, with or without a digest of
 -- lost and marked packets. Sums and summaries cover all events or each interval
-abbrev pub output_kind_by : Bool → Bool → Option ℕ → Bool → Bool → Option ℕ → Form → OutputKind
-output_kind_by true packets (Some most) full repeats every form = Flows (record { form = form; every = every; most = most })
-output_kind_by true true None full repeats every form = Digest (record { form = form; every = every; packets = true })
-output_kind_by true false None full repeats every form = sums_kind full repeats every form
-output_kind_by false packets flows full repeats every form = each_kind form
+abbrev pub output_kind_by : Bool → Bool → Option ℕ → Bool → LineStyle → Option ℕ → Form → OutputKind
+output_kind_by true packets (Some most) full style every form = Flows (record { form = form; every = every; most = most })
+output_kind_by true true None full style every form = Digest (record { form = form; every = every; packets = true })
+output_kind_by true false None full style every form = sums_kind full style every form
+output_kind_by false packets flows full style every form = each_kind form
 
-abbrev pub output_kind_of : Bool → List Row → OutputKind
-output_kind_of repeats options =
-    output_kind_by (is_summary options) (is_digest options) (flows_of options) (flag_given (codes "full") options) repeats (every_of options)
+abbrev pub output_kind_of : LineStyle → List Row → OutputKind
+output_kind_of style options =
+    output_kind_by (is_summary options) (is_digest options) (flows_of options) (flag_given (codes "full") options) style (every_of options)
     (form_of options)
 
 -- the output of a kind for these explained events
@@ -169,10 +170,10 @@ abbrev pub explain_ends : Option Selection → (List Explained → List ℕ) →
 explain_ends None text known = WritesNothing
 explain_ends (Some selection) text known = EndsBy end_of_explain (ExplainsText selection text) known
 
--- the end of an explanation with the selection and the kind of output of these options; the header of lines `repeats` or not
-abbrev pub EndsExplainBy : Bool → List Row → Option (List ℕ) → End → Option (List ℕ) → Option (List ℕ) → Type 0
-EndsExplainBy repeats options = explain_ends (selection_of options) (output_text (output_kind_of repeats options))
+-- the end of an explanation with the selection and the kind of output of these options; lines have this style
+abbrev pub EndsExplainBy : LineStyle → List Row → Option (List ℕ) → End → Option (List ℕ) → Option (List ℕ) → Type 0
+EndsExplainBy style options = explain_ends (selection_of options) (output_text (output_kind_of style options))
 
--- such an end, whether the header repeats or not
+-- such an end, with any style of lines
 abbrev pub EndsExplain : List Row → Option (List ℕ) → End → Option (List ℕ) → Option (List ℕ) → Type 0
-EndsExplain options known end before now = (repeats : Bool) × EndsExplainBy repeats options known end before now
+EndsExplain options known end before now = (style : LineStyle) × EndsExplainBy style options known end before now

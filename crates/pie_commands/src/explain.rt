@@ -16,7 +16,7 @@ use crate::options::{NO_ORDER, bound, file, flag, in_order, moment, number, pars
 use crate::progress::{ProgressReader, Screen, shows_progress, writes_to_terminal};
 use clap::ArgMatches;
 use pie_explain::{EventChoice, ExplainFault, Form, Records, Selection, Words};
-use pie_summary::{ByFlow, IntervalLines, Summaries, SummariesOnly};
+use pie_summary::{ByFlow, IntervalLines, LineStyle, Summaries, SummariesOnly};
 use std::alloc::Global;
 use std::io::{Read, Write};
 
@@ -145,9 +145,9 @@ pub(crate) enum OutputKind {
     Flows(ByFlow),
 }
 
-/// Returns the kind of summaries: of each interval in words a line, unless `full`, with a header that `repeats` or not.
-fn sums_kind(full: bool, repeats: bool, every: Option<u64>, form: Form) -> OutputKind
-    ensures { result ≡ sums_kind full repeats every form }
+/// Returns the kind of summaries: of each interval in words a line, unless `full`, in this style.
+fn sums_kind(full: bool, style: LineStyle, every: Option<u64>, form: Form) -> OutputKind
+    ensures { result ≡ sums_kind full style every form }
 {
     match every {
         None => OutputKind::Sums(SummariesOnly { form, every: None }),
@@ -160,16 +160,16 @@ fn sums_kind(full: bool, repeats: bool, every: Option<u64>, form: Form) -> Outpu
             OutputKind::Lines(IntervalLines {
                 every,
                 by_wall,
-                repeats,
+                style,
             })
         }
     }
 }
 
-/// Returns the kind of output that these options request: each event, or sums over the events. A header of lines `repeats`
-/// or not.
-fn output_kind_of(options: &ArgMatches<'_>, repeats: bool) -> OutputKind
-    ensures { result ≡ output_kind_of repeats (rows_of (found_of options.now)) }
+/// Returns the kind of output that these options request: each event, or sums over the events. Lines have this
+/// style.
+fn output_kind_of(options: &ArgMatches<'_>, style: LineStyle) -> OutputKind
+    ensures { result ≡ output_kind_of style (rows_of (found_of options.now)) }
 {
     let (csv, by_wall) = (flag(options, "csv"), flag(options, "wall"));
     let (packets, flows) = (flag(options, "digest"), number(options, "flows"));
@@ -181,7 +181,7 @@ fn output_kind_of(options: &ArgMatches<'_>, repeats: bool) -> OutputKind
             every,
             packets: true,
         }),
-        (true, false, None) => sums_kind(flag(options, "full"), repeats, every, form),
+        (true, false, None) => sums_kind(flag(options, "full"), style, every, form),
         (false, _, _) => {
             if csv {
                 OutputKind::Records(Records { by_wall })
@@ -240,23 +240,30 @@ fn report_end<H: NamedFiles, E: Write>(
     }
 }
 
-/// Explains the events of `input` that the options choose, as `explain` does. A header of lines `repeats` or not.
-fn explain_chosen<H: Screen, R: Read + Drop, W: Write, E: Write>(
+/// Returns the style of lines in the output of these options.
+fn style_of<H: Screen>(rt: &H, options: &ArgMatches<'_>) -> LineStyle {
+    let repeats = writes_to_terminal(rt, options);
+    let colours = repeats && rt.allows_colours();
+    LineStyle { repeats, colours }
+}
+
+/// Explains the events of `input` that the options choose, as `explain` does. Lines have this style.
+fn explain_chosen<H: NamedFiles + Screen, R: Read + Drop, W: Write, E: Write>(
     rt: &H,
     alloc: Global,
     options: &ArgMatches<'_>,
-    repeats: bool,
+    style: LineStyle,
     input: R,
     output: &mut W,
     errors: &mut E,
 ) -> End
-    ensures { EndsExplainBy repeats (rows_of (found_of options.now)) (R.remaining input) result (W.contents output.old) (W.contents output.new) }
+    ensures { EndsExplainBy style (rows_of (found_of options.now)) (R.remaining input) result (W.contents output.old) (W.contents output.new) }
 {
     let Some(selection) = selection_of(options, errors) else {
         return End::Failed;
     };
     let watched = ProgressReader::new(input, &mut *errors, rt, shows_progress(rt, options, true));
-    let kind = output_kind_of(options, repeats);
+    let kind = output_kind_of(options, style);
     let outcome = explain_with(alloc, watched, output, selection, kind);
     report_end(rt, alloc, errors, file(options), outcome)
 }
@@ -264,8 +271,8 @@ fn explain_chosen<H: Screen, R: Read + Drop, W: Write, E: Write>(
 /// `pie explain`: explains the chosen events of the history or excerpt in the file that the options name, or in `input`,
 /// up to its first fault or the first event that differs. Returns a difference as `End::Differs`. If the text has a
 /// fault, the options choose events more than once, no event matches, or the reader, the writer or memory fails, the end
-/// is an error. Each error has a line on `errors`; a writer's fault is reported later (`End::report`). If the output is
-/// written to a terminal, the header of lines is repeated.
+/// is an error. Each error has a line on `errors`; a writer's fault is reported later (`End::report`). On a
+/// terminal the header of lines is repeated, and lines are coloured unless the user wants no colours.
 pub(crate) fn explain<H: NamedFiles + Screen, R: Read + Drop, W: Write, E: Write>(
     rt: &H,
     alloc: Global,
@@ -280,6 +287,6 @@ pub(crate) fn explain<H: NamedFiles + Screen, R: Read + Drop, W: Write, E: Write
     let Some(reader) = open_input(rt, options, input, errors) else {
         return End::Unopened;
     };
-    let repeats = writes_to_terminal(rt, options);
-    explain_chosen(rt, alloc, options, repeats, reader, output, errors)
+    let style = style_of(rt, options);
+    explain_chosen(rt, alloc, options, style, reader, output, errors)
 }

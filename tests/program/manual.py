@@ -1,6 +1,6 @@
 #!/usr/bin/env python3
 """Compares the manual page and the completions with the program. man/pie.1 and the completions for bash, zsh and
-fish must contain exactly the subcommands and long options of `--help`. The page's synopsis of each subcommand must
+fish must contain exactly the subcommands and long options of `-h`. The page's synopsis of each subcommand must
 do so too, unless it ends in dots. If bash, zsh and fish are installed, the script also tries their completions.
 The options of man/pie-report.1, man/pie-metrics.1 and man/pie-extcap.1 must be those of `pie-report --help`,
 `pie-metrics --help` and `pie-extcap --help`.
@@ -39,11 +39,11 @@ def section(text, name):
 def told():
     """Returns the long options of each subcommand according to the program, and True for each that takes a value; the
     name "" is the program itself."""
-    top = output([PROGRAM, "--help"])
+    top = output([PROGRAM, "-h"])
     names = re.findall(r"^  (\w+)  ", section(top, "Commands"), re.M)
     options = {}
     for name in ["", *names]:
-        text = top if name == "" else output([PROGRAM, name, "--help"])
+        text = top if name == "" else output([PROGRAM, name, "-h"])
         options[name] = {option: bool(value) for option, value in re.findall(r"^ +(?:-\w, +)?--([\w-]+)( <[\w|]+>)?", section(text, "Options"), re.M)}
     return names, options
 

@@ -7,8 +7,8 @@
 expect 'a version' 0 'pie 0.1.0\n' '' '' --version
 expect 'a version, in short' 0 'pie 0.1.0\n' '' '' -V
 
-# Each help must be the stored text: help/NAME.txt for `pie NAME --help`, and pie.txt for `pie
-# --help`.
+# Each help must be the stored text: help/NAME.txt for `pie NAME --help`, NAME.short.txt for `pie NAME -h`, and
+# pie.txt and pie.short.txt for `pie --help` and `pie -h`. A short one fits on a screen.
 # help NAME WORDS..
 help() {
     local want=$here/help/$1.txt
@@ -23,12 +23,20 @@ help() {
     fi
 }
 help pie --help
-help pie -h
+help pie.short -h
 help pie help
 for name in run audit explain cut migrate storm params; do
     help "$name" "$name" --help
-    help "$name" "$name" -h
+    help "$name.short" "$name" -h
     help "$name" help "$name"
+done
+
+for text in "$here"/help/*.short.txt; do
+    lines=$(wc -l < "$text")
+    if [ "$lines" -gt 30 ]; then
+        echo "$script: $text has $lines lines"
+        failed=1
+    fi
 done
 
 # After a mistake the status is 1, the output is empty, and the first line on the error stream names

@@ -8,4 +8,5 @@ pub mod Parts
 pub mod StormEnds
 pub mod Subcommands
 pub mod Tuning
+pub mod WhatIfEnds
 pub mod Words

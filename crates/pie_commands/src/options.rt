@@ -11,6 +11,7 @@ mod mistakes;
 mod subcommand;
 mod trace_pages;
 mod values;
+mod what_if_page;
 
 pub(crate) use command_line::options;
 pub(crate) use mistakes::{report_keyword, report_numbers, report_two};

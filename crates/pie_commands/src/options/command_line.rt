@@ -7,6 +7,7 @@ use crate::options::argument::{Argument, Page, arg_of};
 use crate::options::history_pages::{AUDIT, CUT, EXPLAIN, MIGRATE};
 use crate::options::subcommand::Subcommand;
 use crate::options::trace_pages::{PARAMS, RUN, STORM};
+use crate::options::what_if_page::WHAT_IF;
 use clap::Command;
 use std::alloc::{AllocError, Global};
 
@@ -74,6 +75,7 @@ fn page_of<'a>(subcommand: Subcommand) -> Page<'a>
         Subcommand::Migrate => MIGRATE,
         Subcommand::Storm => STORM,
         Subcommand::Params => PARAMS,
+        Subcommand::WhatIf => WHAT_IF,
     }
 }
 
@@ -87,6 +89,7 @@ pub(crate) fn arguments_of(subcommand: Subcommand) -> &'static [Argument] {
         Subcommand::Migrate => MIGRATE.arguments,
         Subcommand::Storm => STORM.arguments,
         Subcommand::Params => PARAMS.arguments,
+        Subcommand::WhatIf => WHAT_IF.arguments,
     }
 }
 
@@ -162,6 +165,7 @@ pub(crate) fn options<'a>(alloc: Global) -> Result<Command<'a>, AllocError>
             Subcommand::Migrate,
             Subcommand::Storm,
             Subcommand::Params,
+            Subcommand::WhatIf,
         ],
     )
 }

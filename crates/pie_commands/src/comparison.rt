@@ -4,7 +4,7 @@ use pie_explain::{EventChoice, ExplainFault, Form, Selection, explain};
 use pie_summary::SummariesOnly;
 use pie_trace::TraceFault;
 use pie_units::When;
-use std::alloc::Global;
+use std::alloc::{AllocError, Global};
 use std::io;
 use std::io::Write;
 
@@ -82,23 +82,24 @@ fn is_among(names: &[&str], name: &str) -> bool {
     false
 }
 
-/// Writes a number with this sign, right-aligned in its column: as a time in milliseconds, a probability in per cent,
-/// rounded down, or a count, by the name of its field.
-fn write_cell<W: Write>(output: &mut W, name: &str, sign: &str, number: u128) -> io::Result<()> {
+/// Returns a number with this sign: as a time in milliseconds, a probability in per cent, rounded down, or a count, by the
+/// name of its field.
+fn cell_of(alloc: Global, name: &str, sign: &str, number: u128) -> Result<String, AllocError> {
     if is_among(&TIMES, name) {
         let (whole, rest) = (number / 1_000_000, number % 1_000_000);
-        return write!(output, " {sign:>2}{whole:>13}.{rest:06} ms");
+        return format!(in alloc; "{sign}{whole}.{rest:06} ms");
     }
     if is_among(&PROBABILITIES, name) {
         let (whole, rest) = (number / 10_000_000_000, number % 10_000_000_000 / 1_000_000);
-        return write!(output, " {sign:>2}{whole:>13}.{rest:04} %  ");
+        return format!(in alloc; "{sign}{whole}.{rest:04} %");
     }
-    write!(output, " {sign:>2}{number:>13}          ")
+    format!(in alloc; "{sign}{number}")
 }
 
 /// Writes the line of a field: its name, its numbers in the history and in the other one, and their difference. In words
 /// there is no line if both numbers are 0.
 fn write_line<W: Write>(
+    alloc: Global,
     output: &mut W,
     csv: bool,
     name: &str,
@@ -119,15 +120,15 @@ fn write_line<W: Write>(
     if own == 0 && other == 0 {
         return Ok(());
     }
-    write!(output, "{name:<26}")?;
-    write_cell(output, name, "", own)?;
-    write_cell(output, name, "", other)?;
-    write_cell(output, name, sign, difference)?;
-    writeln!(output, "")
+    let before = cell_of(alloc, name, "", own)?;
+    let after = cell_of(alloc, name, "", other)?;
+    let change = cell_of(alloc, name, sign, difference)?;
+    writeln!(output, "{name:<26} {before:>20} {after:>20} {change:>20}")
 }
 
 /// Writes a line for each field of two summaries. `names` has the names of the fields.
 fn write_lines<W: Write>(
+    alloc: Global,
     output: &mut W,
     csv: bool,
     names: &str,
@@ -143,7 +144,7 @@ fn write_lines<W: Write>(
         let (first, later_own) = split_row(own);
         let (second, later_other) = split_row(other);
         if let (Ok(first), Ok(second)) = (first.parse::<u128>(), second.parse::<u128>()) {
-            write_line(output, csv, name, first, second)?;
+            write_line(alloc, output, csv, name, first, second)?;
         }
         names = later_names;
         own = later_own;
@@ -154,6 +155,7 @@ fn write_lines<W: Write>(
 
 /// Writes the head of a comparison, and the lines of its fields.
 fn write_rows<W: Write>(
+    alloc: Global,
     output: &mut W,
     csv: bool,
     names: &str,
@@ -166,11 +168,11 @@ fn write_rows<W: Write>(
         writeln!(output, "{NO_REACTION}")?;
         writeln!(
             output,
-            "{:<26} {:>25} {:>25} {:>25}",
+            "{:<26} {:>20} {:>20} {:>20}",
             "field", "history", "other", "difference"
         )?;
     }
-    write_lines(output, csv, names, own, other)?;
+    write_lines(alloc, output, csv, names, own, other)?;
     output.flush()
 }
 
@@ -190,7 +192,7 @@ pub(crate) fn write_comparison<W: Write>(
     let own = summary_of(alloc, own, from)?;
     let other = summary_of(alloc, other, from)?;
     let written = match (rows_of(&own), rows_of(&other)) {
-        (Some((names, own)), Some((_, other))) => write_rows(output, csv, names, own, other),
+        (Some((names, own)), Some((_, other))) => write_rows(alloc, output, csv, names, own, other),
         _ => Ok(()),
     };
     match written {

@@ -64,7 +64,11 @@ fn other_with(
 
 /// Returns the alteration with these parameters if each is in its range. Otherwise writes a line to `errors`, and returns
 /// `None`.
-fn checked_alteration<E: Write>(from: u64, params: OtherParams, errors: &mut E) -> Option<Alteration>
+fn checked_alteration<E: Write>(
+    from: u64,
+    params: OtherParams,
+    errors: &mut E,
+) -> Option<Alteration>
     ensures { result ≡ checked_alteration from params }
 {
     match Params::check(params.over(Params::default_profile().raw())) {
@@ -89,7 +93,11 @@ fn alteration_of<E: Write>(options: &ArgMatches<'_>, errors: &mut E) -> Option<A
     let target = parsed(moment(options, "target"), "--target:", errors)?;
     let t_update = parsed(moment(options, "tupdate"), "--tupdate:", errors)?;
     let max_burst = parsed(moment(options, "max_burst"), "--max_burst:", errors)?;
-    checked_alteration(from, other_with(options, target, t_update, max_burst), errors)
+    checked_alteration(
+        from,
+        other_with(options, target, t_update, max_burst),
+        errors,
+    )
 }
 
 /// Returns true if the options request the other history, to be written to a file or to standard output.

@@ -12,6 +12,9 @@ use std::alloc::{AllocError, Global};
 use std::io::Write;
 use strsim::levenshtein;
 
+/// The options of other subcommands that choose the profile and the optional elements.
+const ELEMENTS: &[&str] = &["profile", "delay", "picking", "step", "size", "decay"];
+
 /// The greatest distance between a word and a keyword that is named for it.
 const FAR: usize = 2;
 
@@ -143,6 +146,25 @@ pub(crate) fn report_numbers<E: Write>(words: &[String], errors: &mut E) {
         };
         for argument in arguments {
             if report_number(*argument, words[place].as_str(), next, errors) {
+                return;
+            }
+        }
+    }
+}
+
+/// If `pie what-if` is given an option that chooses the profile or an element, writes a line with the reason why these
+/// cannot change. `words` is the command line. Ignores a failed write.
+pub(crate) fn report_elements<E: Write>(words: &[String], errors: &mut E) {
+    if words.len() < 3 || words[1].as_str() != "what-if" {
+        return;
+    }
+    for place in 2..words.len() {
+        for name in ELEMENTS {
+            if value_in(words[place].as_str(), Some(""), name).is_some() {
+                let _ = writeln!(
+                    errors,
+                    "pie: what-if cannot change --{name}: the first record of a history chooses the profile and the elements for all its events"
+                );
                 return;
             }
         }

@@ -172,31 +172,37 @@ fn write_rows<W: Write>(
             "field", "history", "other", "difference"
         )?;
     }
-    write_lines(alloc, output, csv, names, own, other)?;
-    output.flush()
+    write_lines(alloc, output, csv, names, own, other)
 }
 
-/// Writes the comparison of the texts of a history and of the other history, from this moment on.
+/// Returns the text of a comparison of two summaries.
+fn page_of(alloc: Global, own: &[u8], other: &[u8], csv: bool) -> Result<Vec<u8>, ExplainFault> {
+    let mut page = Vec::new(alloc);
+    let (Some((names, own)), Some((_, other))) = (rows_of(own), rows_of(other)) else {
+        return Ok(page);
+    };
+    match write_rows(alloc, &mut page, csv, names, own, other) {
+        Ok(()) => Ok(page),
+        Err(_) => {
+            drop(page);
+            Err(ExplainFault::Trace(TraceFault::Memory))
+        }
+    }
+}
+
+/// Returns the text of the comparison of a history and the other history, whose texts these are, from this moment on.
 ///
 /// # Errors
 ///
-/// Returns the fault of an explanation, or `Trace` with `Write` if the writer fails.
-pub(crate) fn write_comparison<W: Write>(
+/// Returns the fault of an explanation; `Trace` with `Memory` if memory is short.
+pub(crate) fn comparison(
     alloc: Global,
     own: &[u8],
     other: &[u8],
     from: u64,
     csv: bool,
-    output: &mut W,
-) -> Result<(), ExplainFault> {
+) -> Result<Vec<u8>, ExplainFault> {
     let own = summary_of(alloc, own, from)?;
     let other = summary_of(alloc, other, from)?;
-    let written = match (rows_of(&own), rows_of(&other)) {
-        (Some((names, own)), Some((_, other))) => write_rows(alloc, output, csv, names, own, other),
-        _ => Ok(()),
-    };
-    match written {
-        Ok(()) => Ok(()),
-        Err(_) => Err(ExplainFault::Trace(TraceFault::Write)),
-    }
+    page_of(alloc, &own, &other, csv)
 }

@@ -11,7 +11,7 @@ ghost use Rattle.pie_commands.specs.WhatIfEnds.{EndsCompared, alteration_of, che
 ghost use Rattle.pie_commands.specs.declared.end.End.{End};
 ghost use Rattle.pie_commands.specs.declared.options.subcommand.Subcommand.{Subcommand};
 
-use crate::comparison::{NO_REACTION, write_comparison};
+use crate::comparison::{NO_REACTION, comparison};
 use crate::difference::report_difference;
 use crate::end::{End, end_failed, end_with_fault, fault};
 use crate::fault_cause::{WHAT_IF, end_with_fault_in};
@@ -25,6 +25,7 @@ use pie_trace::TraceFault;
 use pie_units::gain_of;
 use pie_what_if::{Alteration, OtherParams, WhatIfEnd, WhatIfFault, what_if as decide_again};
 use std::alloc::Global;
+use std::io;
 use std::io::{ErrorKind, Read, Write};
 
 /// The message for options without a moment.
@@ -171,12 +172,25 @@ fn read_whole<R: Read + Drop>(alloc: Global, reader: R) -> Result<Vec<u8>, Trace
     }
 }
 
-/// Returns the end of a comparison with this result. Writes the line of a failure to `errors`.
-fn end_of_comparison<E: Write>(errors: &mut E, outcome: Result<(), ExplainFault>) -> End
+/// Writes a page, and flushes the output.
+fn write_page<W: Write>(page: &[u8], output: &mut W) -> io::Result<()> {
+    output.write_all(page)?;
+    output.flush()
+}
+
+/// Writes the text of a comparison, or the line of a failure to `errors`, and returns the end.
+fn end_of_comparison<W: Write, E: Write>(
+    page: Result<Vec<u8>, ExplainFault>,
+    output: &mut W,
+    errors: &mut E,
+) -> End
     ensures { result ≡ End.Differs → ⊥ }
 {
-    match outcome {
-        Ok(()) => End::Done,
+    match page {
+        Ok(page) => match write_page(&page, output) {
+            Ok(()) => End::Done,
+            Err(_) => end_with_fault(errors, TraceFault::Write),
+        },
         Err(ExplainFault::Trace(why)) => end_with_fault(errors, why),
         Err(why) => end_failed(errors, why),
     }
@@ -201,8 +215,8 @@ fn compare_text<H: NamedFiles, W: Write, E: Write>(
             if csv {
                 fault(errors, NO_REACTION);
             }
-            let written = write_comparison(alloc, text, &other, alteration.from, csv, output);
-            end_of_comparison(errors, written)
+            let page = comparison(alloc, text, &other, alteration.from, csv);
+            end_of_comparison(page, output, errors)
         }
         Err(why) => report_unable(rt, alloc, errors, file(options), why),
     }

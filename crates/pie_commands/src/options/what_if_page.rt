@@ -1,6 +1,6 @@
 //! The page of `pie what-if`: its arguments and its help.
 
-use crate::options::argument::{Argument, FILE, FORCE, OUTPUT, PROGRESS, Page, ValueKind, row};
+use crate::options::argument::{Argument, FILE, FORCE, PROGRESS, Page, ValueKind, row};
 
 /// The page of `pie what-if`.
 pub(crate) const WHAT_IF: Page<'static> = Page {
@@ -60,7 +60,7 @@ Example: what if the target had been 5 ms from 400 ms on?
         row!("dq_threshold": Number(1024, 65536), "Bytes in a cycle of the departure rate, a power of two. Default: that of the history"),
         row!("csv": Nothing, "Write the comparison as CSV with a header. Default: words"),
         PROGRESS,
-        OUTPUT,
+        row!("output": Lettered('o', "FILE"), "Write the other history to FILE, which is created or replaced when it is complete. Default: compare both"),
         FORCE,
         FILE,
     ],

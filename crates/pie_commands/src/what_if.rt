@@ -105,30 +105,34 @@ fn alteration_of<E: Write>(options: &ArgMatches<'_>, errors: &mut E) -> Option<A
 fn writes_other(options: &ArgMatches<'_>) -> bool
     ensures { result ≡ writes_other (rows_of (found_of options.now)) }
 {
-    text(options, "output").is_some()
+    match text(options, "output") {
+        Some(_) => true,
+        None => false,
+    }
 }
 
-/// Returns the end of a history that was not decided again for this reason. `name` is the file of the text, if it has one.
-/// Writes its lines to `errors`.
-fn report_unable<H: NamedFiles, E: Write>(
+/// Returns the end of a history that was decided again with this result. `name` is the file of the text, if it has one.
+/// Unless the result is `Ok`, writes its lines to `errors`.
+fn report_end<H: NamedFiles, E: Write>(
     rt: &H,
     alloc: Global,
     errors: &mut E,
     name: Option<&str>,
-    why: WhatIfFault,
+    outcome: Result<WhatIfEnd, WhatIfFault>,
 ) -> End
-    ensures { result ≡ end_of_what_if (Err why) }
+    ensures { result ≡ end_of_what_if outcome }
 {
-    match why {
-        WhatIfFault::Trace(why) => end_with_fault_in(rt, alloc, WHAT_IF, errors, name, why),
-        WhatIfFault::Differs { event } => {
-            let end = end_failed(errors, WhatIfFault::Differs { event });
+    match outcome {
+        Ok(_) => End::Done,
+        Err(WhatIfFault::Trace(why)) => { end_with_fault_in(rt, alloc, WHAT_IF, errors, name, why) }
+        Err(WhatIfFault::Differs { event }) => {
+            fault(errors, WhatIfFault::Differs { event });
             if let Some(name) = name {
                 report_difference(rt, alloc, name, event, false, errors);
             }
-            end
+            End::Failed
         }
-        WhatIfFault::NoEvents => end_failed(errors, WhatIfFault::NoEvents),
+        Err(WhatIfFault::NoEvents) => end_failed(errors, WhatIfFault::NoEvents),
     }
 }
 
@@ -145,13 +149,11 @@ fn write_other<H: NamedFiles + Screen, R: Read + Drop, W: Write, E: Write>(
     ensures { EndsBy end_of_what_if (IsDecidedAgain alteration.now) (R.remaining reader) result (W.contents output.old) (W.contents output.new) }
 {
     let watched = ProgressReader::new(reader, &mut *errors, rt, shows_progress(rt, options, true));
-    match decide_again(alloc, watched, output, alteration) {
-        Ok(_) => {
-            fault(errors, NO_REACTION);
-            End::Done
-        }
-        Err(why) => report_unable(rt, alloc, errors, file(options), why),
+    let outcome = decide_again(alloc, watched, output, alteration);
+    if outcome.is_ok() {
+        fault(errors, NO_REACTION);
     }
+    report_end(rt, alloc, errors, file(options), outcome)
 }
 
 /// Returns the bytes of a reader.
@@ -197,6 +199,7 @@ fn end_of_comparison<W: Write, E: Write>(
 }
 
 /// Compares the history in `text` with the other history, which is decided in memory.
+#[tactic(auto, using(crate::proofs::WhatIfFacts::compared, crate::proofs::WhatIfFacts::uncompared))]
 fn compare_text<H: NamedFiles, W: Write, E: Write>(
     rt: &H,
     alloc: Global,
@@ -218,11 +221,12 @@ fn compare_text<H: NamedFiles, W: Write, E: Write>(
             let page = comparison(alloc, text, &other, alteration.from, csv);
             end_of_comparison(page, output, errors)
         }
-        Err(why) => report_unable(rt, alloc, errors, file(options), why),
+        Err(why) => report_end(rt, alloc, errors, file(options), Err(why)),
     }
 }
 
 /// Compares the history of `reader`, which is read into memory, with the other history.
+#[tactic(auto, using(crate::proofs::WhatIfFacts::compared_read))]
 fn compare<H: NamedFiles + Screen, R: Read + Drop, W: Write, E: Write>(
     rt: &H,
     alloc: Global,

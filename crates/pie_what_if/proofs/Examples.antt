@@ -48,7 +48,15 @@ answers params =
 
 abbrev none : OtherParams
 none = record {
-  target = None; t_update = None; max_burst = None; alpha = None; beta = None; mean_pkt = None; limit_bytes = None; mark_ecnth = None; dq_threshold = None;
+  target = None;
+  t_update = None;
+  max_burst = None;
+  alpha = None;
+  beta = None;
+  mean_pkt = None;
+  limit_bytes = None;
+  mark_ecnth = None;
+  dq_threshold = None;
 }
 
 -- the events before the moment

@@ -80,7 +80,7 @@ def synopsis(page):
     text = page.split(".SH SYNOPSIS\n")[1].split(".SH DESCRIPTION")[0].replace("\\-", "-")
     lines = re.split(r"^\.B pie ([\w-]+)\n", text, flags=re.M)[1:]
     found = {name: {*re.findall(r"--([\w-]+)", part)} | ({"output"} if re.search(r" -o$", part, re.M) else set()) for name, part in pairs(lines)}
-    return found, {name for name, part in pairs(lines) if part.rstrip().endswith("\\|.\\|.")}
+    return found, {name for name, part in pairs(lines) if part.rstrip().removesuffix(".br").rstrip().endswith("\\|.\\|.")}
 
 
 def pairs(items):

@@ -2,18 +2,20 @@
 _pie() {
     local word=${COMP_WORDS[COMP_CWORD]} subcommand=${COMP_WORDS[1]:-} words
     if [ "$COMP_CWORD" = 1 ]; then
-        words='run audit explain cut migrate storm params help --help --version'
+        words='run audit explain cut migrate storm params what-if help --help --version'
     else
         case $subcommand in
             run) words='--count --progress --output --force --help' ;;
             audit) words='--joined --progress --help' ;;
             migrate) words='--progress --output --force --help' ;;
-            explain) words='--event --tag --lost --marked --all --from --to --summary --every --flows --digest --csv --wall --progress --output --force --help' ;;
+            explain) words='--event --tag --lost --marked --all --from --to --summary --every --full --flows --digest --csv --wall --progress --output --force --help' ;;
             cut) words='--from --to --event --around --last --every --progress --output --force --help' ;;
             storm) words='--senders --packets --burst --seed --load --changes --folds --profile --delay --picking --step --size --decay --count --help' ;;
             params) words='--rate --target --tupdate --limit --alpha --beta --ecn --bytemode --mtu --dq_rate_estimator --no_derandomization \
                 --no_cap_drop_adjustment --decay --overhead --mpu --linklayer --help' ;;
-            help) words='run audit explain cut migrate storm params help' ;;
+            what-if) words='--from --target --tupdate --max_burst --alpha --beta --mean_pkt --limit --mark_ecnth --dq_threshold --csv \
+                --progress --output --force --help' ;;
+            help) words='run audit explain cut migrate storm params what-if help' ;;
             *) words='' ;;
         esac
     fi

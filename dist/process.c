@@ -1,4 +1,4 @@
-/* The arguments of the program and errno: runtime.h's last three functions. Also functions of the C library that the program
+/* The arguments of the program, its environment and errno: runtime.h's last four functions. Also functions of the C library that the program
  * calls, where a processor or another C library than glibc has them otherwise. The program is linked with --wrap=main and
  * --wrap=open (Makefile).
  */
@@ -11,6 +11,7 @@
 #include <fcntl.h>
 #include <signal.h>
 #include <stdint.h>
+#include <stdlib.h>
 #include <string.h>
 #include <sys/syscall.h>
 #include <unistd.h>
@@ -32,6 +33,15 @@ ssize_t rattle_arg(size_t index, char *buffer, size_t room) {
     if (index >= count || arguments[index] == NULL) return -1;
     length = strlen(arguments[index]);
     memcpy(buffer, arguments[index], length < room ? length : room);
+    return length <= room ? (ssize_t)length : -2;
+}
+
+ssize_t rattle_env(const char *name, char *buffer, size_t room) {
+    const char *value = getenv(name);
+    size_t length;
+    if (value == NULL) return -1;
+    length = strlen(value);
+    memcpy(buffer, value, length < room ? length : room);
     return length <= room ? (ssize_t)length : -2;
 }
 

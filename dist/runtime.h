@@ -1,4 +1,4 @@
-/* The six functions that the assembly in x86_64/ calls beside those of the C library. heap.c defines the first three, process.c
+/* The seven functions that the assembly in x86_64/ calls beside those of the C library. heap.c defines the first three, process.c
  * the others. Proofs assume of them what is stated here; runtime_test.c tests it.
  */
 #ifndef PIE_RUNTIME_H
@@ -27,6 +27,11 @@ void rattle_dealloc(void *block);
  * Returns -1 if there is no such argument, and -2 if its length exceeds `room`: `buffer` then contains its first `room` bytes.
  */
 ssize_t rattle_arg(size_t index, char *buffer, size_t room);
+
+/* Copies the value of the environment variable `name` to `buffer`, without a final 0, and returns its length. Returns -1 if there is
+ * no such variable, and -2 if the length exceeds `room`: `buffer` then contains the first `room` bytes.
+ */
+ssize_t rattle_env(const char *name, char *buffer, size_t room);
 
 /* Returns the value of errno. */
 int rattle_errno(void);

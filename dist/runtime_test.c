@@ -1,9 +1,11 @@
+#define _POSIX_C_SOURCE 200809L
 /* Tests of runtime.h: `runtime_test` starts itself with known arguments. Ends with status 1 after a line for each failure. */
 #include "runtime.h"
 
 #include <errno.h>
 #include <stdint.h>
 #include <stdio.h>
+#include <stdlib.h>
 #include <string.h>
 #include <unistd.h>
 
@@ -52,6 +54,19 @@ static void arguments(void) {
     check(rattle_arg(4, buffer, 8) == -1 && rattle_arg(SIZE_MAX, buffer, 8) == -1, "an argument that is not there");
 }
 
+static void environment(void) {
+    char buffer[8];
+    memset(buffer, '.', sizeof buffer);
+    setenv("PIE_TEST", "four", 1);
+    check(rattle_env("PIE_TEST", buffer, 8) == 4 && memcmp(buffer, "four....", 8) == 0, "a variable has another value");
+    check(rattle_env("PIE_TEST", buffer, 4) == 4, "a value that just fits is refused");
+    check(rattle_env("PIE_TEST", buffer, 3) == -2 && rattle_env("PIE_TEST", buffer, 0) == -2, "a value that does not fit");
+    setenv("PIE_TEST", "", 1);
+    check(rattle_env("PIE_TEST", buffer, 8) == 0, "an empty value");
+    unsetenv("PIE_TEST");
+    check(rattle_env("PIE_TEST", buffer, 8) == -1, "a variable that is not there");
+}
+
 int main(int argc, char **argv) {
     if (argc == 1) {
         execl("/proc/self/exe", argv[0], "four", "", "last", (char *)NULL);
@@ -59,6 +74,7 @@ int main(int argc, char **argv) {
     }
     heap();
     arguments();
+    environment();
     rattle_set_errno(ENOSPC);
     check(errno == ENOSPC && rattle_errno() == ENOSPC, "errno is another");
     rattle_set_errno(0);

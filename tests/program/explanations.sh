@@ -6,7 +6,6 @@
 # needs: program
 . "$(dirname "$0")/../shared/expect.sh"
 
-choice='pie: explain needs one of --event N, --tag T, --lost, --marked and --all, or --summary, --every, --flows or --digest; see pie explain --help\n'
 expect 'a lost packet' 0 "$header$lost" '' "$history" explain --csv --lost
 expect 'a tag' 0 "$header$lost" '' "$history" explain --tag 6 --csv
 expect 'no packet lost before a changed verdict' 2 "$header" "$differs" "$changed" explain --csv --lost
@@ -45,50 +44,50 @@ if [ "$("$program" explain --all < "$work/turned" | grep turned.the)" != "$turne
 fi
 expect 'an update while the controller is off' 0 'event 2: an update
   the controller is turned off: the update takes no delay, and makes no probability
-  at 0.000001 ms (1 ns), by caller 4
-  before it: 1 packets, 400 bytes, a delay of 0.000000 ms (0 ns)
-  probability 0.0000 %% (0), as at the opening; no update so far; burst allowance 0.000000 ms (0 ns)
+  at 0.000001 ms, by caller 4
+  before it: 1 packets, 400 bytes, a delay of 0.000000 ms
+  probability 0.0000 %%, as at the opening; no update so far; burst allowance 0.000000 ms
 ' '' "$(cat "$work/turned")" explain --event 2
 expect 'a packet that turns the controller on' 0 'event 3: packet 2, 100 bytes, Not-ECT: queued
-  at 0.000001 ms (1 ns), by caller 1
+  at 0.000001 ms, by caller 1
   the controller is turned off
   this event turned the controller on
-  before it: 1 packets, 400 bytes, a delay of 0.000000 ms (0 ns)
-  probability 0.0000 %% (0), as at the opening; last update at 0.000001 ms (1 ns); burst allowance 0.000000 ms (0 ns)
+  before it: 1 packets, 400 bytes, a delay of 0.000000 ms
+  probability 0.0000 %%, as at the opening; last update at 0.000001 ms; burst allowance 0.000000 ms
 ' '' "$(cat "$work/turned")" explain --event 3
 # a reset sets the probability, and there was no update before
 expect 'a reset and no update' 0 'event 2: no packet was there to leave
-  at 0.000002 ms (2 ns), by caller 1
-  before it: 0 packets, 0 bytes, a delay of 0.000000 ms (0 ns)
-  probability 0.0000 %% (0), set by event 1; no update so far; burst allowance 150.000000 ms (150000000 ns)
+  at 0.000002 ms, by caller 1
+  before it: 0 packets, 0 bytes, a delay of 0.000000 ms
+  probability 0.0000 %%, set by event 1; no update so far; burst allowance 150.000000 ms
 ' '' 'open,0,4,16,100\nreset,1,1,done\ndepart,1,2,empty\n' explain --event 2
 # An enqueued packet, and the least time during which packets are safe: because burst allowance is
 # left, and because the accumulated probability is small.
 expect 'a burst that is allowed' 0 'event 1: packet 7, 1000 bytes, Not-ECT: queued
-  at 0.000002 ms (2 ns), by caller 1
-  a burst is allowed: 150.000000 ms (150000000 ns) are left of it
-  with unchanged parameters nothing is marked or dropped early before 150.000001 ms (150000001 ns)
-  before it: 0 packets, 0 bytes, a delay of 0.000000 ms (0 ns)
-  probability 0.0000 %% (0), as at the opening; no update so far; burst allowance 150.000000 ms (150000000 ns)
+  at 0.000002 ms, by caller 1
+  a burst is allowed: 150.000000 ms are left of it
+  with unchanged parameters nothing is marked or dropped early before 150.000001 ms
+  before it: 0 packets, 0 bytes, a delay of 0.000000 ms
+  probability 0.0000 %%, as at the opening; no update so far; burst allowance 150.000000 ms
 ' '' 'open,1,4,16,100\narrive,1,2,7,1000,not,0,enqueue\n' explain --event 1
 # With a max_burst below the remaining allowance a reset or a calm update leaves max_burst of it: 20 ms after the last
 # update, or nothing. An arrival after that time has no promise either.
 for lowered in 20000000 0; do
-    lasts='  with unchanged parameters nothing is marked or dropped early before 20.000000 ms (20000000 ns)\n'
+    lasts='  with unchanged parameters nothing is marked or dropped early before 20.000000 ms\n'
     [ "$lowered" = 0 ] && lasts=''
     expect "a max_burst of $lowered below the allowance" 0 "event 2: packet 0, 1000 bytes, Not-ECT: queued
-  at 0.000002 ms (2 ns), by caller 1
-  a burst is allowed: 150.000000 ms (150000000 ns) are left of it
-$lasts  before it: 0 packets, 0 bytes, a delay of 0.000000 ms (0 ns)
-  probability 0.0000 %% (0), as at the opening; no update so far; burst allowance 150.000000 ms (150000000 ns)
+  at 0.000002 ms, by caller 1
+  a burst is allowed: 150.000000 ms are left of it
+$lasts  before it: 0 packets, 0 bytes, a delay of 0.000000 ms
+  probability 0.0000 %%, as at the opening; no update so far; burst allowance 150.000000 ms
 " '' "open,0,4,16,100\nparams,1,1,15000000,15000000,$lowered,125,1250,1024,262144,100000000000,1024,done\narrive,1,2,0,1000,not,0,enqueue\n" \
         explain --event 2
 done
 expect 'an arrival at the end of the promise' 0 'event 1: packet 7, 1000 bytes, Not-ECT: queued
-  at 150.000001 ms (150000001 ns), by caller 1
-  a burst is allowed: 150.000000 ms (150000000 ns) are left of it
-  before it: 0 packets, 0 bytes, a delay of 0.000000 ms (0 ns)
-  probability 0.0000 %% (0), as at the opening; no update so far; burst allowance 150.000000 ms (150000000 ns)
+  at 150.000001 ms, by caller 1
+  a burst is allowed: 150.000000 ms are left of it
+  before it: 0 packets, 0 bytes, a delay of 0.000000 ms
+  probability 0.0000 %%, as at the opening; no update so far; burst allowance 150.000000 ms
 ' '' 'open,1,4,16,100\narrive,1,150000001,7,1000,not,0,enqueue\n' explain --event 1
 # The probability is 0.903954174169, which is not below a marking threshold of 0.9. With nine
 # packets that pass because of their random words, the tenth makes a sum above 8.5.
@@ -97,11 +96,11 @@ begun="${begun}depart,3,1000\ndepart,3,1001000\nupdate,4,1001000\nupdate,4,10010
 # Without the last of these updates the probability is 0.053955024169; sixteen times that is 0.85.
 printf "open,0,32,64,100,2,1,0,850000,0,1,100000,900000000000,1024\n${begun%update*}arrive,1,1001003,5,500,ect0,0\n" | "$program" run > "$work/little"
 expect 'little that is accumulated' 0 'event 9: packet 5, 500 bytes, ECT(0): queued
-  at 1.001003 ms (1001003 ns), by caller 1
-  the accumulated probability, with this one, is 5.3955 %% (53955024169), below 85 %%
+  at 1.001003 ms, by caller 1
+  the accumulated probability, with this one, is 5.3955 %%, below 85 %%
   where each counts as this one, at most one of 16 considered packets in a row is picked
-  before it: 2 packets, 2048 bytes, a delay of 2.000000 ms (2000000 ns)
-  probability 5.3955 %% (53955024169), set by event 8; last update at 1.001001 ms (1001001 ns); burst allowance 0.000000 ms (0 ns)
+  before it: 2 packets, 2048 bytes, a delay of 2.000000 ms
+  probability 5.3955 %%, set by event 8; last update at 1.001001 ms; burst allowance 0.000000 ms
 ' '' "$(cat "$work/little")" explain --event 9
 printf "open,0,32,64,100,2,1,0,850000,0,1,100000,900000000000,1024\n${begun}arrive,1,1001003,5,500,ect0,0\n" | "$program" run > "$work/below"
 below='10,arrive,1,1001003,1001003,5,500,'
@@ -115,10 +114,14 @@ sum=19,arrive,1,1001003,1001003,10,500,mark,picked_by_sum,6548,11,6394531,903954
 expect 'a mark by the sum' 0 "$header$sum,ect0,18446744073709551615,,1,9,7048,12,6882812,903954174169,0,0,1\n" '' \
     "$(cat "$work/sum")" explain --csv --event 19
 choices='pie: explain takes only one of --event N, --tag T, --lost, --marked and --all; see pie explain --help\n'
-expect 'no choice' 1 '' "$choice" "$history" explain
-expect 'no choice but a form' 1 '' "$choice" "$history" explain --csv
-expect 'two choices' 1 '' "$choices" "$history" explain --lost --all
-expect 'two choices of packets' 1 '' "$choices" "$history" explain --lost --marked
+# Without a choice the output is the summary of all events.
+for form in '' --csv; do
+    summary=$(printf "$history" | "$program" explain --summary --all $form; echo x)
+    summary=${summary%x}
+    expect "no choice $form" 0 "${summary//%/%%}" '' "$history" explain $form
+done
+expect 'two choices' 1 '' "${choices}pie: --lost and --all are both given\n" "$history" explain --lost --all
+expect 'two choices of packets' 1 '' "${choices}pie: --lost and --marked are both given\n" "$history" explain --lost --marked
 marked='10,arrive,1,1001003,1001003,5,500,mark,picked_by_word,2048,2,2000000,903954174169,0,0,ect0,0,,1,9,2548,3,2488281,903954174169,0,0,1\n'
 expect 'a marked packet' 0 "$header$marked" '' "$history" explain --csv --marked
 expect 'no packet marked before a changed verdict' 2 "$header" "$differs" "$changed" explain --csv --marked
@@ -142,11 +145,11 @@ for form in '' --csv; do
     done
 done
 words='event 11: packet 6, 500 bytes, Not-ECT: DROPPED early
-  at 1.001003 ms (1001003 ns), by caller 2
-  picked: its random word, 0.0000 %% (0), is below the probability, 90.3954 %% (903954174169)
+  at 1.001003 ms, by caller 2
+  picked: its random word, 0.0000 %%, is below the probability, 90.3954 %%
   dropped: its endpoints do not understand a mark
-  before it: 3 packets, 2548 bytes, a delay of 2.488281 ms (2488281 ns)
-  probability 90.3954 %% (903954174169), set by event 9; last update at 1.001002 ms (1001002 ns); burst allowance 0.000000 ms (0 ns)
+  before it: 3 packets, 2548 bytes, a delay of 2.488281 ms
+  probability 90.3954 %%, set by event 9; last update at 1.001002 ms; burst allowance 0.000000 ms
 '
 for choice in '--event 11' '--tag 6' --lost; do
     expect "explain $choice" 0 "$words" '' "$history" explain $choice

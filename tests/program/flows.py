@@ -88,8 +88,7 @@ def in_words(rows, most):
         of_all, of_queue = share(n["arrived_bytes"], total["arrived_bytes"]), share(n["byte_microseconds"], total["byte_microseconds"])
         lines += [f"  {name}: {n['arrivals']} arrivals, {n['arrived_bytes']} bytes, {of_all} of all; {of_queue} of the queue"]
         lines += [f"    queued {n['enqueue']}, marked {n['mark']}, dropped early {n['early']}, without room in bytes {n['bytes']}, in packets {n['packets']}"]
-        lines += [f"    left {n['left']}, with {n['carried_bytes']} bytes; they had waited at most {millis(n['greatest_wait'])},"]
-        lines += [f"    and in the mean {millis(n['mean_wait'])}"]
+        lines += [f"    left {n['left']}, with {n['carried_bytes']} bytes; they waited at most {millis(n['greatest_wait'])}, on average {millis(n['mean_wait'])}"]
     return "".join(line + "\n" for line in lines)
 
 
@@ -140,7 +139,7 @@ def by_wall():
     wanted = "1500000,1500000,0x0000000a,1,100,1,0,0,0,0,0,0,0,0,0,2026-11-24T20:00:00.000500000Z"
     expect("--wall", (told[0], told[1].splitlines()[1:]), (0, [wanted]))
     words = pie(history, "--flows", "1", "--wall")[1].splitlines()[1]
-    expect("--wall in words", words, "  by the time of day from 2026-11-24T20:00:00.000500000Z to 2026-11-24T20:00:00.000500000Z")
+    expect("--wall in words", words, "  in wall-clock time from 2026-11-24T20:00:00.000500000Z to 2026-11-24T20:00:00.000500000Z")
 
 
 def many():

@@ -322,8 +322,8 @@ def printed(rows):
     done = subprocess.run([program(), "explain", "--all"], input=text, capture_output=True, text=True, check=True)
     found = {}
     for words in re.split("^event ", done.stdout, flags=re.M)[1:]:
-        if bound := re.search(r"nothing is marked or dropped early before .* \((\d+) ns\)", words):
-            found[int(words.partition(":")[0])] = int(bound[1])
+        if bound := re.search(r"nothing is marked or dropped early before ([0-9.]+) ms", words):
+            found[int(words.partition(":")[0])] = int(bound[1].replace(".", ""))
     return found
 
 

@@ -31,27 +31,24 @@ HEADER = (
     "ecn,word,waited,active,set_by,bytes_after,packets_after,delay_after,probability_after,accumulated_probability_after,burst_allowance_after,"
     "active_after\n"
 )
-NONE = "0.000000 ms (0 ns)"
-SUMMARY = f"""{MANY} events, from 0.000001 ms (1 ns) to 0.000001 ms (1 ns)
+NONE = "0.000000 ms"
+SUMMARY = f"""{MANY} events, from 0.000001 ms to 0.000001 ms
   0 arrivals, 0 bytes
     queued: 0, 0.0000 %
     queued and marked: 0, 0.0000 %
     dropped early: 0, 0.0000 %
     dropped, no room in bytes: 0, 0.0000 %
     dropped, no room in packets: 0, 0.0000 %
-  by what decided them
-  0 packets left; they had waited at most {NONE},
-    and in the mean {NONE}
-    99 of 100 had waited at most {NONE}
-    they carried 0 bytes
-  0 updates; the greatest delay was {NONE},
-    and the last {NONE}
-  the greatest probability was 0.0000 % (0), and the last 0.0000 % (0)
-  delays were above the target for {NONE};
-    at the end the target was 15.000000 ms (15000000 ns),
-    and the burst allowance 150.000000 ms (150000000 ns)
-  0 packets, 0.0000 % of those that left, had waited longer than the target,
+  by cause
+  0 packets left, with 0 bytes; they waited at most {NONE},
+    on average {NONE}, and 99 of 100 at most {NONE}
+  0 updates; the greatest delay was {NONE}, and the last {NONE}
+  the greatest probability was 0.0000 %, and the last 0.0000 %
+  the delay was above the target for {NONE}
+  0 packets, 0.0000 % of those that left, waited longer than the target,
     at the head of the queue for {NONE}
+  after the last event the target was 15.000000 ms, and the burst allowance 150.000000 ms:
+    until it is used up, no packet is marked or dropped early
 """
 # (the log takes 112 bytes for each event, and each of two rings at most 48 bytes for each packet)
 MEMORY = 512 * 2**20

@@ -1,6 +1,6 @@
 #!/usr/bin/env python3
 """Compares the manual page and the completions with the program. man/pie.1 and the completions for bash, zsh and
-fish must contain exactly the subcommands and long options of `--help`. The page's synopsis of each subcommand must
+fish must contain exactly the subcommands and long options of `-h`. The page's synopsis of each subcommand must
 do so too, unless it ends in dots. If bash, zsh and fish are installed, the script also tries their completions.
 The options of man/pie-report.1, man/pie-metrics.1 and man/pie-extcap.1 must be those of `pie-report --help`,
 `pie-metrics --help` and `pie-extcap --help`.
@@ -39,11 +39,11 @@ def section(text, name):
 def told():
     """Returns the long options of each subcommand according to the program, and True for each that takes a value; the
     name "" is the program itself."""
-    top = output([PROGRAM, "--help"])
-    names = re.findall(r"^  (\w+)  ", section(top, "Commands"), re.M)
+    top = output([PROGRAM, "-h"])
+    names = re.findall(r"^  ([\w-]+)  ", section(top, "Commands"), re.M)
     options = {}
     for name in ["", *names]:
-        text = top if name == "" else output([PROGRAM, name, "--help"])
+        text = top if name == "" else output([PROGRAM, name, "-h"])
         options[name] = {option: bool(value) for option, value in re.findall(r"^ +(?:-\w, +)?--([\w-]+)( <[\w|]+>)?", section(text, "Options"), re.M)}
     return names, options
 
@@ -68,8 +68,8 @@ def hold_script(script):
 def manual():
     """Returns the options in the manual page, by sections `.SS NAME`."""
     text = (ROOT / "man/pie.1").read_text(encoding="utf-8")
-    parts = re.split(r"^\.SS (\w+)\n", text.split(".SH SUBCOMMANDS\n")[1].split(".SH OPTIONS\n")[0], flags=re.M)[1:]
-    names = parts[0::2]
+    parts = re.split(r"^\.SS ([\w\\-]+)\n", text.split(".SH SUBCOMMANDS\n")[1].split(".SH OPTIONS\n")[0], flags=re.M)[1:]
+    names = [name.replace("\\", "") for name in parts[0::2]]
     options = {name: tagged(part) for name, part in zip(names, parts[1::2])}
     options[""] = tagged(text.split(".SH OPTIONS\n")[1].split(".SH EXIT")[0])
     return names, options, text
@@ -78,9 +78,9 @@ def manual():
 def synopsis(page):
     """Returns the long options of each subcommand in the synopsis, with -o for --output, and true for a subcommand that ends in dots."""
     text = page.split(".SH SYNOPSIS\n")[1].split(".SH DESCRIPTION")[0].replace("\\-", "-")
-    lines = re.split(r"^\.B pie (\w+)\n", text, flags=re.M)[1:]
+    lines = re.split(r"^\.B pie ([\w-]+)\n", text, flags=re.M)[1:]
     found = {name: {*re.findall(r"--([\w-]+)", part)} | ({"output"} if re.search(r" -o$", part, re.M) else set()) for name, part in pairs(lines)}
-    return found, {name for name, part in pairs(lines) if part.rstrip().endswith("\\|.\\|.")}
+    return found, {name for name, part in pairs(lines) if part.rstrip().removesuffix(".br").rstrip().endswith("\\|.\\|.")}
 
 
 def pairs(items):
@@ -103,10 +103,10 @@ def zsh_options(names):
     """Returns the options of each subcommand, from the text of its arm."""
     text = (ROOT / "completions/_pie").read_text(encoding="utf-8")
     arms = {}
-    for words, arm in re.findall(r"^ {8}([\w |]+)\)\n(.*?);;", text, re.M | re.S):
+    for words, arm in re.findall(r"^ {8}([\w |-]+)\)\n(.*?);;", text, re.M | re.S):
         for name in words.split(" | "):
             arms[name] = {option: bool(value) for option, value in re.findall(r"'--([\w-]+)\[[^]]*\](:[^']*)?'", arm)}
-    listed = re.findall(r"^ {8}'(\w+):", text, re.M)
+    listed = re.findall(r"^ {8}'([\w-]+):", text, re.M)
     top = {option: False for option in re.findall(r"'--([\w-]+)\[", text.split("return")[0])}
     if listed != names:
         fail("completions/_pie: subcommands", listed, "and not", names)

@@ -98,7 +98,7 @@ expect 'a size above 65535' 1 '' 'pie: the parameter mean_pkt is out of its rang
 for bytes in '' - -- 65536 -65536 +4 1.5 40b 0x10 4-; do
     expect "no overhead: $bytes" 1 '' 'pie: --overhead must be a whole number of bytes, -65535 to 65535\n' '' params "--overhead=$bytes"
 done
-expect 'a link layer of another word' 1 '' 'pie: --linklayer must be ethernet, atm or adsl\n' '' params --linklayer ATM
+expect 'a link layer of another word' 1 '' "pie: --linklayer must be ethernet, atm or adsl\npie: 'ATM' is no value of --linklayer\n" '' params --linklayer ATM
 # The sizes of examples/link, which tests/program/layer.sh compares with those of the kernel.
 if command -v cc > /dev/null; then
     cc -I "$top/examples/link" -o "$work/layer" -x c - "$top/examples/link/layer.c" <<'END' || exit 1
@@ -149,7 +149,7 @@ expect 'a part of a packet' 1 '' 'pie: --limit must be a whole number of packets
 most='must be at most 1152921504606846975 nanoseconds, bits per second or packets\n'
 expect 'a rate that is too great' 1 '' "pie: --rate $most" '' params --rate 1152922tbit
 expect 'a time that is too great' 1 '' "pie: --target $most" '' params --target 99999999999999999999ms
-expect 'a decay of another word' 1 '' 'pie: --decay must be zero or half\n' '' params --decay quarter
+expect 'a decay of another word' 1 '' "pie: --decay must be zero or half\npie: 'quarter' is no value of --decay\n" '' params --decay quarter
 expect 'no limit' 1 '' 'pie: --limit must be a number of packets, such as 1000p\n' '' params --limit 1000kb
 expect 'a limit that is too great' 1 '' 'pie: --limit must be 1 to 1048576 packets\n' '' params --limit 1048577p
 expect 'no packets' 1 '' 'pie: --limit must be 1 to 1048576 packets\n' '' params --limit 0

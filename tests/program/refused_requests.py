@@ -92,7 +92,8 @@ def long_text(library, met):
         is_paged = len(want) // 65536 < counts["REFUSE_WRITE"] <= len(want) // 16384 + 1
         check(name == "audit" or is_paged, name, "wrote", len(want), "bytes by", counts["REFUSE_WRITE"], "writes")
     for name, (words, given) in commands.items():
-        if name != "audit":
+        # (an audit takes no -o, and with -o what-if writes another text)
+        if name not in ("audit", "what-if"):
             outputs_refused(library, met, name, words, given)
 
 
@@ -132,7 +133,7 @@ def short_texts(library, met):
 
 def faults_before(library, met, history):
     """Tries a fault in the text after output that cannot be flushed: the error of the device must be reported."""
-    faulty = {"run": (["run"], TRACE + b"dep\n"), **{name: (words, history + b"dep\n") for name, words in READERS.items() if name != "audit"}}
+    faulty = {"run": (["run"], TRACE + b"dep\n"), **{name: (words, history + b"dep\n") for name, words in READERS.items() if name not in ("audit", "what-if")}}
     for name, (words, given) in faulty.items():
         got = run(words, given, LD_PRELOAD=library, REFUSE_MET=met, REFUSE_WRITE="1", REFUSE_ON="1")
         check(got == (1, b"", FAULTS["REFUSE_WRITE"]), name, "a fault that cannot be flushed", got)

@@ -15,14 +15,14 @@ sys.path.insert(0, f"{os.path.dirname(os.path.abspath(__file__))}/../shared")
 from checks import NAME, expect, rows  # noqa: E402
 from explaining import pie, records  # noqa: E402
 
-TOLD = re.compile(r"  the probability, (.*), comes to (.*) for a packet of this size\n")
+TOLD = re.compile(r"  the probability, (.*), is scaled to (.*) for a packet of this size\n")
 SUM = re.compile(r"  the accumulated probability, with this one, is (.*?)(?:, below 85 %|, at least 850 %)?\n")
-COMPARED = re.compile(r"is (?:not )?below (the probability|what that comes to), (.*)\n")
+COMPARED = re.compile(r"is (?:not )?below (the probability|the scaled probability), (.*)\n")
 CONSIDERED = ("no_probability", "little_accumulated", "picked_by", "word_not_below")
 
 
 def per_cent(part):
-    return f"{part // 10**10}.{part % 10**10 // 10**6:04} % ({part})"
+    return f"{part // 10**10}.{part % 10**10 // 10**6:04} %"
 
 
 def hold(name, history):
@@ -51,7 +51,7 @@ def hold(name, history):
         expect(f"{name}: event {row['number']}: what was accumulated", SUM.findall(text), sums)
         expect(f"{name}: event {row['number']}: nothing accumulates", is_random and bool(accumulated or sums), False)
         expect(f"{name}: event {row['number']}", TOLD.findall(text), [] if counted == prob else [(per_cent(prob), per_cent(counted))])
-        compared = [("the probability" if counted == prob else "what that comes to", per_cent(counted))]
+        compared = [("the probability" if counted == prob else "the scaled probability", per_cent(counted))]
         expect(f"{name}: event {row['number']}: what the word is compared with", COMPARED.findall(text), compared if "word" in row["cause"] else [])
         told += counted != prob
         summed += len(sums)

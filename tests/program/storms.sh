@@ -157,8 +157,11 @@ for profile in 1 2; do
     done
 done
 wanted='--delay must be rate or stamp, --picking derandomized or random, --step capped or uncapped, --size unscaled or scaled, and --decay zero or half'
-for words in --delay=stamps --picking=rate --step=Capped --size=scaled, --decay=quarter; do
-    expect "storm $words" 1 '' "pie: storm: $wanted\n" '' storm $words
+for words in --delay=stamps:stamp --picking=rate: --step=Capped:capped --size=scaled,:scaled --decay=quarter:; do
+    option=${words%%=*} value=${words#*=} nearest=${words#*:}
+    value=${value%:*}
+    similar=${nearest:+"; a similar value is '$nearest'"}
+    expect "storm $option=$value" 1 '' "pie: storm: $wanted\npie: '$value' is no value of $option$similar\n" '' storm "$option=$value"
 done
 full 'a storm' storm --packets 1 < /dev/null
 exit "$failed"

@@ -2,20 +2,26 @@
 """Compares `pie explain --summary` and `--every` with a separate computation over the records of
 `pie explain --all --csv`. The histories are those of examples/, and random ones of
 tests/shared/reference.py. The summaries are in words and as CSV, of all events, of those within some
-moments, and of each interval, with its length in each notation. `--digest` must print these summaries
-and the words of `--lost` and `--marked`, in their order. The exit status is 1 if something differs.
+moments, and of each interval, with its length in each notation. `--every` in words must print the
+same numbers as lines, with colours on a terminal only. `--digest` must print these summaries and the
+words of `--lost` and `--marked`, in their order. The exit status is 1 if something differs.
 
 usage: tests/program/summary.py [PROGRAM [FIRST_SEED [RUNS [STEPS]]]]      PROGRAM: crates/pie/out/pie by default
 needs: program
 """
+import contextlib
 import os
+import pty
 import re
+import subprocess
 import sys
+import tempfile
 from itertools import compress
+from pathlib import Path
 
 sys.path.insert(0, f"{os.path.dirname(os.path.abspath(__file__))}/../shared")
 from checks import expect  # noqa: E402
-from explaining import LOST, hold_each, millis, pie, records, within, written  # noqa: E402
+from explaining import LOST, PROGRAM, hold_each, millis, pie, records, within, written  # noqa: E402
 
 VERDICTS = {"enqueue": "queued", "mark": "queued and marked", "early": "dropped early"}
 VERDICTS |= {"bytes": "dropped, no room in bytes", "packets": "dropped, no room in packets"}
@@ -108,30 +114,53 @@ def above_target(rows):
 
 
 def percent(prob):
-    return f"{prob // 10**10}.{prob % 10**10 // 10**6:04} % ({prob})"
+    return f"{prob // 10**10}.{prob % 10**10 // 10**6:04} %"
 
 
 def in_words(n):
     lines = [f"{n['events']} events, from {millis(n['first_moment'])} to {millis(n['last_moment'])}"]
     lines += [f"  {n['arrivals']} arrivals, {n['arrived_bytes']} bytes"]
     lines += [f"    {words}: {share(n[verdict], n['arrivals'])}" for verdict, words in VERDICTS.items()]
-    lines += ["  by what decided them"] + [f"    {cause}: {share(n[cause], n['arrivals'])}" for cause in CAUSES if n[cause]]
-    lines += [f"  {n['left']} packets left; they had waited at most {millis(n['greatest_wait'])},", f"    and in the mean {millis(n['mean_wait'])}"]
-    lines += [f"    99 of 100 had waited at most {millis(n['wait_99'])}", f"    they carried {n['carried_bytes']} bytes"]
-    lines += [f"  {n['updates']} updates; the greatest delay was {millis(n['greatest_delay'])},", f"    and the last {millis(n['last_delay'])}"]
+    lines += ["  by cause"] + [f"    {cause}: {share(n[cause], n['arrivals'])}" for cause in CAUSES if n[cause]]
+    lines += [f"  {n['left']} packets left, with {n['carried_bytes']} bytes; they waited at most {millis(n['greatest_wait'])},"]
+    lines += [f"    on average {millis(n['mean_wait'])}, and 99 of 100 at most {millis(n['wait_99'])}"]
+    lines += [f"  {n['updates']} updates; the greatest delay was {millis(n['greatest_delay'])}, and the last {millis(n['last_delay'])}"]
     lines += [f"  the greatest probability was {percent(n['greatest_probability'])}, and the last {percent(n['last_probability'])}"]
-    lines += [f"  delays were above the target for {millis(n['time_above_target'])};", f"    at the end the target was {millis(n['last_target'])},"]
-    lines += [f"    and the burst allowance {millis(n['last_burst_allowance'])}"]
     above, late = n["time_above_target"], n["time_waited_above_target"]
     longer = share(n["waited_above_target"], n["left"]).replace(", ", " packets, ")
-    lines += [f"  {longer} of those that left, had waited longer than the target,", f"    at the head of the queue for {millis(late)}"]
+    lines += [f"  the delay was above the target for {millis(above)}"]
+    lines += [f"  {longer} of those that left, waited longer than the target,", f"    at the head of the queue for {millis(late)}"]
     if above < late // 2 or late < above // 2:
-        lines += ["    the two times disagree: the controller's delay was not what packets waited"]
+        lines += [f"    the delay differs from the waits: it was above the target for {millis(above)}, and waits for {millis(late)};"]
+        lines += ["    if the delay is estimated from the departure rate, open with time stamps, as pie params does"]
+    burst = n["last_burst_allowance"]
+    lines += [f"  after the last event the target was {millis(n['last_target'])}, and the burst allowance {millis(burst)}{':' if burst else ''}"]
+    lines += ["    until it is used up, no packet is marked or dropped early"] if burst else []
     for way in ("on", "off"):
         if n[f"turned_{way}"]:
-            lines += [f"  turned {way} {n[f'turned_{way}']} times, first at {millis(n[f'first_turned_{way}'])},"]
-            lines += [f"    and last at {millis(n[f'last_turned_{way}'])}"]
+            first, last = millis(n[f"first_turned_{way}"]), millis(n[f"last_turned_{way}"])
+            lines += [f"  turned {way} {n[f'turned_{way}']} times, first at {first}, and last at {last}"]
     return "".join(line + "\n" for line in lines)
+
+
+NAMES = "time ms arrived marks early tail mean ms 99th ms delay ms prob % bytes"
+WIDTHS = (11, 7, 5, 5, 5, 7, 7, 8, 7, 9)
+
+
+def thousandths(time, count=1):
+    """Returns a time in milliseconds, rounded down to microseconds; a dash if `count`, the number of its events, is 0."""
+    return f"{time // 10**6}.{time % 10**6 // 10**3:03}" if count else "-"
+
+
+def in_lines(summaries, every):
+    """Returns the lines of intervals of this length, under a header."""
+    rows = [re.findall(r"\w+ ms|prob %|\w+", NAMES)] if summaries else []
+    for n in summaries:
+        first, tail = n["first_moment"], n["bytes"] + n["packets"]
+        times = [thousandths(n["mean_wait"], n["left"]), thousandths(n["wait_99"], n["left"]), thousandths(n["last_delay"], n["updates"])]
+        prob = f"{n['last_probability'] // 10**10}.{n['last_probability'] % 10**10 // 10**6:04}"
+        rows.append([thousandths(first - first % every), n["arrivals"], n["mark"], n["early"], tail, *times, prob, n["carried_bytes"]])
+    return "".join(" ".join(f"{cell:>{width}}" for cell, width in zip(row, WIDTHS)) + "\n" for row in rows)
 
 
 def in_csv(summaries):
@@ -185,11 +214,14 @@ def hold(name, history, words):
         for which, some in (((), kept), (("--all",), kept), (("--lost",), lost)):
             every = words.choice((10**6, 10**9, length // 2 + 1, length // words.randrange(3, 30) + 1))
             period = f"--every={written(every, words)}"
+            periods = by_period(some, every)
             for form, told in (((), lambda n: "".join(map(in_words, n))), (("--csv",), in_csv)):
-                got = pie(history, "--summary", *form, *which, *options)
+                got = pie(history, *words.choice(((), ("--summary",))) if not which else ("--summary",), *form, *which, *options)
                 expect(f"{name}: --summary {form} {which} {options}", got, (0, told([numbers(some)]), ""))
-                got = pie(history, *options, *which, *form, period, *words.choice(((), ("--summary",))))
-                expect(f"{name}: {period} {form} {which} {options}", got, (0, told(by_period(some, every)), ""))
+                got = pie(history, *options, *which, *form, "--full", period, *words.choice(((), ("--summary",))))
+                expect(f"{name}: {period} {form} {which} {options}", got, (0, told(periods), ""))
+            got = pie(history, *options, *which, period, *words.choice(((), ("--summary",))))
+            expect(f"{name}: lines by {period} {which} {options}", got, (0, in_lines(periods, every), ""))
 
 
 def lengths():
@@ -217,15 +249,53 @@ def many_intervals():
     _, rows, _ = records("3,000 intervals", history)
     with_targets(history, rows)
     each = [numbers([row]) for row in rows]
-    for words in (["--every=1ns"], ["--every=1ns", "--digest"]):
+    for words in (["--every=1ns", "--full"], ["--every=1ns", "--digest"]):
         expect(f"3,000 intervals: {words}", pie(history, *words), (0, "".join(map(in_words, each)), ""))
         expect(f"3,000 intervals: --csv {words}", pie(history, "--csv", *words), (0, in_csv(each), ""))
+    expect("3,000 lines", pie(history, "--every=1ns"), (0, in_lines(each, 1), ""))
+
+
+def on_terminal(history, words, **variables):
+    """Returns the output of `pie explain` on a terminal, with these variables of the environment."""
+    environment = {name: value for name, value in os.environ.items() if name != "NO_COLOR"} | variables
+    with tempfile.NamedTemporaryFile("w") as file:
+        file.write(history)
+        file.flush()
+        screen, terminal = pty.openpty()
+        with subprocess.Popen([PROGRAM, "explain", *words, file.name], stdin=subprocess.DEVNULL, stdout=terminal, stderr=subprocess.DEVNULL, env=environment) as ran:
+            os.close(terminal)
+            written = b""
+            with contextlib.suppress(OSError):  # (the end of a terminal)
+                while more := os.read(screen, 65536):
+                    written += more
+            os.close(screen)
+    return ran.returncode, written.decode().replace("\r\n", "\n")
+
+
+def lines_on_a_terminal():
+    """Checks that a header is before each 40 lines of intervals on a terminal, and that the header is bold and packets without room are red there,
+    unless NO_COLOR is set and not empty."""
+    history = "open2,1,rolling,0,4,16,1099511627776\n" + "".join(f"arrive,1,{moment},7,100,not,0,{'enqueue' if moment < 4 else 'packets'}\n" for moment in range(100))
+    _, rows, _ = records("100 intervals", history)
+    with_targets(history, rows)
+    header, *lines = in_lines([numbers([row]) for row in rows], 1).splitlines()
+    expect("lines in a file", pie(history, "--every=1ns"), (0, "".join(f"{line}\n" for line in [header, *lines]), ""))
+    red = [re.sub(r"^( *\S+ +\S+ +\S+ +\S+ )(    1)", "\\1\x1b[31m\\2\x1b[0m", line) for line in lines]
+    expect("lines with a packet without room", sum(line != other for line, other in zip(lines, red)), 96)
+    bold = f"\x1b[1m{header}\x1b[0m"
+    for variables, above, below in (({}, bold, red), ({"NO_COLOR": ""}, bold, red), ({"NO_COLOR": "1"}, header, lines), ({"NO_COLOR": "yes"}, header, lines)):
+        wanted = "".join((f"{above}\n" if place % 40 == 0 else "") + f"{line}\n" for place, line in enumerate(below))
+        expect(f"lines on a terminal with {variables}", on_terminal(history, ["--every=1ns"], **variables), (0, wanted))
+    with tempfile.TemporaryDirectory() as folder:
+        expect("no output on a terminal", on_terminal(history, ["--every=1ns", "-o", f"{folder}/lines"]), (0, ""))
+        expect("lines in a file of a terminal's user", Path(f"{folder}/lines").read_text(), "".join(f"{line}\n" for line in [header, *lines]))
 
 
 def main():
     of_nothing()
     lengths()
     many_intervals()
+    lines_on_a_terminal()
     hold_each(hold, "they are summed up as they have to be")
 
 

@@ -76,9 +76,9 @@ def hold_words(name, history, clocks):
         clock = clocks[number - 1]
 
         def told(found):
-            return f"{found[1]}{utc(wall(clock, int(found[2])))} ({found[2]} ns)"
+            return f"{found[1]}{utc(wall(clock, int(found[2].replace('.', ''))))}"
 
-        wanted.append(line if clock is None else re.sub(r"(^  at |last update at | dropped early before )[0-9.]+ ms \((\d+) ns\)", told, line))
+        wanted.append(line if clock is None else re.sub(r"(^  at |last update at | dropped early before )([0-9.]+) ms", told, line))
     expect(f"{name}: --wall", pie(history, "--all", "--wall"), (status, "".join(wanted), ""))
 
 
@@ -129,7 +129,7 @@ def hold_cut(name, history, lines, times, words):
 def told(times, spaces):
     """Returns the words of a summary for these times, or nothing if no time is known."""
     known = [utc(time) for time in times if time is not None]
-    return [f"{spaces}by the time of day from {known[0]} to {known[-1]}\n"] if known else []
+    return [f"{spaces}in wall-clock time from {known[0]} to {known[-1]}\n"] if known else []
 
 
 def summed(plain, rows, times):
@@ -137,13 +137,22 @@ def summed(plain, rows, times):
     line, and after each activation and deactivation."""
     first, *others = plain.splitlines(keepends=True)
     out, ways = [first, *told(times, "  ")], {"  turned on ": ("0", "1"), "  turned off ": ("1", "0")}
-    turning = None
     for line in others:
         out.append(line)
+        turning = next((ends for way, ends in ways.items() if line.startswith(way)), None)
         if turning:
             out += told([time for row, time in zip(rows, times) if (row["active"], row["active_after"]) == turning], "    ")
-        turning = next((ends for way, ends in ways.items() if line.startswith(way)), None)
     return "".join(out)
+
+
+def in_utc(lines, walls):
+    """Returns lines of intervals with these times in the first column, or with the start of the interval if a time is empty."""
+    header, *others = lines
+    out = [header.replace("time ms", "UTC").rjust(len(header) + 19)]
+    for line, wall in zip(others, walls, strict=True):
+        start, rest = re.fullmatch(r" *(\S+)(.*)", line).groups()
+        out.append(f"{wall or start:>30}{rest}")
+    return "".join(f"{line}\n" for line in out)
 
 
 def hold_sums(name, history, lines, times, words):
@@ -151,7 +160,7 @@ def hold_sums(name, history, lines, times, words):
     rows = list(csv.DictReader(lines))
     moments = [int(row["effective_moment"]) for row in rows]
     every = (moments[-1] - moments[0]) // words.randrange(2, 9) + 1
-    for options, period in ((("--summary",), 2**64), (("--every", str(every)), every)):
+    for options, period in ((("--summary",), 2**64), (("--every", str(every), "--full"), every)):
         starts = [0] + [at for at in range(1, len(rows)) if moments[at] // period != moments[at - 1] // period]
         parts = [(rows[start:end], times[start:end]) for start, end in zip(starts, [*starts[1:], len(rows)])]
         header, *plain = pie(history, *options, "--csv")[1].splitlines()
@@ -161,12 +170,14 @@ def hold_sums(name, history, lines, times, words):
         plain = re.findall(r"^\d+ events, .*\n(?:  .*\n)*", pie(history, *options)[1], re.M)
         wanted = "".join(summed(text, *part) for text, part in zip(plain, parts, strict=True))
         expect(f"{name}: {options} --wall", pie(history, *options, "--wall"), (0, wanted, ""))
+    wanted = in_utc(pie(history, "--every", str(every))[1].splitlines(), walls)
+    expect(f"{name}: lines --wall", pie(history, "--every", str(every), "--wall"), (0, wanted, ""))
     status, digest, errors = pie(history, "--digest", "--every", str(every), "--wall")
     packets = [pie(history, which, "--wall")[1] for which in ("--lost", "--marked")]
     both = sorted(re.findall(r"^event .*\n(?:  .*\n)*", "".join(packets), re.M), key=lambda it: int(it.split()[1][:-1]))
     expect(f"{name}: --digest --wall: the packets", (status, re.findall(r"^event .*\n(?:  .*\n)*", digest, re.M), errors), (0, both, ""))
     sums = "".join(re.findall(r"^\d+ events, .*\n(?:  .*\n)*", digest, re.M))
-    expect(f"{name}: --digest --wall: the summaries", sums, pie(history, "--every", str(every), "--wall")[1])
+    expect(f"{name}: --digest --wall: the summaries", sums, pie(history, "--every", str(every), "--full", "--wall")[1])
 
 
 def hold_dates():

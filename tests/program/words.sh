@@ -7,8 +7,8 @@
 expect 'a version' 0 'pie 0.1.0\n' '' '' --version
 expect 'a version, in short' 0 'pie 0.1.0\n' '' '' -V
 
-# Each help must be the stored text: help/NAME.txt for `pie NAME --help`, and pie.txt for `pie
-# --help`.
+# Each help must be the stored text: help/NAME.txt for `pie NAME --help`, NAME.short.txt for `pie NAME -h`, and
+# pie.txt and pie.short.txt for `pie --help` and `pie -h`. A short one fits on a screen.
 # help NAME WORDS..
 help() {
     local want=$here/help/$1.txt
@@ -23,12 +23,20 @@ help() {
     fi
 }
 help pie --help
-help pie -h
+help pie.short -h
 help pie help
 for name in run audit explain cut migrate storm params; do
     help "$name" "$name" --help
-    help "$name" "$name" -h
+    help "$name.short" "$name" -h
     help "$name" help "$name"
+done
+
+for text in "$here"/help/*.short.txt; do
+    lines=$(wc -l < "$text")
+    if [ "$lines" -gt 30 ]; then
+        echo "$script: $text has $lines lines"
+        failed=1
+    fi
 done
 
 # After a mistake the status is 1, the output is empty, and the first line on the error stream names
@@ -106,6 +114,34 @@ mistake 'pie: explain takes only one of --event N, --tag T, --lost, --marked and
     explain --csv --lost --all --event 1 --tag 2
 mistake "error: unexpected argument 'eleven' found" explain --csv --lost --all --event 1 --tag 2 ten eleven
 mistake "error: unexpected argument '--twelve' found" explain --csv --lost --all --event 1 --tag 2 --twelve
+
+# The last line names what the option takes, the nearest keyword, or the two options that exclude each other; a line of
+# clap's the nearest option or subcommand.
+# hint LINE WORDS..
+hint() {
+    local line=$1
+    shift
+    "$program" "$@" < /dev/null > "$work/output" 2> "$work/errors"
+    if ! grep -qxF -- "$line" "$work/errors"; then
+        echo "$script: $*: no line '$line':"
+        cat "$work/errors"
+        failed=1
+    fi
+}
+hint 'pie: --event takes a whole number from 1 to 18446744073709551615, such as --event 1' explain --csv --event abc
+hint 'pie: --event takes a whole number from 1 to 18446744073709551615, such as --event 1' explain --tag 7 --event=0
+hint 'pie: --senders takes a whole number from 2 to 8, such as --senders 2' storm --seed 3 --senders 9
+hint "pie: 'stampp' is no value of --delay; a similar value is 'stamp'" storm --delay stampp
+hint "pie: 'uncaped' is no value of --step; a similar value is 'uncapped'" storm --step uncaped
+hint "pie: 'often' is no value of --picking" storm --picking often
+hint "pie: 'hal' is no value of --decay; a similar value is 'half'" params --decay hal
+hint "pie: 'ether' is no value of --linklayer" params --linklayer ether
+hint 'pie: --tag and --lost are both given' explain --lost --tag 2
+hint 'pie: --event and --last are both given' cut --last 3 --event 3
+hint 'pie: --around needs --event' cut --around 3 --from 2
+hint 'pie: --every: a moment must be a whole number of nanoseconds, or a number with ns, us, ms, s, m or h, such as 1.5ms or 2m' explain --every abc
+hint "  tip: a similar argument exists: '--every'" explain --evry 10ms
+hint "  tip: a similar subcommand exists: 'explain'" explian
 
 "$program" > "$work/output" 2> "$work/errors" < /dev/null
 got=$?

@@ -44,7 +44,7 @@ def records(name, history):
 
 def millis(time):
     """Returns a time in the form of explanations."""
-    return f"{time // 10**6}.{time % 10**6:06} ms ({time} ns)"
+    return f"{time // 10**6}.{time % 10**6:06} ms"
 
 
 def written(moment, words):

@@ -12,7 +12,7 @@ PATIENCE = 600  # seconds after which a program hangs, on however slow a machine
 # The commands that read a history, each with options by which it reads all of it. A command that reads one
 # according to its help but is not listed here is a failure.
 READERS = {"audit": ["audit"], "explain": ["explain", "--all"], "summary": ["explain", "--summary", "--every", "100us"], "cut": ["cut", "--from", "0"],
-           "migrate": ["migrate"]}
+           "migrate": ["migrate"], "what-if": ["what-if", "--from", "0"]}
 MEMORY = b"pie: out of memory\n"
 
 # Every kind of record and nearly every answer.
@@ -62,7 +62,7 @@ def hold_readers():
     """Compares READERS with the program's help, which describes each command in one line. A command whose
     line names a history, other than the one that it writes, reads it. Each command must have its own help."""
     told = run(["--help"], b"")[1].decode().partition("Commands:")[2].partition("Options:")[0]
-    commands = dict(re.findall(r"^  (\w+) +(.+)$", told, re.M))
+    commands = dict(re.findall(r"^  ([\w-]+) +(.+)$", told, re.M))
     readers = {name for name, does in commands.items() if "histor" in does.replace("writes its history", "")}
     check(readers == {words[0] for words in READERS.values()}, "by the program's help these read a history:", *sorted(readers))
     for name in ["run", "storm", *readers]:

@@ -64,7 +64,7 @@ chosen : (name : Text) → let chooses = λ (words : List Text). selection_of (o
     (chooses (codes "--csv" ∷ codes "--event" ∷ codes "10" ∷ []) ≡ Some (at_all_moments (Number 10)))
     × (chooses (codes "--all" ∷ codes "--from" ∷ codes "1.5ms" ∷ codes "--to=2s" ∷ [])
     ≡ Some (record { which = All; from = Some (Moment 1_500_000); to = Some (Moment 2_000_000_000) }))
-    × (chooses (codes "--wall" ∷ codes "--summary" ∷ []) ≡ Some (at_all_moments All))
+    × (chooses (codes "--wall" ∷ []) ≡ Some (at_all_moments All))
     × (chooses (codes "--all" ∷ codes "--from" ∷ codes "soon" ∷ []) ≡ None)
     × (chooses (codes "--tag=7" ∷ codes "--all" ∷ []) ≡ None)
 unfolding clap_on_literals selection_of digit_count number_after is_word time_scale

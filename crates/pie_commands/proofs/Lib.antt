@@ -6,3 +6,4 @@ mod FileFacts
 mod ValueFacts
 mod SubcommandFacts
 mod WordFacts
+mod WhatIfFacts

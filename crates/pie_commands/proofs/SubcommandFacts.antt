@@ -8,6 +8,11 @@ use Rattle.pie_commands.proofs.Names.{AuditsFiles, HaveOutcomes, FileOutcome, Ha
 use Rattle.pie_commands.proofs.Names.{may_differ, output_for, Finds, JoinsText, records_of, ◌++◌, false}
 use Rattle.pie_commands.proofs.Names.{IfSome}
 use Rattle.pie_commands.specs.Files.{Opens, opens_after}
+use Rattle.pie_commands.specs.WhatIfEnds.{EndsCompared, alteration_of, end_of_what_if, ends_what_if, writes_other}
+use Rattle.pie_commands.specs.declared.options.subcommand.Subcommand.TheVariants.{WhatIf}
+use Rattle.pie_commands.specs.declared.end.End.TheVariants.{Done, Fault, NoOutputFile, Unopened as NotOpened}
+use Rattle.pie_what_if.specs.Result.{IsDecidedAgain}
+use Rattle.pie_what_if.specs.declared.alteration.Alteration.{Alteration}
 use Rattle.pie_commands.specs.declared.audit.Unaudited.{Unaudited}
 use Rattle.pie_commands.specs.declared.audit.Unaudited.TheVariants.{Unopened, Faulty}
 use Rattle.clap.specs.Words.{Row}
@@ -101,19 +106,46 @@ either-kept works joined input old new [] end before now keeps promise = promise
 either-kept works joined input old new (name ∷ names) end before now keeps promise =
     files-kept works joined input old new (name ∷ names) end before now keeps promise
 
--- a subcommand other than an audit reads one text: its promise also holds of the old files
+-- a comparison of histories, and the other history
+compared-kept : (alteration : Alteration) (old new : Option (List ℕ)) (end : End) (before now : Option (List ℕ)) → IsRetained old new
+    → EndsCompared alteration new end before now → EndsCompared alteration old end before now
+compared-kept alteration old new Done before now keeps compared = (
+  compared.0,
+  known-kept old new (λ text. (other : Option (List ℕ)) × IsDecidedAgain alteration (records_of text) (Ok compared.0) (Some []) other) keeps compared.1,
+)
+compared-kept alteration old new Differs before now keeps compared = compared
+compared-kept alteration old new (Fault why) before now keeps compared = compared
+compared-kept alteration old new NotOpened before now keeps compared = compared
+compared-kept alteration old new CannotStart before now keeps compared = compared
+compared-kept alteration old new NoOutputFile before now keeps compared = compared
+compared-kept alteration old new Failed before now keeps compared = compared
+
+what_if-kept : (opens more : Type 0) (asked : Option Alteration) (writes : Bool) (old new : Option (List ℕ)) (end : End) (before now : Option (List ℕ))
+    → (opens → more) → IsRetained old new → ends_what_if more asked writes new end before now → ends_what_if opens asked writes old end before now
+what_if-kept opens more None writes old new end before now can keeps promise = promise
+what_if-kept opens more (Some alteration) true old new end before now can keeps (inl unopened) = inl (unopened.0, λ o. unopened.1 (can o), unopened.2)
+what_if-kept opens more (Some alteration) true old new end before now can keeps (inr ends) =
+    inr (by-kept end_of_what_if (IsDecidedAgain alteration) old new end before now keeps ends)
+what_if-kept opens more (Some alteration) false old new end before now can keeps (inl unopened) = inl (unopened.0, λ o. unopened.1 (can o), unopened.2)
+what_if-kept opens more (Some alteration) false old new end before now can keeps (inr ends) = inr (compared-kept alteration old new end before now keeps ends)
+
+-- another subcommand reads one text: its promise also holds of the old files
 text-kept : (subcommand : Subcommand) (options : List Row) (works : Bool) (input : Option (List ℕ)) (old new : Held) (end : End) (before now : Option (List ℕ))
-    → (subcommand ≡ Audit → ⊥) → Keeps old new → EndsAs subcommand options works input new end before now
+    → (subcommand ≡ Audit → ⊥) → (subcommand ≡ WhatIf → ⊥) → Keeps old new → EndsAs subcommand options works input new end before now
     → EndsAs subcommand options works input old end before now
-text-kept subcommand options works input old new end before now other keeps promise = grind (arith, by-kept, given-kept, read-kept)
+text-kept subcommand options works input old new end before now other another keeps promise = grind (arith, by-kept, given-kept, read-kept)
 
 pub EndsAs-kept : (subcommand : Subcommand) (options : List Row) (works : Bool) (input : Option (List ℕ)) (old new : Held) (end : End)
     (before now : Option (List ℕ)) → Keeps old new → EndsAs subcommand options works input new end before now
     → EndsAs subcommand options works input old end before now
 EndsAs-kept Audit options works input old new end before now keeps promise =
     either-kept works (is_joined options) input old new (files_in options) end before now keeps promise
+EndsAs-kept WhatIf options works input old new end before now keeps promise =
+    what_if-kept (Opens works old (file_in options)) (Opens works new (file_in options)) (alteration_of options) (writes_other options)
+    (text_given input old (file_in options)) (text_given input new (file_in options)) end before now
+    (read-kept works old new (file_in options) keeps) (given-kept input old new (file_in options) keeps) promise
 EndsAs-kept other options works input old new end before now keeps promise =
-    text-kept other options works input old new end before now (λ is. cc) keeps promise
+    text-kept other options works input old new end before now (λ is. cc) (λ is. cc) keeps promise
 
 -- ---- the three subcommands whose text can have an event that differs
 

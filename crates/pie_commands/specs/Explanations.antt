@@ -17,8 +17,10 @@ use Rattle.pie_units.specs.declared.when.WhenFault.{WhenFault}
 use Rattle.pie_explain.specs.Output.{as_records, in_words, pages}
 use Rattle.pie_summary.specs.ByFlow.{flows_whole}
 use Rattle.pie_summary.specs.Summary.{without_packets, summary_of}
+use Rattle.pie_summary.specs.Lines.{lines_whole}
+use Rattle.pie_summary.specs.declared.lines.LineStyle.{LineStyle}
 use Rattle.pie_commands.specs.declared.explain.OutputKind.{OutputKind}
-use Rattle.pie_commands.specs.declared.explain.OutputKind.TheVariants.{Digest, Flows, Records, Sums, Words}
+use Rattle.pie_commands.specs.declared.explain.OutputKind.TheVariants.{Digest, Flows, Lines, Records, Sums, Words}
 use Rattle.pie_explain.specs.declared.fault.ExplainFault.{ExplainFault}
 use Rattle.pie_explain.specs.TextAnswer.{ExplainsText}
 use Rattle.pie_commands.specs.declared.end.End.{End}
@@ -61,28 +63,34 @@ is_digest options = flag_given (codes "digest") options
 abbrev pub flows_of : List Row → Option ℕ
 flows_of options = number_given (codes "flows") options
 
--- true if these options request summaries: of all chosen events, of each interval, or by flow
+-- true if an option chooses events
+abbrev pub is_selected : List Row → Bool
+is_selected options =
+    (is_some (number_given (codes "event") options) || is_some (number_given (codes "tag") options))
+    || (flag_given (codes "lost") options || (flag_given (codes "marked") options || flag_given (codes "all") options))
+
+-- true if these options request summaries, of all chosen events, of each interval, or by flow; or if they choose no events
 abbrev pub is_summary : List Row → Bool
-is_summary options = (flag_given (codes "summary") options || is_some (every_of options)) || (is_digest options || is_some (flows_of options))
+is_summary options =
+    not (is_selected options)
+    || ((flag_given (codes "summary") options || is_some (every_of options)) || (is_digest options || is_some (flows_of options)))
 
 -- true unless a digest and sums by flow are both requested
 abbrev pub is_either : Bool → Option ℕ → Bool
 is_either digest flows = not (digest && is_some flows)
 
--- the chosen events, if exactly one of the five options chooses some; without any of them a summary is of all events
-abbrev pub chosen : Bool → Option ℕ → Option ℕ → Bool → Bool → Bool → Option EventChoice
-chosen summary (Some event) None false false false = Some (Number event)
-chosen summary None (Some tag) false false false = Some (Tag tag)
-chosen summary None None true false false = Some Lost
-chosen summary None None false true false = Some Marked
-chosen summary None None false false true = Some All
-chosen true None None false false false = Some All
-chosen _ _ _ _ _ _ = None
+-- the chosen events, if at most one of the five options chooses some; without any of them all events
+abbrev pub chosen : Option ℕ → Option ℕ → Bool → Bool → Bool → Option EventChoice
+chosen (Some event) None false false false = Some (Number event)
+chosen None (Some tag) false false false = Some (Tag tag)
+chosen None None true false false = Some Lost
+chosen None None false true false = Some Marked
+chosen None None false false _ = Some All
+chosen _ _ _ _ _ = None
 
 -- the events that these options choose
 abbrev pub chosen_events : List Row → Option EventChoice
-chosen_events options = chosen (is_summary options) (number_given (codes "event") options) (number_given (codes "tag") options)
-    (flag_given (codes "lost") options)
+chosen_events options = chosen (number_given (codes "event") options) (number_given (codes "tag") options) (flag_given (codes "lost") options)
     (flag_given (codes "marked") options) (flag_given (codes "all") options)
 
 -- true unless the length of an interval is 0
@@ -117,22 +125,32 @@ form_of options = record { csv = flag_given (codes "csv") options; by_wall = fla
 abbrev pub each_kind : Form → OutputKind
 each_kind form = if form.csv then Records (record { by_wall = form.by_wall }) else Words (record { by_wall = form.by_wall })
 
+-- the kind of summaries: of each interval in words a line of this style, unless `full`
+abbrev pub sums_kind : Bool → LineStyle → Option ℕ → Form → OutputKind
+sums_kind full style None form = Sums (record { form = form; every = None })
+sums_kind full style (Some every) form =
+    if form.csv || full then Sums (record { form = form; every = Some every })
+    else Lines (record { every = every; by_wall = form.by_wall; style = style })
+
 -- the kind of output about the chosen events: each event; sums by flow; or summaries, with or without a digest of
 -- lost and marked packets. Sums and summaries cover all events or each interval
-abbrev pub output_kind_by : Bool → Bool → Option ℕ → Option ℕ → Form → OutputKind
-output_kind_by true packets (Some most) every form = Flows (record { form = form; every = every; most = most })
-output_kind_by true true None every form = Digest (record { form = form; every = every; packets = true })
-output_kind_by true false None every form = Sums (record { form = form; every = every })
-output_kind_by false packets flows every form = each_kind form
+abbrev pub output_kind_by : Bool → Bool → Option ℕ → Bool → LineStyle → Option ℕ → Form → OutputKind
+output_kind_by true packets (Some most) full style every form = Flows (record { form = form; every = every; most = most })
+output_kind_by true true None full style every form = Digest (record { form = form; every = every; packets = true })
+output_kind_by true false None full style every form = sums_kind full style every form
+output_kind_by false packets flows full style every form = each_kind form
 
-abbrev pub output_kind_of : List Row → OutputKind
-output_kind_of options = output_kind_by (is_summary options) (is_digest options) (flows_of options) (every_of options) (form_of options)
+abbrev pub output_kind_of : LineStyle → List Row → OutputKind
+output_kind_of style options =
+    output_kind_by (is_summary options) (is_digest options) (flows_of options) (flag_given (codes "full") options) style (every_of options)
+    (form_of options)
 
 -- the output of a kind for these explained events
 abbrev pub output_text : OutputKind → List Explained → List ℕ
 output_text (Records records) = pages (as_records records.by_wall)
 output_text (Words words) = pages (in_words words.by_wall)
 output_text (Sums sums) = summary_of (without_packets sums)
+output_text (Lines lines) = lines_whole lines
 output_text (Digest summaries) = summary_of summaries
 output_text (Flows by_flow) = flows_whole by_flow
 
@@ -152,6 +170,10 @@ abbrev pub explain_ends : Option Selection → (List Explained → List ℕ) →
 explain_ends None text known = WritesNothing
 explain_ends (Some selection) text known = EndsBy end_of_explain (ExplainsText selection text) known
 
--- the end of an explanation with the selection and the kind of output of these options
+-- the end of an explanation with the selection and the kind of output of these options; lines have this style
+abbrev pub EndsExplainBy : LineStyle → List Row → Option (List ℕ) → End → Option (List ℕ) → Option (List ℕ) → Type 0
+EndsExplainBy style options = explain_ends (selection_of options) (output_text (output_kind_of style options))
+
+-- such an end, with any style of lines
 abbrev pub EndsExplain : List Row → Option (List ℕ) → End → Option (List ℕ) → Option (List ℕ) → Type 0
-EndsExplain options = explain_ends (selection_of options) (output_text (output_kind_of options))
+EndsExplain options known end before now = (style : LineStyle) × EndsExplainBy style options known end before now

@@ -1,4 +1,5 @@
 pub mod Explanations
+pub mod Nearest
 pub mod CutEnds
 pub mod Ends
 pub mod FileAudits
@@ -7,4 +8,5 @@ pub mod Parts
 pub mod StormEnds
 pub mod Subcommands
 pub mod Tuning
+pub mod WhatIfEnds
 pub mod Words

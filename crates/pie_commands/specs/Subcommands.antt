@@ -6,7 +6,7 @@ use Rattle.clap.specs.declared.error.Error.{Error}
 use Rattle.clap.specs.declared.error.kind.ErrorKind.TheVariants.{OutOfMemory}
 use Rattle.clap.specs.declared.parser.matches.ArgMatches.{ArgMatches}
 use Rattle.pie_commands.specs.declared.options.subcommand.Subcommand.{Subcommand}
-use Rattle.pie_commands.specs.declared.options.subcommand.Subcommand.TheVariants.{Run, Audit, Explain, Cut, Migrate, Storm, Params}
+use Rattle.pie_commands.specs.declared.options.subcommand.Subcommand.TheVariants.{Run, Audit, Explain, Cut, Migrate, Storm, Params, WhatIf}
 use Rattle.pie_commands.specs.Words.{word_of}
 use Rattle.pie_commands.specs.Words.{Asks, file_in, files_in, is_forced, is_joined, options_in, output_in, pie_app, subcommand_in}
 use Rattle.pie_commands.specs.Files.{Opens, text_given}
@@ -20,6 +20,7 @@ use Rattle.pie_commands.specs.FileAudits.{EndsAuditing}
 use Rattle.pie_commands.specs.Files.{EndsIn}
 use Rattle.pie_commands.specs.StormEnds.{EndsStorm}
 use Rattle.pie_commands.specs.Tuning.{EndsParams}
+use Rattle.pie_commands.specs.WhatIfEnds.{EndsWhatIf}
 
 -- the end of a subcommand with these options, with its output. `input` is the known text of the reader and `files`
 -- the known text of each file. If `works`, a known file can always be opened. A storm alone can lack memory or a thread
@@ -34,6 +35,8 @@ EndsAs Cut options works input files =
 EndsAs Migrate options works input files = EndsRead (Opens works files (file_in options)) (EndsMigrate (text_given input files (file_in options)))
 EndsAs Storm options works input files = EndsStorm options
 EndsAs Params options works input files = EndsParams options
+EndsAs WhatIf options works input files =
+    EndsWhatIf (Opens works files (file_in options)) options (text_given input files (file_in options))
 
 -- the name of the file that a subcommand writes instead of the caller's writer
 abbrev pub output_for : Subcommand → List Row → Option Text

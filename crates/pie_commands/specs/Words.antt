@@ -11,7 +11,7 @@ use Rattle.clap.specs.Words.{app_of}
 use Rattle.clap.specs.declared.builder.action.ArgAction.TheVariants.{Append, SetTrue}
 use Rattle.clap.specs.declared.builder.value_parser.ValueParser.TheVariants.{Unsigned}
 use Rattle.pie_commands.specs.declared.options.subcommand.Subcommand.{Subcommand}
-use Rattle.pie_commands.specs.declared.options.subcommand.Subcommand.TheVariants.{Run, Audit, Explain, Cut, Migrate, Storm, Params}
+use Rattle.pie_commands.specs.declared.options.subcommand.Subcommand.TheVariants.{Run, Audit, Explain, Cut, Migrate, Storm, Params, WhatIf}
 use Rattle.pie_commands.specs.Files.{file_of}
 use Rattle.pie_commands.specs.declared.options.argument.Argument.{Argument}
 use Rattle.pie_commands.specs.declared.options.argument.ValueKind.{ValueKind}
@@ -83,7 +83,7 @@ rules_for Run = flag_rule (codes "count") ∷ progress_rule ∷ output_rule ∷ 
 rules_for Audit = flag_rule (codes "joined") ∷ progress_rule ∷ files_rule ∷ []
 rules_for Explain = number_rule (codes "event") 1 (2 ^ 64 - 1) ∷ number_rule (codes "tag") 0 (2 ^ 64 - 1) ∷ flag_rule (codes "lost")
     ∷ flag_rule (codes "marked") ∷ flag_rule (codes "all") ∷ text_rule (codes "from") ∷ text_rule (codes "to") ∷ flag_rule (codes "summary")
-    ∷ text_rule (codes "every") ∷ number_rule (codes "flows") 1 1000 ∷ flag_rule (codes "digest") ∷ flag_rule (codes "csv") ∷ flag_rule (codes "wall")
+    ∷ text_rule (codes "every") ∷ flag_rule (codes "full") ∷ number_rule (codes "flows") 1 1000 ∷ flag_rule (codes "digest") ∷ flag_rule (codes "csv") ∷ flag_rule (codes "wall")
     ∷ progress_rule ∷ output_rule ∷ force_rule ∷ file_rule ∷ []
 rules_for Cut = text_rule (codes "from") ∷ text_rule (codes "to") ∷ number_rule (codes "event") 1 (2 ^ 64 - 1)
     ∷ number_rule (codes "around") 0 (2 ^ 64 - 1) ∷ number_rule (codes "last") 1 (2 ^ 64 - 1) ∷ number_rule (codes "every") 1 (2 ^ 64 - 1)
@@ -98,6 +98,10 @@ rules_for Params = text_rule (codes "rate") ∷ text_rule (codes "target") ∷ t
     ∷ number_rule (codes "mtu") 1 65535 ∷ flag_rule (codes "dq_rate_estimator") ∷ flag_rule (codes "no_derandomization")
     ∷ flag_rule (codes "no_cap_drop_adjustment") ∷ text_rule (codes "decay") ∷ text_rule (codes "overhead") ∷ number_rule (codes "mpu") 0 65535
     ∷ text_rule (codes "linklayer") ∷ []
+rules_for WhatIf = text_rule (codes "from") ∷ text_rule (codes "target") ∷ text_rule (codes "tupdate") ∷ text_rule (codes "max_burst")
+    ∷ number_rule (codes "alpha") 0 32 ∷ number_rule (codes "beta") 0 32 ∷ number_rule (codes "mean_pkt") 1 65535 ∷ number_rule (codes "limit") 1 (2 ^ 30)
+    ∷ number_rule (codes "mark_ecnth") 0 1_000_000_000_000 ∷ number_rule (codes "dq_threshold") 1024 65536 ∷ flag_rule (codes "csv")
+    ∷ progress_rule ∷ output_rule ∷ force_rule ∷ file_rule ∷ []
 
 -- the name of each subcommand
 abbrev pub word_of : Subcommand → Text
@@ -108,6 +112,7 @@ word_of Cut = codes "cut"
 word_of Migrate = codes "migrate"
 word_of Storm = codes "storm"
 word_of Params = codes "params"
+word_of WhatIf = codes "what-if"
 
 abbrev pub app_for : Subcommand → App
 app_for subcommand = with_rules (new_app (word_of subcommand)) (rules_for subcommand)
@@ -120,7 +125,7 @@ abbrev pub with_subcommands : App → List Subcommand → App
 with_subcommands = with_all_subcommands adds
 
 abbrev pub pie_app : App
-pie_app = with_subcommands pie_alone (Run ∷ Audit ∷ Explain ∷ Cut ∷ Migrate ∷ Storm ∷ Params ∷ [])
+pie_app = with_subcommands pie_alone (Run ∷ Audit ∷ Explain ∷ Cut ∷ Migrate ∷ Storm ∷ Params ∷ WhatIf ∷ [])
 
 -- ---- subcommands
 

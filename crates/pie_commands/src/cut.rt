@@ -13,7 +13,7 @@ ghost use Rattle.pie_commands.specs.declared.options.subcommand.Subcommand.{Subc
 use crate::end::{End, end_failed, fault};
 use crate::fault_cause::{CUT, end_with_fault_in};
 use crate::files::{NamedFiles, open_input, reader_named};
-use crate::options::{NO_ORDER, bound, file, in_order, number, parsed};
+use crate::options::{NO_ORDER, bound, file, in_order, number, parsed, report_two};
 use crate::progress::{ProgressReader, Screen, shows_progress};
 use clap::ArgMatches;
 use pie_cut::{CutFault, Span, cut_every, last_number};
@@ -81,6 +81,24 @@ fn chosen(
     }
 }
 
+/// Writes a line with two options that choose events, if two are given; otherwise, if `--around` is given without
+/// `--event`, a line about these.
+fn report_choices<E: Write>(
+    event: Option<u64>,
+    last: Option<u64>,
+    every: Option<u64>,
+    is_bounded: bool,
+    has_around: bool,
+    errors: &mut E,
+) {
+    let names = ["event", "last", "every", "from or --to"];
+    let given = [event.is_some(), last.is_some(), every.is_some(), is_bounded];
+    report_two(&names, &given, errors);
+    if has_around && event.is_none() {
+        fault(errors, "--around needs --event");
+    }
+}
+
 /// Returns the request of these options. If they are not valid together, writes a line to `errors` and returns
 /// `None`.
 #[tactic(auto, unfolding(crate::specs::CutEnds::cut_request_of))]
@@ -99,6 +117,8 @@ fn cut_request_of<E: Write>(options: &ArgMatches<'_>, errors: &mut E) -> Option<
     let wanted = chosen(event, around, last, every, within(from, to));
     if wanted.is_none() {
         fault(errors, NO_PART);
+        let is_bounded = from.is_some() || to.is_some();
+        report_choices(event, last, every, is_bounded, around.is_some(), errors);
     }
     wanted
 }

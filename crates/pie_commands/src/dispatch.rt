@@ -16,6 +16,7 @@ use crate::params::params;
 use crate::progress::Screen;
 use crate::run::run;
 use crate::storm::storm;
+use crate::what_if::what_if;
 use clap::ArgMatches;
 use std::alloc::Global;
 use std::io::{Read, Write};
@@ -48,7 +49,8 @@ pub(crate) fn dispatch<
         Subcommand::Cut => cut(rt, alloc, options, input, output, errors),
         Subcommand::Migrate => migrate(rt, alloc, options, input, output, errors),
         Subcommand::Storm => storm(rt, alloc, options, output, errors),
-        Subcommand::Params => params(options, output, errors),
+        Subcommand::Params => params(alloc, options, output, errors),
+        Subcommand::WhatIf => what_if(rt, alloc, options, input, output, errors),
     }
 }
 

@@ -5,23 +5,20 @@ ghost use Rattle.pie_record.specs.Text.{records_of};
 ghost use Rattle.pie_explain.specs.TextAnswer.{ExplainsText};
 ghost use Rattle.pie_commands.specs.Subcommands.{EndsAs};
 ghost use Rattle.pie_commands.specs.declared.options.subcommand.Subcommand.{Subcommand};
-ghost use Rattle.pie_commands.specs.Explanations.{selection_of, chosen_events, every_of, is_summary, output_kind_of, output_text, end_of_explain};
+ghost use Rattle.pie_commands.specs.Explanations.{selection_of, chosen_events, every_of, is_selected, is_summary, output_kind_of, output_text, sums_kind};
+ghost use Rattle.pie_commands.specs.Explanations.{EndsExplainBy, end_of_explain};
 
 use crate::difference::report_difference;
 use crate::end::{End, end_failed, fault};
 use crate::fault_cause::{EXPLAIN, end_with_fault_in};
 use crate::files::{NamedFiles, open_input};
-use crate::options::{NO_ORDER, bound, file, flag, in_order, moment, number, parsed};
-use crate::progress::{ProgressReader, Screen, shows_progress};
+use crate::options::{NO_ORDER, bound, file, flag, in_order, moment, number, parsed, report_two};
+use crate::progress::{ProgressReader, Screen, shows_progress, writes_to_terminal};
 use clap::ArgMatches;
 use pie_explain::{EventChoice, ExplainFault, Form, Records, Selection, Words};
-use pie_summary::{ByFlow, Summaries, SummariesOnly};
+use pie_summary::{ByFlow, IntervalLines, LineStyle, Summaries, SummariesOnly};
 use std::alloc::Global;
 use std::io::{Read, Write};
-
-/// The message for options that choose no events.
-const NO_CHOICE: &str =
-    "explain needs one of --event N, --tag T, --lost, --marked and --all, or --summary, --every, --flows or --digest; see pie explain --help";
 
 /// The message for options that choose events more than once.
 const ONE_CHOICE: &str =
@@ -43,46 +40,64 @@ fn every_of(options: &ArgMatches<'_>) -> Option<u64>
     }
 }
 
-/// Returns true if these options request summaries: of all chosen events, of each interval, or by flow.
+/// Returns true if an option chooses events.
+fn is_selected(options: &ArgMatches<'_>) -> bool
+    ensures { result ≡ is_selected (rows_of (found_of options.now)) }
+{
+    let is_numbered = number(options, "event").is_some() || number(options, "tag").is_some();
+    let is_by_kind = flag(options, "lost") || (flag(options, "marked") || flag(options, "all"));
+    is_numbered || is_by_kind
+}
+
+/// Returns true if these options request summaries, of all chosen events, of each interval, or by flow; or if they choose
+/// no events.
 fn is_summary(options: &ArgMatches<'_>) -> bool
     ensures { result ≡ is_summary (rows_of (found_of options.now)) }
 {
     let (digest, flows) = (flag(options, "digest"), number(options, "flows").is_some());
-    (flag(options, "summary") || every_of(options).is_some()) || (digest || flows)
+    let is_asked = (flag(options, "summary") || every_of(options).is_some()) || (digest || flows);
+    !is_selected(options) || is_asked
 }
 
-/// Returns the chosen events, if exactly one of the five options chooses some. Without any of them a summary is of all events.
+/// Returns the chosen events, if at most one of the five options chooses some. Without any of them these are all events.
 fn chosen_events(options: &ArgMatches<'_>) -> Option<EventChoice>
     ensures { result ≡ chosen_events (rows_of (found_of options.now)) }
 {
     let (event, tag) = (number(options, "event"), number(options, "tag"));
     let (lost, marked) = (flag(options, "lost"), flag(options, "marked"));
-    let (all, summary) = (flag(options, "all"), is_summary(options));
+    let all = flag(options, "all");
     match (event, tag, lost, marked, all) {
         (Some(event), None, false, false, false) => Some(EventChoice::Number(event)),
         (None, Some(tag), false, false, false) => Some(EventChoice::Tag(tag)),
         (None, None, true, false, false) => Some(EventChoice::Lost),
         (None, None, false, true, false) => Some(EventChoice::Marked),
-        (None, None, false, false, true) => Some(EventChoice::All),
-        (None, None, false, false, false) => {
-            if summary {
-                Some(EventChoice::All)
-            } else {
-                None
-            }
-        }
+        (None, None, false, false, _) => Some(EventChoice::All),
         _ => None,
     }
 }
 
-/// Returns the message for options that don't choose events by exactly one option.
-fn choice_message(options: &ArgMatches<'_>) -> &'static str {
-    let is_numbered = number(options, "event").is_some() || number(options, "tag").is_some();
-    let is_by_kind = flag(options, "lost") || flag(options, "marked");
-    if is_numbered || is_by_kind || flag(options, "all") {
-        ONE_CHOICE
-    } else {
-        NO_CHOICE
+/// Writes a line with two options that choose events, if two are given.
+fn report_choices<E: Write>(options: &ArgMatches<'_>, errors: &mut E) {
+    let (event, tag) = (number(options, "event"), number(options, "tag"));
+    let given = [
+        event.is_some(),
+        tag.is_some(),
+        flag(options, "lost"),
+        flag(options, "marked"),
+        flag(options, "all"),
+    ];
+    report_two(&["event", "tag", "lost", "marked", "all"], &given, errors);
+}
+
+/// Writes the lines of options that don't choose events by exactly one option: those of invalid values, or if each value is
+/// valid, that of the choice.
+fn report_unchosen<E: Write>(options: &ArgMatches<'_>, errors: &mut E) {
+    let from = parsed(bound(options, "from"), "--from:", errors);
+    let to = parsed(bound(options, "to"), "--to:", errors);
+    let every = parsed(moment(options, "every"), "--every:", errors);
+    if from.is_some() && to.is_some() && every.is_some() {
+        fault(errors, ONE_CHOICE);
+        report_choices(options, errors);
     }
 }
 
@@ -93,7 +108,7 @@ fn selection_of<E: Write>(options: &ArgMatches<'_>, errors: &mut E) -> Option<Se
     ensures { result ≡ selection_of (rows_of (found_of options.now)) }
 {
     let Some(which) = chosen_events(options) else {
-        fault(errors, choice_message(options));
+        report_unchosen(options, errors);
         return None;
     };
     let from = parsed(bound(options, "from"), "--from:", errors)?;
@@ -122,15 +137,39 @@ pub(crate) enum OutputKind {
     Words(Words),
     /// Summaries, of all events or of each interval.
     Sums(SummariesOnly),
+    /// A line for each interval.
+    Lines(IntervalLines),
     /// Summaries, and between them the words for lost and marked packets.
     Digest(Summaries),
     /// Sums by flow, with rows for a limited number of flows.
     Flows(ByFlow),
 }
 
-/// Returns the kind of output that these options request: each event, or sums over the events.
-fn output_kind_of(options: &ArgMatches<'_>) -> OutputKind
-    ensures { result ≡ output_kind_of (rows_of (found_of options.now)) }
+/// Returns the kind of summaries: of each interval in words a line, unless `full`, in this style.
+fn sums_kind(full: bool, style: LineStyle, every: Option<u64>, form: Form) -> OutputKind
+    ensures { result ≡ sums_kind full style every form }
+{
+    match every {
+        None => OutputKind::Sums(SummariesOnly { form, every: None }),
+        Some(every) => {
+            if form.csv || full {
+                let every = Some(every);
+                return OutputKind::Sums(SummariesOnly { form, every });
+            }
+            let by_wall = form.by_wall;
+            OutputKind::Lines(IntervalLines {
+                every,
+                by_wall,
+                style,
+            })
+        }
+    }
+}
+
+/// Returns the kind of output that these options request: each event, or sums over the events. Lines have this
+/// style.
+fn output_kind_of(options: &ArgMatches<'_>, style: LineStyle) -> OutputKind
+    ensures { result ≡ output_kind_of style (rows_of (found_of options.now)) }
 {
     let (csv, by_wall) = (flag(options, "csv"), flag(options, "wall"));
     let (packets, flows) = (flag(options, "digest"), number(options, "flows"));
@@ -142,7 +181,7 @@ fn output_kind_of(options: &ArgMatches<'_>) -> OutputKind
             every,
             packets: true,
         }),
-        (true, false, None) => OutputKind::Sums(SummariesOnly { form, every }),
+        (true, false, None) => sums_kind(flag(options, "full"), style, every, form),
         (false, _, _) => {
             if csv {
                 OutputKind::Records(Records { by_wall })
@@ -168,6 +207,7 @@ fn explain_with<R: Read + Drop, W: Write>(
         OutputKind::Records(each) => pie_explain::explain(alloc, input, output, selection, each),
         OutputKind::Words(each) => pie_explain::explain(alloc, input, output, selection, each),
         OutputKind::Sums(sums) => pie_explain::explain(alloc, input, output, selection, sums),
+        OutputKind::Lines(lines) => pie_explain::explain(alloc, input, output, selection, lines),
         OutputKind::Digest(digest) => pie_explain::explain(alloc, input, output, selection, digest),
         OutputKind::Flows(flows) => pie_explain::explain(alloc, input, output, selection, flows),
     }
@@ -200,10 +240,39 @@ fn report_end<H: NamedFiles, E: Write>(
     }
 }
 
+/// Returns the style of lines in the output of these options.
+fn style_of<H: Screen>(rt: &H, options: &ArgMatches<'_>) -> LineStyle {
+    let repeats = writes_to_terminal(rt, options);
+    let colours = repeats && rt.allows_colours();
+    LineStyle { repeats, colours }
+}
+
+/// Explains the events of `input` that the options choose, as `explain` does. Lines have this style.
+fn explain_chosen<H: NamedFiles + Screen, R: Read + Drop, W: Write, E: Write>(
+    rt: &H,
+    alloc: Global,
+    options: &ArgMatches<'_>,
+    style: LineStyle,
+    input: R,
+    output: &mut W,
+    errors: &mut E,
+) -> End
+    ensures { EndsExplainBy style (rows_of (found_of options.now)) (R.remaining input) result (W.contents output.old) (W.contents output.new) }
+{
+    let Some(selection) = selection_of(options, errors) else {
+        return End::Failed;
+    };
+    let watched = ProgressReader::new(input, &mut *errors, rt, shows_progress(rt, options, true));
+    let kind = output_kind_of(options, style);
+    let outcome = explain_with(alloc, watched, output, selection, kind);
+    report_end(rt, alloc, errors, file(options), outcome)
+}
+
 /// `pie explain`: explains the chosen events of the history or excerpt in the file that the options name, or in `input`,
 /// up to its first fault or the first event that differs. Returns a difference as `End::Differs`. If the text has a
-/// fault, the options choose no event, no event matches, or the reader, the writer or memory fails, the end is an error.
-/// Each error has a line on `errors`; a writer's fault is reported later (`End::report`).
+/// fault, the options choose events more than once, no event matches, or the reader, the writer or memory fails, the end
+/// is an error. Each error has a line on `errors`; a writer's fault is reported later (`End::report`). On a
+/// terminal the header of lines is repeated, and lines are coloured unless the user wants no colours.
 pub(crate) fn explain<H: NamedFiles + Screen, R: Read + Drop, W: Write, E: Write>(
     rt: &H,
     alloc: Global,
@@ -218,10 +287,6 @@ pub(crate) fn explain<H: NamedFiles + Screen, R: Read + Drop, W: Write, E: Write
     let Some(reader) = open_input(rt, options, input, errors) else {
         return End::Unopened;
     };
-    let Some(selection) = selection_of(options, errors) else {
-        return End::Failed;
-    };
-    let watched = ProgressReader::new(reader, &mut *errors, rt, shows_progress(rt, options, true));
-    let outcome = explain_with(alloc, watched, output, selection, output_kind_of(options));
-    report_end(rt, alloc, errors, file(options), outcome)
+    let style = style_of(rt, options);
+    explain_chosen(rt, alloc, options, style, reader, output, errors)
 }

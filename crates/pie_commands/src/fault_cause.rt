@@ -49,6 +49,12 @@ pub(crate) const CUT: Reading = Reading {
     command: "cut",
 };
 
+/// `pie what-if`.
+pub(crate) const WHAT_IF: Reading = Reading {
+    kind: TextKind::History,
+    command: "what-if",
+};
+
 /// Reads the file `name` again after the fault `why` of its text, and writes lines that describe the cause to `errors`. If the cause is not found,
 /// writes a line with the name of the file. Writes nothing after a failed write, or if memory was short.
 pub(crate) fn describe<H: NamedFiles, E: Write>(

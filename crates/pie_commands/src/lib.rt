@@ -17,6 +17,7 @@
 #![tactic(auto)]
 
 mod audit;
+mod comparison;
 mod cut;
 mod difference;
 mod dispatch;
@@ -32,6 +33,7 @@ mod progress;
 mod run;
 mod storm;
 mod system_files;
+mod what_if;
 
 pub use end::End;
 pub use files::NamedFiles;

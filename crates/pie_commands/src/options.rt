@@ -7,11 +7,14 @@
 mod argument;
 mod command_line;
 mod history_pages;
+mod mistakes;
 mod subcommand;
 mod trace_pages;
 mod values;
+mod what_if_page;
 
 pub(crate) use command_line::options;
+pub(crate) use mistakes::{report_elements, report_keyword, report_numbers, report_two};
 pub(crate) use subcommand::Subcommand;
 pub(crate) use values::{
     NO_ORDER, bound, file, file_of, flag, in_order, moment, number, number_or, output, parsed, text,

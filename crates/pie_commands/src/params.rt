@@ -8,7 +8,7 @@ ghost use Rattle.pie_units.specs.declared.options.TuningOptions.{TuningOptions};
 ghost use Rattle.pie_commands.specs.Tuning.{AsksFor, AsksForLayer, EndsParams, given_or, link_layer_by, number_by};
 
 use crate::end::{End, end_failed, end_with_fault};
-use crate::options::{flag, number, number_or, parsed, text};
+use crate::options::{flag, number, number_or, parsed, report_keyword, text};
 use crate::storm::decay_of;
 use clap::ArgMatches;
 use pie_book::Limits;
@@ -19,6 +19,7 @@ use pie_units::{
     drops_bursts, elements_for, gain_of, is_above_a_second, is_short, opening_for, overhead_of,
     packets_of, params_for, rate_of, time_of, write_opening,
 };
+use std::alloc::Global;
 use std::io::Write;
 
 /// Returns the number of the option `name`, which is of this kind, or `unnamed` if the option isn't given.
@@ -62,13 +63,14 @@ fn link_layer_by(name: Option<&str>) -> Option<LinkLayer>
 }
 
 /// Returns the options of `tc stab`. If a text is not valid, writes a line to `errors` and returns `None`.
-fn layer_in<E: Write>(options: &ArgMatches<'_>, errors: &mut E) -> Option<Layer>
+fn layer_in<E: Write>(alloc: Global, options: &ArgMatches<'_>, errors: &mut E) -> Option<Layer>
     ensures requested { IfSome result (AsksForLayer (rows_of (found_of options.now))) }
     ensures none { result ≡ None → (layer : Layer) → AsksForLayer (rows_of (found_of options.now)) layer → ⊥ }
 {
     let overhead = parsed(overhead_in(options), "--overhead", errors)?;
     let Some(format) = link_layer_by(text(options, "linklayer")) else {
         let _ = writeln!(errors, "pie: --linklayer must be ethernet, atm or adsl");
+        report_keyword(alloc, options, "linklayer", "ethernet", "atm", errors);
         return None;
     };
     Some(Layer {
@@ -80,7 +82,11 @@ fn layer_in<E: Write>(options: &ArgMatches<'_>, errors: &mut E) -> Option<Layer>
 
 /// Returns the values of all options. If a text is not a valid number of its kind or names no choice, writes a line
 /// to `errors` and returns `None`.
-fn tuning_in<E: Write>(options: &ArgMatches<'_>, errors: &mut E) -> Option<TuningOptions>
+fn tuning_in<E: Write>(
+    alloc: Global,
+    options: &ArgMatches<'_>,
+    errors: &mut E,
+) -> Option<TuningOptions>
     ensures requested { IfSome result (AsksFor (rows_of (found_of options.now))) }
     ensures none { result ≡ None → (asked : TuningOptions) → AsksFor (rows_of (found_of options.now)) asked → ⊥ }
 {
@@ -104,9 +110,10 @@ fn tuning_in<E: Write>(options: &ArgMatches<'_>, errors: &mut E) -> Option<Tunin
         "--limit",
         errors,
     )?;
-    let layer = layer_in(options, errors)?;
+    let layer = layer_in(alloc, options, errors)?;
     let Some(decay) = decay_of(options) else {
         let _ = writeln!(errors, "pie: --decay must be zero or half");
+        report_keyword(alloc, options, "decay", "zero", "half", errors);
         return None;
     };
     Some(TuningOptions {
@@ -175,13 +182,14 @@ fn warn<E: Write>(
 
 /// `pie params`: writes the record that opens a book with the parameters of these options.
 pub(crate) fn params<W: Write, E: Write>(
+    alloc: Global,
     options: &ArgMatches<'_>,
     output: &mut W,
     errors: &mut E,
 ) -> End
     ensures { EndsParams (rows_of (found_of options.now)) result (W.contents output.old) (W.contents output.new) }
 {
-    let Some(asked) = tuning_in(options, errors) else {
+    let Some(asked) = tuning_in(alloc, options, errors) else {
         return End::Failed;
     };
     let params = match Params::check(params_for(&asked)) {

@@ -13,7 +13,7 @@ ghost use Rattle.pie_commands.specs.Subcommands.{Answers, BeginsNothing, EndsTo,
 use crate::dispatch::{dispatch, dispatch_to_file, output_for};
 use crate::end::{End, end_failed, end_unable, end_with_fault};
 use crate::files::NamedFiles;
-use crate::options::{Subcommand, options};
+use crate::options::{Subcommand, options, report_elements, report_numbers};
 use crate::progress::Screen;
 use clap::error::ErrorKind;
 use clap::{ArgMatches, Error};
@@ -67,8 +67,22 @@ pub fn command<H: Threads + Wait + Sync + NamedFiles + Screen, R: Read + Drop, W
 {
     let found = matches_of(alloc, words);
     let end = perform(rt, alloc, &found, input, output, errors);
+    report_value(&found, words, errors);
     drop(found);
     end
+}
+
+/// If `clap` refused the value of an option, writes a line with the values that the option takes. If it refused an option
+/// of `pie what-if`, and this option can't change a history, writes a line with the reason.
+fn report_value<E: Write>(found: &Result<ArgMatches<'_>, Error>, words: &[String], errors: &mut E) {
+    if let Err(why) = found {
+        if matches!(why.kind(), ErrorKind::ValueValidation) {
+            report_numbers(words, errors);
+        }
+        if matches!(why.kind(), ErrorKind::UnknownArgument) {
+            report_elements(words, errors);
+        }
+    }
 }
 
 /// Parses the command line with `clap`. An error is a request for help, a mistake, or a lack of memory.

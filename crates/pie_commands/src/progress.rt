@@ -5,6 +5,7 @@ ghost use Rattle.pie_commands.specs.Parts.{inner_of, remaining_of};
 use crate::end::fault;
 use crate::options::{flag, output};
 use clap::ArgMatches;
+use std::env::{Env, FillError};
 use std::io;
 use std::io::{Error, ErrorKind, IsTerminal, Read, Write};
 use std::time::{Clock, Instant};
@@ -171,13 +172,16 @@ impl<R: Drop, W: Write + Drop, C: Clock + Drop> Drop for ProgressReader<R, W, C>
     }
 }
 
-/// A clock that also knows if the standard streams are terminals.
+/// A clock that also knows if the standard streams are terminals, and if colours are allowed there.
 pub trait Screen: Clock {
     /// Returns true if standard output is a terminal.
     fn has_output_terminal(&self) -> bool;
 
     /// Returns true if standard error is a terminal.
     fn has_error_terminal(&self) -> bool;
+
+    /// Returns true if the user allows colours on a terminal.
+    fn allows_colours(&self) -> bool;
 }
 
 impl Screen for HostRuntime {
@@ -188,6 +192,19 @@ impl Screen for HostRuntime {
     fn has_error_terminal(&self) -> bool {
         self.stderr().is_terminal()
     }
+
+    /// Returns false if the environment variable `NO_COLOR` is set and not empty.
+    fn allows_colours(&self) -> bool {
+        matches!(
+            self.var("NO_COLOR", &mut [0; 1]),
+            Ok(0) | Err(FillError::NotPresent)
+        )
+    }
+}
+
+/// Returns true if the output is written to standard output, and that is a terminal.
+pub(crate) fn writes_to_terminal<H: Screen>(rt: &H, options: &ArgMatches<'_>) -> bool {
+    output(options).is_none() && rt.has_output_terminal()
 }
 
 /// Returns true if `--progress` is given or standard error is a terminal. A terminal alone is not enough if output
@@ -197,6 +214,6 @@ pub(crate) fn shows_progress<H: Screen>(
     options: &ArgMatches<'_>,
     is_written: bool,
 ) -> bool {
-    let is_mixed = is_written && output(options).is_none() && rt.has_output_terminal();
+    let is_mixed = is_written && writes_to_terminal(rt, options);
     flag(options, "progress") || (rt.has_error_terminal() && !is_mixed)
 }

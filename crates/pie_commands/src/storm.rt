@@ -5,7 +5,7 @@ ghost use Rattle.pie_commands.specs.StormEnds.{EndsStorm, choice_by, decay_in, e
 ghost use Rattle.pie_storm.specs.Plans.{HasStormRange};
 
 use crate::end::{End, end_failed, end_unable, end_with_fault};
-use crate::options::{flag, number_or, text};
+use crate::options::{flag, number_or, report_keyword, text};
 use clap::ArgMatches;
 use pie_book::{Event, Profile};
 use pie_params::{Decay, Delay, Elements, Picking, Size, Step};
@@ -69,6 +69,15 @@ fn elements_of(options: &ArgMatches<'_>) -> Option<Elements>
     })
 }
 
+/// Writes a line for each of these options whose text names no choice.
+fn report_keywords<E: Write>(alloc: Global, options: &ArgMatches<'_>, errors: &mut E) {
+    report_keyword(alloc, options, "delay", "rate", "stamp", errors);
+    report_keyword(alloc, options, "picking", "derandomized", "random", errors);
+    report_keyword(alloc, options, "step", "capped", "uncapped", errors);
+    report_keyword(alloc, options, "size", "unscaled", "scaled", errors);
+    report_keyword(alloc, options, "decay", "zero", "half", errors);
+}
+
 /// Returns the numbers of the plan that these options request, with these elements. Each number has a default for a command line without it.
 fn numbers_of(options: &ArgMatches<'_>, elements: Elements) -> StormNumbers
     ensures requested { result ≡ numbers_in elements (rows_of (found_of options.now)) }
@@ -104,7 +113,9 @@ pub(crate) fn storm<H: Threads + Wait + Clock + Sync, W: Write, E: Write>(
     ensures { EndsStorm (rows_of (found_of options.now)) result (W.contents output.old) (W.contents output.new) }
 {
     let Some(elements) = elements_of(options) else {
-        return end_failed(errors, NO_CHOICE);
+        let end = end_failed(errors, NO_CHOICE);
+        report_keywords(alloc, options, errors);
+        return end;
     };
     let made = match pie_storm::make_storm(rt, alloc, numbers_of(options, elements)) {
         Ok(made) => made,

@@ -1,5 +1,5 @@
 -- Facts about lines: aligned numbers, and the number of lines with one more event.
-use Rattle.pie_summary.proofs.Names.{◌≡◌, ◌+◌, ◌-◌, ℕ, zero, suc, Bool, true, false, List, [], ◌∷◌, ◌++◌, append-nil, append_assoc, ap, arith, if◌then◌else◌, length, min, refl}
+use Rattle.pie_summary.proofs.Names.{◌≡◌, ◌+◌, ℕ, zero, suc, Bool, true, false, List, [], ◌∷◌, ◌++◌, append-nil, append_assoc, ap, arith, if◌then◌else◌, min, refl}
 use Rattle.pie_summary.proofs.Names.{replicate, sym, ◌∙◌, Some, Explained, map, sum, kept, places}
 use Rattle.std.proofs.lemmas.Str.{encode_ascii}
 use Rattle.std.specs.Fmt.{char_count, decimal, format_spec, padded_integral}

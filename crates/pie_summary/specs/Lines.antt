@@ -1,5 +1,5 @@
 -- The output of one line for each interval of the explained events, under a header.
-use Rattle.std.specs.Prelude.{ℕ, ◌≡◌, ◌+◌, ◌-◌, ◌/◌, ◌%◌, ◌^◌, ◌==◌, ◌&&◌, ◌||◌, max, Bool, true, false, List, [], ◌∷◌, ◌++◌, length, map, replicate, Some, codes, if◌then◌else◌, slice_index}
+use Rattle.std.specs.Prelude.{ℕ, ◌≡◌, ◌+◌, ◌-◌, ◌/◌, ◌%◌, ◌^◌, ◌==◌, ◌&&◌, ◌||◌, max, Bool, true, false, List, [], ◌∷◌, ◌++◌, length, map, replicate, Some, codes, if◌then◌else◌, nat_lt, slice_index}
 use Rattle.std.specs.List.{flat_map, sum}
 use Rattle.std.specs.Fmt.{decimal}
 use Rattle.pie_aqm.specs.History.{Place, places}
@@ -47,13 +47,18 @@ start_cell false every first timed time = millis_cell 7 (start_of every first)
 start_cell true every first timed time =
     if timed == 0 then millis_cell 26 (start_of every first) else utc_text time
 
+-- a number of packets without room; with colours red, unless it is 0
+unfoldable pub tail_cell : Bool → ℕ → List ℕ
+tail_cell colours n =
+    if colours && nat_lt 0 n then joined ((27 ∷ codes "[31m") ∷ number_cell 5 n ∷ (27 ∷ codes "[0m") ∷ []) else number_cell 5 n
+
 -- the arrivals, the marks, the early drops, and the packets without room
-unfoldable pub count_cells : Meter → List ℕ
-count_cells meter =
+unfoldable pub count_cells : Bool → Meter → List ℕ
+count_cells colours meter =
     joined (codes " " ∷ number_cell 7 meter.arrivals
     ∷ codes " " ∷ number_cell 5 (slice_index meter.answers (answer_place Marked))
     ∷ codes " " ∷ number_cell 5 (slice_index meter.answers (answer_place DroppedEarly))
-    ∷ codes " " ∷ number_cell 5 (kept (slice_index meter.answers (answer_place DroppedBytes) + slice_index meter.answers (answer_place DroppedPackets)))
+    ∷ codes " " ∷ tail_cell colours (kept (slice_index meter.answers (answer_place DroppedBytes) + slice_index meter.answers (answer_place DroppedPackets)))
     ∷ [])
 
 -- the mean wait of the packets that left, and that of 99 of 100; the delay of the last update, the probability after the last event, and the bytes
@@ -67,18 +72,22 @@ measure_cells meter most =
 -- a line, with the waiting time of 99 of 100
 unfoldable pub line : IntervalLines → Meter → ℕ → List ℕ
 line it meter most =
-    joined (start_cell it.by_wall it.every meter.first meter.timed meter.time ∷ count_cells meter ∷ measure_cells meter most ∷ [])
+    joined (start_cell it.by_wall it.every meter.first meter.timed meter.time ∷ count_cells it.style.colours meter ∷ measure_cells meter most ∷ [])
 
 -- ---- the header
 
--- the names of the columns
-unfoldable pub names : Bool → List ℕ
-names false = codes "    time ms arrived marks early  tail mean ms 99th ms delay ms  prob %     bytes\n"
-names true = codes "                           UTC arrived marks early  tail mean ms 99th ms delay ms  prob %     bytes\n"
+-- the names of the columns; with colours bold
+abbrev pub plain_names : Bool → List ℕ
+plain_names false = codes "    time ms arrived marks early  tail mean ms 99th ms delay ms  prob %     bytes"
+plain_names true = codes "                           UTC arrived marks early  tail mean ms 99th ms delay ms  prob %     bytes"
+
+unfoldable pub names : Bool → Bool → List ℕ
+names by_wall false = plain_names by_wall ++ codes "\n"
+names by_wall true = joined ((27 ∷ codes "[1m") ∷ plain_names by_wall ∷ (27 ∷ codes "[0m\n") ∷ [])
 
 -- the header before a line after `lines` others: before the first line, and if requested again before each 40th
 unfoldable pub heading : IntervalLines → ℕ → List ℕ
-heading it lines = if lines == 0 || (it.repeats && lines % 40 == 0) then names it.by_wall else []
+heading it lines = if lines == 0 || (it.style.repeats && lines % 40 == 0) then names it.by_wall it.style.colours else []
 
 -- ---- the output
 

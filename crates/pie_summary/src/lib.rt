@@ -24,7 +24,7 @@ mod summary;
 mod words;
 
 pub use by_flow::ByFlow;
-pub use lines::IntervalLines;
+pub use lines::{IntervalLines, LineStyle};
 pub use live_interval::LiveInterval;
 pub use meter_input::{Conditions, MeterInput};
 pub use summaries_only::SummariesOnly;

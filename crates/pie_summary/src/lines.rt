@@ -33,8 +33,18 @@ pub struct IntervalLines {
     /// The time of a line is the wall-clock time of the interval's first event that has one. Without such an event, and
     /// if this is false, the time is the start of the interval.
     pub by_wall: bool,
+    /// The form of the lines.
+    pub style: LineStyle,
+}
+
+/// The form of lines on a terminal or in a file.
+#[derive(Clone, Copy)]
+pub struct LineStyle {
     /// True if the header, which is before the first line, is also before each 40th line after it.
     pub repeats: bool,
+    /// True if the header is bold, and a number of packets without room red unless it is 0: by the control sequences of
+    /// ECMA-48.
+    pub colours: bool,
 }
 
 /// The interval under way, and the lines that were written.
@@ -87,6 +97,29 @@ impl Display for ShareCell {
     }
 }
 
+/// A number of packets without room, as a cell.
+#[derive(Clone, Copy)]
+struct TailCell {
+    tail: u64,
+    colours: bool,
+}
+
+impl Display for TailCell {
+    ghost use Rattle.std.specs.Prelude.{Some};
+    ghost use Rattle.pie_summary.specs.Lines.{tail_cell};
+
+    ghost output = { λ cell. Some (tail_cell cell.colours cell.tail) };
+
+    #[tactic(auto, using(crate::proofs::LineFacts::aligned), unfolding(crate::specs::Lines::tail_cell))]
+    fn fmt<W: fmt::Write>(&self, f: &mut fmt::Formatter<W>) -> fmt::Result {
+        let tail = self.tail;
+        if self.colours && tail > 0 {
+            return write!(f, "\x1b[31m{tail:5}\x1b[0m");
+        }
+        write!(f, "{tail:5}")
+    }
+}
+
 /// Returns the start of the interval of the moment `first`.
 fn start_of(every: u64, first: u64) -> u64
     ensures { result ≡ start_of every first }
@@ -110,12 +143,13 @@ fn push_start(page: &mut String, by_wall: bool, every: u64, meter: &Meter) -> Wr
 
 /// Writes the numbers of arrivals, marks, early drops, and packets without room.
 #[tactic(auto, using(crate::proofs::LineFacts::aligned), unfolding(crate::specs::Lines::count_cells))]
-fn push_counts(page: &mut String, meter: &Meter) -> Written
-    ensures { OnOk result (string_bytes page.new ≡ string_bytes page.old ++ count_cells meter.now) }
+fn push_counts(page: &mut String, meter: &Meter, colours: bool) -> Written
+    ensures { OnOk result (string_bytes page.new ≡ string_bytes page.old ++ count_cells colours meter.now) }
 {
     let (arrivals, marks, early) = (meter.arrivals, meter.answers[MARKED], meter.answers[EARLY]);
     let tail = meter.answers[NO_BYTES].saturating_add(meter.answers[NO_PACKETS]);
-    write!(page, " {arrivals:7} {marks:5} {early:5} {tail:5}")
+    let tail = TailCell { tail, colours };
+    write!(page, " {arrivals:7} {marks:5} {early:5} {tail}")
 }
 
 /// Writes the waits, the delay, the probability and the bytes.
@@ -142,13 +176,22 @@ fn push_measures(page: &mut String, meter: &Meter, most: u64) -> Written
 
 /// Returns the names of the columns, with the end of their line.
 #[tactic(auto, unfolding(crate::specs::Lines::names))]
-fn names(by_wall: bool) -> &'static str
-    ensures { result.now ≡ names by_wall }
+fn names(by_wall: bool, colours: bool) -> &'static str
+    ensures { result.now ≡ names by_wall colours }
 {
-    if by_wall {
-        "                           UTC arrived marks early  tail mean ms 99th ms delay ms  prob %     bytes\n"
-    } else {
-        "    time ms arrived marks early  tail mean ms 99th ms delay ms  prob %     bytes\n"
+    match (by_wall, colours) {
+        (true, true) => {
+            "\x1b[1m                           UTC arrived marks early  tail mean ms 99th ms delay ms  prob %     bytes\x1b[0m\n"
+        }
+        (true, false) => {
+            "                           UTC arrived marks early  tail mean ms 99th ms delay ms  prob %     bytes\n"
+        }
+        (false, true) => {
+            "\x1b[1m    time ms arrived marks early  tail mean ms 99th ms delay ms  prob %     bytes\x1b[0m\n"
+        }
+        (false, false) => {
+            "    time ms arrived marks early  tail mean ms 99th ms delay ms  prob %     bytes\n"
+        }
     }
 }
 
@@ -158,8 +201,8 @@ impl IntervalLines {
     fn push_heading(self, page: &mut String, lines: u64) -> Written
         ensures { OnOk result (string_bytes page.new ≡ string_bytes page.old ++ heading self lines) }
     {
-        if lines == 0 || (self.repeats && lines % LINES == 0) {
-            return page.push_str(names(self.by_wall));
+        if lines == 0 || (self.style.repeats && lines % LINES == 0) {
+            return page.push_str(names(self.by_wall, self.style.colours));
         }
         Ok(())
     }
@@ -170,7 +213,7 @@ impl IntervalLines {
         ensures { OnOk result (string_bytes page.new ≡ string_bytes page.old ++ line self meter.now most) }
     {
         push_start(page, self.by_wall, self.every, meter)?;
-        push_counts(page, meter)?;
+        push_counts(page, meter, self.style.colours)?;
         push_measures(page, meter, most)
     }
 

@@ -2,3 +2,4 @@ pub mod RowFacts
 pub mod DecideFacts
 pub mod PassFacts
 pub mod LawFacts
+mod Examples

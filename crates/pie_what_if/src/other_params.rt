@@ -1,5 +1,5 @@
 //! The parameters that have other values in the other history.
-ghost use Rattle.std.specs.Prelude.{false, ◌≡◌};
+ghost use Rattle.std.specs.Prelude.{◌≡◌};
 ghost use Rattle.pie_what_if.specs.Params.{altered, changed, changes, over};
 
 use pie_event::Command;
@@ -30,25 +30,8 @@ pub struct OtherParams {
 }
 
 impl OtherParams {
-    /// Returns the values of no parameter.
-    pub fn none() -> OtherParams
-        ensures { changes result ≡ false }
-    {
-        OtherParams {
-            target: None,
-            t_update: None,
-            max_burst: None,
-            alpha: None,
-            beta: None,
-            mean_pkt: None,
-            limit_bytes: None,
-            mark_ecnth: None,
-            dq_threshold: None,
-        }
-    }
-
     /// Returns true if a parameter has a value here.
-    pub fn changes(&self) -> bool
+    pub(crate) fn changes(&self) -> bool
         ensures { result ≡ changes self.now }
     {
         self.target.is_some()

@@ -7,6 +7,7 @@ use crate::options::argument::{Argument, Page, arg_of};
 use crate::options::history_pages::{AUDIT, CUT, EXPLAIN, MIGRATE};
 use crate::options::subcommand::Subcommand;
 use crate::options::trace_pages::{PARAMS, RUN, STORM};
+use crate::options::what_if_page::WHAT_IF;
 use clap::Command;
 use std::alloc::{AllocError, Global};
 
@@ -54,7 +55,7 @@ fn command_of<'a>(
 ) -> Result<Command<'a>, AllocError>
     ensures { IfOk result (λ command. app_of command ≡ with_rules (new_app name.now) (map rule_for arguments.now)) }
 {
-    let mut command = Ok(Command::new(alloc, name).about(about).after_help(help));
+    let mut command = Ok(Command::new(alloc, name).about(about).after_long_help(help));
     for place in 0..arguments.len() {
         command = with_argument(alloc, command, argument_at(arguments, place));
     }
@@ -74,6 +75,21 @@ fn page_of<'a>(subcommand: Subcommand) -> Page<'a>
         Subcommand::Migrate => MIGRATE,
         Subcommand::Storm => STORM,
         Subcommand::Params => PARAMS,
+        Subcommand::WhatIf => WHAT_IF,
+    }
+}
+
+/// Returns the options and files of a subcommand.
+pub(crate) fn arguments_of(subcommand: Subcommand) -> &'static [Argument] {
+    match subcommand {
+        Subcommand::Run => RUN.arguments,
+        Subcommand::Audit => AUDIT.arguments,
+        Subcommand::Explain => EXPLAIN.arguments,
+        Subcommand::Cut => CUT.arguments,
+        Subcommand::Migrate => MIGRATE.arguments,
+        Subcommand::Storm => STORM.arguments,
+        Subcommand::Params => PARAMS.arguments,
+        Subcommand::WhatIf => WHAT_IF.arguments,
     }
 }
 
@@ -92,7 +108,7 @@ fn alone<'a>(alloc: Global) -> Command<'a>
     Command::new(alloc, "pie")
         .about("A PIE queue controller (RFC 8033) whose every decision is recorded")
         .version(VERSION)
-        .after_help(PIE_HELP)
+        .after_long_help(PIE_HELP)
         .subcommand_required(true)
 }
 
@@ -149,6 +165,7 @@ pub(crate) fn options<'a>(alloc: Global) -> Result<Command<'a>, AllocError>
             Subcommand::Migrate,
             Subcommand::Storm,
             Subcommand::Params,
+            Subcommand::WhatIf,
         ],
     )
 }

@@ -65,10 +65,10 @@ The audit finds a changed verdict, and the line is differs,1:
 pub(crate) const EXPLAIN: Page<'static> = Page {
     word: "explain",
     about: "Explains why the events of a history were decided as they were",
-    help: "Exactly one of --event, --tag, --lost, --marked and --all selects events. With --summary, --every,
---flows or --digest a selection is optional. Each event of the history is decided again, as by pie
-audit. The explanation of a selected event names the rule that decided it, and the numbers before
-the event that the rule used.
+    help: "At most one of --event, --tag, --lost, --marked and --all selects events. Each event of the history
+is decided again, as by pie audit. The explanation of a selected event names the rule that decided
+it, and the numbers before the event that the rule used. Without a selection the output is a
+summary of all events, as with --summary.
 
 --from and --to restrict the selection to events whose effective moments lie between them, both ends
 included. --from must not be after --to. A moment is a number of nanoseconds, or a number with the
@@ -89,10 +89,19 @@ selects. It has:
 - the waiting times of the packets that departed;
 - the delays of the updates, and the probabilities after the events;
 - the moments at which the controller turned on and off.
-With --every there is a summary of each interval with a selected event: with 100ms, one of the
-events before 100 ms, one of those from 100 ms to before 200 ms, and so on. With --csv there is a
-header, and one record for each summary. A summary covers the events before the first fault and the
-first event that differs.
+A summary covers the events before the first fault and the first event that differs.
+
+With --every there is one line for each interval with a selected event: with 100ms, one for the
+events before 100 ms, one for those from 100 ms to before 200 ms, and so on. A header comes first,
+and again after each 40 lines on a terminal. The columns are:
+- time: the start of the interval; with --wall the time in UTC of its first event with a known time;
+- arrived, marks, early, tail: arrivals, marked packets, packets dropped early, packets without room;
+- mean, 99th: the mean wait of the packets that departed, and the wait that 99 of 100 did not exceed;
+- delay, prob: the delay of the last update, and the probability after the last event;
+- bytes: the bytes of the packets that departed.
+Times are in milliseconds, rounded down to microseconds. A dash replaces a wait without a departure,
+and a delay without an update. With --full there is a summary of several lines for each interval.
+With --csv there is a header, and one record for each summary.
 
 With --flows N there is a summary of each of the N flows with the most bytes that arrived, and one
 of all other flows together, for the history or for each interval. It has the arrivals, their
@@ -107,9 +116,9 @@ With --digest the history is read once for summaries and explanations. The expla
 the first event of the next interval. Explanations are in words, also with --csv. A CSV record then
 begins with a digit, and a line of words with the word event or with two spaces.
 
-An explanation in words has several lines. Moments are in milliseconds and probabilities in per
-cent, with the exact whole numbers in parentheses. With --csv there is a header, and one record for
-each event:
+An explanation in words has several lines. Moments are in milliseconds, with all decimals, and
+probabilities in per cent, rounded down. With --csv all numbers are exact, and there is a header, and
+one record for each event:
   number,kind,caller,moment,effective_moment,tag,size,verdict,cause,bytes,packets,delay,
   probability,accumulated_probability,burst_allowance,ecn,word,waited,active,set_by,bytes_after,
   packets_after,delay_after,probability_after,accumulated_probability_after,
@@ -131,21 +140,22 @@ Example: why was a packet lost? The file trace has the trace of the example of p
 The output is why the last packet of that trace was dropped:
 
   event 11: packet 6, 500 bytes, Not-ECT: DROPPED early
-    at 1.001003 ms (1001003 ns), by caller 2
-    picked: its random word, 0.0000 % (0), is below the probability, 90.3954 % (903954174169)
+    at 1.001003 ms, by caller 2
+    picked: its random word, 0.0000 %, is below the probability, 90.3954 %
     dropped: its endpoints do not understand a mark
-    before it: 3 packets, 2548 bytes, a delay of 2.488281 ms (2488281 ns)
-    probability 90.3954 % (903954174169), set by event 9; last update at 1.001002 ms (1001002 ns); burst allowance 0.000000 ms (0 ns)",
+    before it: 3 packets, 2548 bytes, a delay of 2.488281 ms
+    probability 90.3954 %, set by event 9; last update at 1.001002 ms; burst allowance 0.000000 ms",
     arguments: &[
         row!("event": Number(1, u64::MAX), "Select event N, counted from 1. Default: none"),
         row!("tag": Number(0, u64::MAX), "Select the events of the packets with tag N. Default: none"),
         row!("lost": Nothing, "Select the arrivals of dropped packets. Default: off"),
         row!("marked": Nothing, "Select the arrivals of marked packets. Default: off"),
-        row!("all": Nothing, "Select all events. Default: off, but on for a summary without a selection"),
+        row!("all": Nothing, "Select all events. Default: off, but on without another selection"),
         row!("from": Value("MOMENT"), "Exclude events before this moment or time in UTC, such as 1.5ms. Default: the first event"),
         row!("to": Value("MOMENT"), "Exclude events after this moment or time in UTC. Default: the last event"),
-        row!("summary": Nothing, "Write one summary of the selected events. Default: an explanation of each"),
-        row!("every": Value("TIME"), "Write a summary of each interval of this length, such as 100ms or 1m. Default: off"),
+        row!("summary": Nothing, "Write one summary of the selected events. Default: an explanation of each; on without a selection"),
+        row!("every": Value("TIME"), "Write one line for each interval of this length, such as 100ms or 1m. Default: off"),
+        row!("full": Nothing, "With --every, write several lines for each interval. Default: off"),
         row!("flows": Number(1, 1000), "Write a summary of each of the N flows with the most bytes, and one of all others. Default: off"),
         row!("digest": Nothing, "Write summaries, and between them an explanation of each lost or marked packet. Default: off"),
         row!("csv": Nothing, "Write CSV with a header. Default: words"),

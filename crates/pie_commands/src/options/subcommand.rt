@@ -20,6 +20,8 @@ pub(crate) enum Subcommand {
     Storm,
     /// Write parameters as a record.
     Params,
+    /// Decide a history again with other parameters.
+    WhatIf,
 }
 
 impl Subcommand {
@@ -36,6 +38,7 @@ impl Subcommand {
             "migrate" => Some(Subcommand::Migrate),
             "storm" => Some(Subcommand::Storm),
             "params" => Some(Subcommand::Params),
+            "what-if" => Some(Subcommand::WhatIf),
             _ => None,
         }
     }

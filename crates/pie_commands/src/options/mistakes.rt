@@ -1,0 +1,172 @@
+//! The lines after the message of a mistake in the command line: the values that an option takes, the nearest keyword, and
+//! the two options that exclude each other.
+ghost use Rattle.std.specs.Prelude.{◌≡◌, IfOk, option_map};
+ghost use Rattle.pie_commands.specs.Nearest.{nearest};
+
+use crate::options::argument::{Argument, ValueKind};
+use crate::options::command_line::arguments_of;
+use crate::options::subcommand::Subcommand;
+use crate::options::values::text;
+use clap::ArgMatches;
+use std::alloc::{AllocError, Global};
+use std::io::Write;
+use strsim::levenshtein;
+
+/// The options of other subcommands that choose the profile and the optional elements.
+const ELEMENTS: &[&str] = &["profile", "delay", "picking", "step", "size", "decay"];
+
+/// The greatest distance between a word and a keyword that is named for it.
+const FAR: usize = 2;
+
+/// Returns the keyword, `first` or `second`, that is nearest to `word`, if its distance is at most 2: the number of
+/// characters to insert, remove or replace (Levenshtein). If both are as near, returns `first`.
+///
+/// # Errors
+///
+/// `AllocError` if memory is short.
+fn nearest<'a>(
+    alloc: Global,
+    word: &str,
+    first: &'a str,
+    second: &'a str,
+) -> Result<Option<&'a str>, AllocError>
+    ensures { IfOk result (λ found. option_map (λ text. text.now) found ≡ nearest word.now first.now second.now) }
+{
+    let one = levenshtein(alloc, word, first)?;
+    let other = levenshtein(alloc, word, second)?;
+    if one <= FAR && one <= other {
+        return Ok(Some(first));
+    }
+    if other <= FAR {
+        return Ok(Some(second));
+    }
+    Ok(None)
+}
+
+/// If the text of the option `name` is neither of two keywords, writes a line with the text, and with the keyword that
+/// is nearest to it, if one is near. Ignores a failed write.
+pub(crate) fn report_keyword<E: Write>(
+    alloc: Global,
+    options: &ArgMatches<'_>,
+    name: &str,
+    first: &str,
+    second: &str,
+    errors: &mut E,
+) {
+    let Some(given) = text(options, name) else {
+        return;
+    };
+    if given == first || given == second {
+        return;
+    }
+    let _ = match nearest(alloc, given, first, second) {
+        Ok(Some(near)) => writeln!(
+            errors,
+            "pie: '{given}' is no value of --{name}; a similar value is '{near}'"
+        ),
+        _ => writeln!(errors, "pie: '{given}' is no value of --{name}"),
+    };
+}
+
+/// Writes a line with the first two of these options that are given, if two are. `given` has an element for each of
+/// `names`. Ignores a failed write.
+pub(crate) fn report_two<E: Write>(names: &[&str], given: &[bool], errors: &mut E) {
+    let mut before: Option<&str> = None;
+    for place in 0..names.len() {
+        if place < given.len() && given[place] {
+            let name = names[place];
+            if let Some(first) = before {
+                let _ = writeln!(errors, "pie: --{first} and --{name} are both given");
+                return;
+            }
+            before = Some(name);
+        }
+    }
+}
+
+/// Returns true if the text is a whole number in this range.
+fn is_in_range(text: &str, least: u64, most: u64) -> bool {
+    match text.parse::<u64>() {
+        Ok(number) => least <= number && number <= most,
+        Err(_) => false,
+    }
+}
+
+/// Returns the value that `word` gives to the option `name`: the text after its equals sign, or the `next` word.
+fn value_in<'a>(word: &'a str, next: Option<&'a str>, name: &str) -> Option<&'a str> {
+    let option = word.strip_prefix("--")?;
+    let rest = option.strip_prefix(name)?;
+    if rest.is_empty() {
+        next
+    } else {
+        rest.strip_prefix("=")
+    }
+}
+
+/// If `word` and the `next` one give the option a number that it does not take, writes a line with the numbers that it
+/// takes, and returns true.
+fn report_number<E: Write>(
+    argument: Argument,
+    word: &str,
+    next: Option<&str>,
+    errors: &mut E,
+) -> bool {
+    let ValueKind::Number(least, most) = argument.takes else {
+        return false;
+    };
+    let name = argument.name;
+    let Some(value) = value_in(word, next, name) else {
+        return false;
+    };
+    if is_in_range(value, least, most) {
+        return false;
+    }
+    let _ = writeln!(
+        errors,
+        "pie: --{name} takes a whole number from {least} to {most}, such as --{name} {least}"
+    );
+    true
+}
+
+/// Writes a line with the numbers that the first option takes whose value is not one of them, if there is one. `words` is
+/// the command line. Ignores a failed write.
+pub(crate) fn report_numbers<E: Write>(words: &[String], errors: &mut E) {
+    if words.len() < 3 {
+        return;
+    }
+    let Some(subcommand) = Subcommand::named(words[1].as_str()) else {
+        return;
+    };
+    let arguments = arguments_of(subcommand);
+    for place in 2..words.len() {
+        let next = if place < words.len() - 1 {
+            Some(words[place + 1].as_str())
+        } else {
+            None
+        };
+        for argument in arguments {
+            if report_number(*argument, words[place].as_str(), next, errors) {
+                return;
+            }
+        }
+    }
+}
+
+/// If `pie what-if` is given an option that chooses the profile or an element, writes a line with the reason why these
+/// cannot change. `words` is the command line. Ignores a failed write.
+pub(crate) fn report_elements<E: Write>(words: &[String], errors: &mut E) {
+    if words.len() < 3 || words[1].as_str() != "what-if" {
+        return;
+    }
+    for place in 2..words.len() {
+        for name in ELEMENTS {
+            if value_in(words[place].as_str(), Some(""), name).is_some() {
+                let _ = writeln!(
+                    errors,
+                    "pie: what-if cannot change --{name}: the first record of a history chooses the profile and the elements for all its events"
+                );
+                return;
+            }
+        }
+    }
+}

@@ -1,0 +1,67 @@
+//! The page of `pie what-if`: its arguments and its help.
+
+use crate::options::argument::{Argument, FILE, FORCE, PROGRESS, Page, ValueKind, row};
+
+/// The page of `pie what-if`.
+pub(crate) const WHAT_IF: Page<'static> = Page {
+    word: "what-if",
+    about: "Decides a history again with other parameters from a moment on",
+    help: "The input is a history or an excerpt. pie what-if audits it and decides its commands again, with other
+parameters from a moment on. The result is another history, which audits clean. Without -o the
+output compares both by the numbers of their summaries from that moment on. With -o FILE the output
+is the other history, and with -o - it is written to standard output.
+
+The first line says that senders do not react. A sender of TCP, for example, slows down after a loss
+or a mark, but here it sends the packets of the history. With -o or --csv this line is on standard
+error. The following is assumed:
+- Each packet arrives at the moment of the history, with the same random word.
+- The link is ready at the moments of the recorded departures, and only then. The oldest packet of
+  the other queue leaves. If that queue is empty, nothing leaves, and the event is recorded as empty.
+  The link is not ready earlier for a shorter packet, or later for a longer one.
+- Updates and resets come at the moments of the history. A command that the controller refuses, such
+  as an update before the due moment, is omitted. With a shorter --tupdate there are no more updates
+  than in the history.
+- A record params in the history changes the parameters that have no option here.
+
+The events before the first event at MOMENT or later are those of the history. A record params of
+caller 0 with the moment MOMENT follows, unless no parameter is given. Then each command is decided
+from the controller's state at that time. Nothing else is reset, but as after any record params the
+estimate of the departure rate is cleared, if the delay is computed from it. The delay then counts
+as 0 until the next measurement. Notes and clock records are copied.
+
+The moment and times are written as for pie explain: 400ms, 1.5ms or 1500000, which are nanoseconds.
+alpha and beta are in sixteenths per second, as for pie params. --limit is in bytes: the capacity of
+the queue in packets cannot change. The profile and the elements of RFC 8033 cannot change either,
+because the first record of a history chooses them for all its events.
+
+A comparison has a line for each number of a summary that is not 0 in both histories. pie explain
+--help describes the numbers. Times are in milliseconds, and probabilities in per cent, rounded
+down. With --csv there is a header, field,history,other,difference, and a record for each number,
+with times in nanoseconds and probabilities in units of 10^-12. A comparison reads its input into
+memory, and decides the other history there.
+
+If an event is not the one that the rules give at its place, a record cannot be read, or no event is
+at MOMENT or later, the status is 1, and there is no comparison. With -o FILE the output is moved to
+FILE only if the other history is complete. pie run --help describes -o.
+
+Example: what if the target had been 5 ms from 400 ms on?
+
+  pie what-if --from 400ms --target 5ms examples/overload.history",
+    arguments: &[
+        row!("from": Value("MOMENT"), "Change the parameters at this moment, such as 400ms. Default: none, it is required"),
+        row!("target": Value("TIME"), "Reference delay. Default: that of the history"),
+        row!("tupdate": Value("TIME"), "Least time between updates. Default: that of the history"),
+        row!("max_burst": Value("TIME"), "Burst allowance. Default: that of the history"),
+        row!("alpha": Number(0, 32), "Gain alpha of tc, 0 to 32. Default: that of the history"),
+        row!("beta": Number(0, 32), "Gain beta of tc, 0 to 32. Default: that of the history"),
+        row!("mean_pkt": Number(1, 65535), "Mean packet size in bytes. Default: that of the history"),
+        row!("limit": Number(1, 1_073_741_824), "Limit of the queue in bytes. Default: that of the history"),
+        row!("mark_ecnth": Number(0, 1_000_000_000_000), "Probability from which ECN-capable packets are dropped, in units of 10^-12. Default: that of the history"),
+        row!("dq_threshold": Number(1024, 65536), "Bytes in a cycle of the departure rate, a power of two. Default: that of the history"),
+        row!("csv": Nothing, "Write the comparison as CSV with a header. Default: words"),
+        PROGRESS,
+        row!("output": Lettered('o', "FILE"), "Write the other history to FILE, which is created or replaced when it is complete. Default: compare both"),
+        FORCE,
+        FILE,
+    ],
+};

@@ -1,0 +1,3 @@
+mod Examples
+mod LineFacts
+pub mod MemberFacts

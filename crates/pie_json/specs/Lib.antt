@@ -1,0 +1,4 @@
+pub mod Value
+pub mod Lines
+pub mod Rows
+pub mod Reading

@@ -9,9 +9,11 @@
 #![tactic(auto)]
 
 mod object;
+mod report;
 mod rows;
 mod value;
 
 pub use object::{push_member, push_name};
+pub use report::AsJson;
 pub use rows::JsonRows;
 pub use value::push_value;

@@ -1,9 +1,9 @@
 -- Facts about the lines of a text that grows, and about their objects.
-use Rattle.std.proofs.Common.{ℕ, ◌≡◌, ◌==◌, ◌∙◌, Bool, true, false, if◌then◌else◌, List, [], ◌∷◌, ◌++◌, ap, append-nil, append_assoc, map, refl, subst, sym, true≢false}
+use Rattle.std.proofs.Common.{ℕ, ◌≡◌, ◌==◌, ◌∙◌, true, false, if◌then◌else◌, List, [], ◌∷◌, ◌++◌, ap, append-nil, append_assoc, map, refl, sym, true≢false}
 use Rattle.std.specs.List.{flat_map}
 use Rattle.std.proofs.lemmas.List.Concat.{flat_map-append}
 use Rattle.pie_json.specs.Lines.{lines_from, lines_of, rest_from, rest_of}
-use Rattle.pie_json.specs.Rows.{has_header, names_in, names_of, object, objects, objects_of, rows_in}
+use Rattle.pie_json.specs.Rows.{has_header, names_in, names_of, object, objects, objects_of}
 use Rattle.pie_json.specs.Reading.{Grows, HasRead}
 use Rattle.pie_json.specs.declared.rows.JsonRows.{JsonRows}
 

@@ -1,5 +1,5 @@
 -- The objects that represent CSV text.
-use Rattle.std.specs.Prelude.{ℕ, ◌≡◌, Bool, true, false, List, [], ◌∷◌, ◌++◌, codes, map}
+use Rattle.std.specs.Prelude.{ℕ, Bool, true, false, List, [], ◌∷◌, ◌++◌, codes}
 use Rattle.std.specs.List.{flat_map}
 use Rattle.pie_json.specs.Value.{string, value}
 use Rattle.pie_json.specs.Lines.{fields_of, lines_of}

@@ -1,4 +1,5 @@
-pub mod Value
+pub mod Law
 pub mod Lines
-pub mod Rows
 pub mod Reading
+pub mod Rows
+pub mod Value

@@ -8,11 +8,13 @@
 //! and any other field a string. Fields have no quotes, so a comma always ends a field.
 #![tactic(auto)]
 
+mod law;
 mod object;
 mod report;
 mod rows;
 mod value;
 
+pub use law::rows_are_written_as_objects;
 pub use object::{push_member, push_name};
 pub use report::AsJson;
 pub use rows::JsonRows;

@@ -15,12 +15,13 @@ use Rattle.pie_units.specs.Time.{moment_in, when_in}
 use Rattle.pie_units.specs.declared.when.When.{When}
 use Rattle.pie_units.specs.declared.when.WhenFault.{WhenFault}
 use Rattle.pie_explain.specs.Output.{as_records, in_words, pages}
+use Rattle.pie_json.specs.Rows.{objects_of}
 use Rattle.pie_summary.specs.ByFlow.{flows_whole}
 use Rattle.pie_summary.specs.Summary.{without_packets, summary_of}
 use Rattle.pie_summary.specs.Lines.{lines_whole}
 use Rattle.pie_summary.specs.declared.lines.LineStyle.{LineStyle}
 use Rattle.pie_commands.specs.declared.explain.OutputKind.{OutputKind}
-use Rattle.pie_commands.specs.declared.explain.OutputKind.TheVariants.{Digest, Flows, Lines, Records, Sums, Words}
+use Rattle.pie_commands.specs.declared.explain.OutputKind.TheVariants.{Digest, Flows, JsonFlows, JsonRecords, JsonSums, Lines, Records, Sums, Words}
 use Rattle.pie_explain.specs.declared.fault.ExplainFault.{ExplainFault}
 use Rattle.pie_explain.specs.TextAnswer.{ExplainsText}
 use Rattle.pie_commands.specs.declared.end.End.{End}
@@ -75,9 +76,13 @@ is_summary options =
     not (is_selected options)
     || ((flag_given (codes "summary") options || is_some (every_of options)) || (is_digest options || is_some (flows_of options)))
 
--- true unless a digest and sums by flow are both requested
-abbrev pub is_either : Bool → Option ℕ → Bool
-is_either digest flows = not (digest && is_some flows)
+-- true if these options request objects of JSON
+abbrev pub is_json : List Row → Bool
+is_json options = flag_given (codes "json") options
+
+-- true unless a digest is requested together with sums by flow, or JSON together with CSV or a digest
+abbrev pub may_combine : Bool → Option ℕ → Bool → Bool → Bool
+may_combine digest flows json csv = not (digest && is_some flows) && not (json && (csv || digest))
 
 -- the chosen events, if at most one of the five options chooses some; without any of them all events
 abbrev pub chosen : Option ℕ → Option ℕ → Bool → Bool → Bool → Option EventChoice
@@ -115,11 +120,11 @@ selection_at _ _ _ _ allowed = None
 unfoldable pub selection_of : List Row → Option Selection
 selection_of options =
     selection_at (chosen_events options) (result_ok (bound_given (codes "from") options)) (result_ok (bound_given (codes "to") options))
-    (result_ok (moment_given (codes "every") options)) (is_either (is_digest options) (flows_of options))
+    (result_ok (moment_given (codes "every") options)) (may_combine (is_digest options) (flows_of options) (is_json options) (flag_given (codes "csv") options))
 
 -- the form: CSV or words, with wall-clock times or without
-abbrev pub form_of : List Row → Form
-form_of options = record { csv = flag_given (codes "csv") options; by_wall = flag_given (codes "wall") options }
+abbrev pub form_of : List Row → Bool → Form
+form_of options csv = record { csv = csv; by_wall = flag_given (codes "wall") options }
 
 -- the kind of output that has each event by itself: as a CSV record, or in words
 abbrev pub each_kind : Form → OutputKind
@@ -140,10 +145,22 @@ output_kind_by true true None full style every form = Digest (record { form = fo
 output_kind_by true false None full style every form = sums_kind full style every form
 output_kind_by false packets flows full style every form = each_kind form
 
+-- the kind of output without `--json`, as CSV or not
+abbrev pub plain_kind_of : LineStyle → List Row → Bool → OutputKind
+plain_kind_of style options csv =
+    output_kind_by (is_summary options) (is_digest options) (flows_of options) (flag_given (codes "full") options) style (every_of options)
+    (form_of options csv)
+
+-- the kind with objects of JSON instead of CSV
+abbrev pub as_json : OutputKind → OutputKind
+as_json (Records records) = JsonRecords records
+as_json (Sums sums) = JsonSums sums
+as_json (Flows by_flow) = JsonFlows by_flow
+as_json kind = kind
+
 abbrev pub output_kind_of : LineStyle → List Row → OutputKind
 output_kind_of style options =
-    output_kind_by (is_summary options) (is_digest options) (flows_of options) (flag_given (codes "full") options) style (every_of options)
-    (form_of options)
+    if is_json options then as_json (plain_kind_of style options true) else plain_kind_of style options (flag_given (codes "csv") options)
 
 -- the output of a kind for these explained events
 abbrev pub output_text : OutputKind → List Explained → List ℕ
@@ -153,6 +170,9 @@ output_text (Sums sums) = summary_of (without_packets sums)
 output_text (Lines lines) = lines_whole lines
 output_text (Digest summaries) = summary_of summaries
 output_text (Flows by_flow) = flows_whole by_flow
+output_text (JsonRecords records) = λ all. objects_of (pages (as_records records.by_wall) all)
+output_text (JsonSums sums) = λ all. objects_of (summary_of (without_packets sums) all)
+output_text (JsonFlows by_flow) = λ all. objects_of (flows_whole by_flow all)
 
 -- ---- the end
 

@@ -5,7 +5,7 @@ ghost use Rattle.pie_record.specs.Text.{records_of};
 ghost use Rattle.pie_explain.specs.TextAnswer.{ExplainsText};
 ghost use Rattle.pie_commands.specs.Subcommands.{EndsAs};
 ghost use Rattle.pie_commands.specs.declared.options.subcommand.Subcommand.{Subcommand};
-ghost use Rattle.pie_commands.specs.Explanations.{selection_of, chosen_events, every_of, is_selected, is_summary, output_kind_of, output_text, sums_kind};
+ghost use Rattle.pie_commands.specs.Explanations.{selection_of, as_json, chosen_events, every_of, is_selected, is_summary, output_kind_of, output_text, plain_kind_of, sums_kind};
 ghost use Rattle.pie_commands.specs.Explanations.{EndsExplainBy, end_of_explain};
 
 use crate::difference::report_difference;
@@ -16,6 +16,7 @@ use crate::options::{NO_ORDER, bound, file, flag, in_order, moment, number, pars
 use crate::progress::{ProgressReader, Screen, shows_progress, writes_to_terminal};
 use clap::ArgMatches;
 use pie_explain::{EventChoice, ExplainFault, Form, Records, Selection, Words};
+use pie_json::AsJson;
 use pie_summary::{ByFlow, IntervalLines, LineStyle, Summaries, SummariesOnly};
 use std::alloc::Global;
 use std::io::{Read, Write};
@@ -29,6 +30,9 @@ const NO_PERIOD: &str = "--every: the interval must be at least 1 ns";
 
 /// The message for `--flows` together with `--digest`.
 const NOT_BOTH: &str = "--flows cannot be combined with --digest";
+
+/// The message for `--json` together with `--csv` or `--digest`.
+const JSON_ALONE: &str = "--json cannot be combined with --csv or --digest";
 
 /// Returns the length of an interval in these options, if it is valid.
 fn every_of(options: &ArgMatches<'_>) -> Option<u64>
@@ -122,6 +126,10 @@ fn selection_of<E: Write>(options: &ArgMatches<'_>, errors: &mut E) -> Option<Se
         fault(errors, NOT_BOTH);
         return None;
     }
+    if flag(options, "json") && (flag(options, "csv") || flag(options, "digest")) {
+        fault(errors, JSON_ALONE);
+        return None;
+    }
     if !in_order(from, to) {
         fault(errors, NO_ORDER);
         return None;
@@ -143,6 +151,24 @@ pub(crate) enum OutputKind {
     Digest(Summaries),
     /// Sums by flow, with rows for a limited number of flows.
     Flows(ByFlow),
+    /// `Records` as objects of JSON.
+    JsonRecords(Records),
+    /// `Sums` in CSV as objects of JSON.
+    JsonSums(SummariesOnly),
+    /// `Flows` in CSV as objects of JSON.
+    JsonFlows(ByFlow),
+}
+
+/// Returns the kind with objects of JSON instead of CSV.
+fn as_json(kind: OutputKind) -> OutputKind
+    ensures { result ≡ as_json kind }
+{
+    match kind {
+        OutputKind::Records(each) => OutputKind::JsonRecords(each),
+        OutputKind::Sums(sums) => OutputKind::JsonSums(sums),
+        OutputKind::Flows(flows) => OutputKind::JsonFlows(flows),
+        _ => kind,
+    }
 }
 
 /// Returns the kind of summaries: of each interval in words a line, unless `full`, in this style.
@@ -166,12 +192,12 @@ fn sums_kind(full: bool, style: LineStyle, every: Option<u64>, form: Form) -> Ou
     }
 }
 
-/// Returns the kind of output that these options request: each event, or sums over the events. Lines have this
-/// style.
-fn output_kind_of(options: &ArgMatches<'_>, style: LineStyle) -> OutputKind
-    ensures { result ≡ output_kind_of style (rows_of (found_of options.now)) }
+/// Returns the kind of output that these options request, without `--json`: each event, or sums over the events. `csv` is
+/// true for CSV. Lines have this style.
+fn plain_kind_of(options: &ArgMatches<'_>, style: LineStyle, csv: bool) -> OutputKind
+    ensures { result ≡ plain_kind_of style (rows_of (found_of options.now)) csv }
 {
-    let (csv, by_wall) = (flag(options, "csv"), flag(options, "wall"));
+    let by_wall = flag(options, "wall");
     let (packets, flows) = (flag(options, "digest"), number(options, "flows"));
     let (every, form) = (every_of(options), Form { csv, by_wall });
     match (is_summary(options), packets, flows) {
@@ -192,6 +218,17 @@ fn output_kind_of(options: &ArgMatches<'_>, style: LineStyle) -> OutputKind
     }
 }
 
+/// Returns the kind of output that these options request. With `--json` it has the objects for the CSV text. Lines have
+/// this style.
+fn output_kind_of(options: &ArgMatches<'_>, style: LineStyle) -> OutputKind
+    ensures { result ≡ output_kind_of style (rows_of (found_of options.now)) }
+{
+    if flag(options, "json") {
+        return as_json(plain_kind_of(options, style, true));
+    }
+    plain_kind_of(options, style, flag(options, "csv"))
+}
+
 /// Writes the explanations of the chosen events.
 fn explain_with<R: Read + Drop, W: Write>(
     alloc: Global,
@@ -210,6 +247,15 @@ fn explain_with<R: Read + Drop, W: Write>(
         OutputKind::Lines(lines) => pie_explain::explain(alloc, input, output, selection, lines),
         OutputKind::Digest(digest) => pie_explain::explain(alloc, input, output, selection, digest),
         OutputKind::Flows(flows) => pie_explain::explain(alloc, input, output, selection, flows),
+        OutputKind::JsonRecords(report) => {
+            pie_explain::explain(alloc, input, output, selection, AsJson { report })
+        }
+        OutputKind::JsonSums(report) => {
+            pie_explain::explain(alloc, input, output, selection, AsJson { report })
+        }
+        OutputKind::JsonFlows(report) => {
+            pie_explain::explain(alloc, input, output, selection, AsJson { report })
+        }
     }
 }
 

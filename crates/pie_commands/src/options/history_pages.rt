@@ -159,6 +159,7 @@ The output is why the last packet of that trace was dropped:
         row!("flows": Number(1, 1000), "Write a summary of each of the N flows with the most bytes, and one of all others. Default: off"),
         row!("digest": Nothing, "Write summaries, and between them an explanation of each lost or marked packet. Default: off"),
         row!("csv": Nothing, "Write CSV with a header. Default: words"),
+        row!("json": Nothing, "Write one object of JSON a line for each CSV record. Default: words"),
         row!("wall": Nothing, "Write moments as wall-clock times in UTC, if the history has them. Default: off"),
         PROGRESS,
         OUTPUT,

@@ -1,0 +1,4 @@
+mod Examples
+pub mod LawFacts
+mod LineFacts
+pub mod MemberFacts

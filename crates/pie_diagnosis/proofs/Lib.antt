@@ -1,2 +1,3 @@
+mod Examples
 mod FaultFacts
 pub mod RefusedFacts

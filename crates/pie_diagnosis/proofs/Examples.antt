@@ -3,7 +3,7 @@ use Rattle.std.specs.Prelude.{◌∷◌, ◌≡◌, ◌-◌, ◌^◌, codes}
 use Rattle.pie_diagnosis.specs.{[], Some, None, true, false, refl}
 use Rattle.pie_diagnosis.specs.Names.{One, Three, field_at, number}
 use Rattle.pie_diagnosis.specs.Allowed.{accepts, allowed, keywords_of}
-use Rattle.pie_diagnosis.specs.Forms.{clock_form, fields_of, form_of, history_form, note_form, opening_fields, trace_form}
+use Rattle.pie_diagnosis.specs.Forms.{clock_form, fields_of, history_form, note_form, opening_fields, trace_form}
 use Rattle.pie_diagnosis.specs.Refused.{first_refused, refused_by}
 use Rattle.pie_diagnosis.specs.declared.allowed.Allowed.TheVariants as content
 use Rattle.pie_diagnosis.specs.declared.allowed.Keywords.TheVariants as keywords

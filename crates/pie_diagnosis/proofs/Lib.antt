@@ -1,1 +1,3 @@
+mod Examples
+mod FaultFacts
 pub mod RefusedFacts

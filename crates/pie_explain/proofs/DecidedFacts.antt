@@ -1,9 +1,9 @@
 -- Facts about the event that a reader decides again: no line before it is the first difference with its number.
-use Rattle.std.proofs.Common.{◌∙◌, ap, append_assoc, refl, subst, sym}
+use Rattle.std.proofs.Common.{◌∙◌, ap, append_assoc, arith, refl, subst, sym}
 use Rattle.std.specs.Option.{option_or}
-use Rattle.std.specs.Prelude.{ℕ, Bool, true, false, List, [], Option, Some, None, Result, Ok, Err, IfSome, map, if◌then◌else◌, ◌≡◌, ◌+◌, ◌∷◌, ◌++◌}
+use Rattle.std.specs.Prelude.{ℕ, Bool, true, false, List, [], Option, Some, None, Result, Ok, Err, IfSome, cond, map, if◌then◌else◌, ◌≡◌, ◌+◌, ◌<◌, ◌∷◌, ◌++◌}
 use Rattle.pie_aqm.specs.Steps.{delay_in}
-use Rattle.pie_explain.proofs.Names.{along-push, difference-push}
+use Rattle.pie_explain.proofs.Names.{along-push, append-nil, count-push, difference-push, nat_tests}
 use Rattle.pie_audit.specs.Replay.{AuditorView, difference_from, differs_from, finding_by, line_places, Origin, RepresentsAfter, at_core, at_opening, count_after, start_after, start_at, Replays, next_number, Start}
 use Rattle.pie_audit.specs.Beginnings.{ReplaysText}
 use Rattle.pie_audit.specs.Text.{BeginsAtCore, remaining_of, text_fault}
@@ -22,14 +22,14 @@ use Rattle.pie_event.specs.declared.refusal.Refusal.{Refusal}
 use Rattle.pie_event.specs.declared.registers.Registers.{Registers}
 use Rattle.pie_event.specs.declared.setter.Setter.{Setter}
 use Rattle.pie_excerpt.specs.Beginning.{Beginning, beginning_of}
-use Rattle.pie_explain.specs.DecidedEvent.{DecidesAfter, DecidesEvent, HasReached, IsDecided, decision_at, decision_by, result_after, wait_if_decided, with_answer}
+use Rattle.pie_explain.specs.DecidedEvent.{DecidesAfter, DecidesEvent, HasReached, IsDecided, IsPast, last_decided, decision_at, decision_by, result_after, wait_if_decided, with_answer}
 use Rattle.pie_explain.specs.Explanation.{explanation, explanation_in, with_core}
 use Rattle.pie_explain.specs.declared.decided_event.DecidedEvent.{DecidedEvent}
 use Rattle.pie_explain.specs.declared.decided_event.EventDecision.{EventDecision}
 use Rattle.pie_explain.specs.declared.decided_event.EventDecision.TheVariants.{Answered}
 use Rattle.pie_explain.specs.declared.explanation.Explained.{Explained}
 use Rattle.pie_explain.specs.declared.explanation.Explanation.{Explanation}
-use Rattle.pie_record.specs.HistoryLines.{RemainingLines, is_event}
+use Rattle.pie_record.specs.HistoryLines.{RemainingLines, event_count, is_event}
 use Rattle.pie_record.specs.Text.{Row}
 use Rattle.pie_record.specs.declared.clock.Clock.{Clock}
 use Rattle.pie_record.specs.declared.fault.TraceFault.{TraceFault}
@@ -38,11 +38,24 @@ use Rattle.pie_queue.specs.Queue.{bytes_of}
 use Rattle.pie_record.specs.declared.history_record.Line.{Line}
 use Rattle.pie_record.specs.declared.history_record.Line.TheVariants.{Invalid, Valid}
 
--- the lines that were read after any others were decided again, and the first difference among them does not have this number
+-- the lines that were read after any others were decided again, the first difference among them does not have this number, and none of the decided
+-- events has it
 abbrev pub Passed : ℕ → Replay → Replay → List Line → Type 0
 Passed number old new seen = (start : Start) (origin : Origin) (first : List Line) → Replays start origin first old.auditor old.set_by
     → Replays start origin (first ++ seen) new.auditor new.set_by
     × (difference_from origin first ≡ None → difference_from origin (first ++ seen) ≡ Some number → ⊥)
+    × IsPast origin first (first ++ seen) number
+
+-- before the first line
+pub passed_none : (number : ℕ) (replay : Replay) → Passed number replay replay []
+passed_none number replay start origin first before =
+    subst (λ (lines : List Line). Replays start origin lines replay.auditor replay.set_by
+    × (difference_from origin first ≡ None → difference_from origin lines ≡ Some number → ⊥) × IsPast origin first lines number)
+    (sym (append-nil first)) (
+      before,
+      λ none some. let wrong = sym none ∙ some in cc,
+      λ none under. rw none under,
+    )
 
 -- a line that differs is an event
 differing : (origin : Origin) (lines : List Line) (line : Line) → differs_from origin lines line ≡ true → is_event line ≡ true
@@ -63,6 +76,26 @@ not-here origin lines line number before other is =
     by (Some event) differs is count events before other same = before same
     by None true is count events before other same = other (events refl) same
     by None false is count events before other same = cc
+
+-- one line more, which is no event with this number
+pub still-past : (origin : Origin) (first lines : List Line) (line : Line) (number : ℕ) → IsPast origin first lines number
+    → (is_event line ≡ true → next_number (difference_from origin lines) (count_after origin lines) ≡ Some number → ⊥)
+    → IsPast origin first (lines ++ line ∷ []) number
+still-past origin first lines line number before other none under =
+    rw (difference-push origin lines line, count-push origin lines line) (by (difference_from origin lines) (differs_from origin lines line)
+    (is_event line) (count_after origin lines) (differing origin lines line) (before none under) other)
+  where
+    past : (count : ℕ) → count < number → (Some (count + 1) ≡ Some number → ⊥) → count + 1 < number
+    past count under other = let ne : count + 1 ≡ number → ⊥ = λ e. other (ap (λ (n : ℕ). Some n) e) in grind (arith, nat_tests, ne, under)
+
+    by : (found : Option ℕ) (differs event : Bool) (count : ℕ) → (differs ≡ true → event ≡ true) → last_decided (finding_by found count) < number
+        → (event ≡ true → next_number found count ≡ Some number → ⊥)
+        → last_decided (finding_by (option_or found (if differs then Some (count + 1) else None)) (count + cond event 1 0)) < number
+    by (Some event) differs is count events under other = under
+    by None true true count events under other = past count under (other refl)
+    by None true false count events under other = let wrong = events refl in cc
+    by None false true count events under other = past count under (other refl)
+    by None false false count events under other = omega (arith, under)
 
 -- ---- the decision on an event
 
@@ -149,6 +182,11 @@ none-first : (origin : Origin) → difference_from origin [] ≡ None
 unfolding difference_from line_places
 none-first origin = refl
 
+count-first : (opening : Opening) (core : CoreView) (set_by : Option ℕ) (number : ℕ) → core.count < number
+    → count_after (at_core opening core set_by) [] < number
+unfolding event_count
+count-first opening core set_by number after = omega (arith, after)
+
 pub faulted : (rows : List Row) (why : TraceFault) → beginning_of rows ≡ Err why → text_fault rows ≡ Some why
 unfolding text_fault
 faulted rows why is = rw is refl
@@ -173,6 +211,7 @@ pub text-decides : (rows : List Row) (opening : Opening) (auditor : AuditorView)
 text-decides rows opening auditor set_by before remaining_lines number (Ok (Some decided)) text decides = (
   λ whole core named is. rw text.comes at (decides (start_at core named) (at_core whole core named) [] (text.stands whole core named is).follows),
   λ whole past named it. rw text.comes at (decides (start_after named past) (at_opening whole) (map Valid past) (text.continued whole past named it).follows),
+  text.begins,
 )
 text-decides rows opening auditor set_by before remaining_lines number (Ok None) text decides =
     let at : (begun : Beginning) → beginning_of rows ≡ Ok begun → DecidesAfter (start_at begun.core begun.set_by)
@@ -182,6 +221,7 @@ text-decides rows opening auditor set_by before remaining_lines number (Ok None)
     let begun = begun-by rows (beginning_of rows) refl text.begins in (
       (at begun.0 begun.1).0,
       λ it is differs. (at it is).1 (none-first (at_core it.opening it.core it.set_by)) (finding-differs _ _ number differs),
+      λ it is after. (at it is).2 (none-first (at_core it.opening it.core it.set_by)) (count-first it.opening it.core it.set_by number after),
     )
 text-decides rows opening auditor set_by before remaining_lines number (Err why) text decides =
     let begun = begun-by rows (beginning_of rows) refl text.begins in

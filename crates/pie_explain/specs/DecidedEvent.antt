@@ -1,9 +1,10 @@
 -- The decision of the rules at the place of an event, whatever a text records there.
-use Rattle.std.specs.Prelude.{ℕ, Bool, true, false, List, [], Option, Some, None, Result, Ok, Err, map, ◌≡◌, ◌+◌, ◌∷◌, ◌++◌}
-use Rattle.pie_audit.specs.Replay.{AuditorView, difference_from, events_of, Origin, at_core, at_opening, count_after, Replays, setter_in, Start, setter_from_start, start_after, start_at}
+use Rattle.std.specs.Prelude.{ℕ, Bool, true, false, List, [], Option, Some, None, Result, Ok, Err, map, ◌≡◌, ◌+◌, ◌<◌, ◌∷◌, ◌++◌}
+use Rattle.pie_audit.specs.Replay.{AuditorView, difference_from, finding_from, events_of, Origin, at_core, at_opening, count_after, Replays, setter_in, Start, setter_from_start, start_after, start_at}
 use Rattle.pie_audit.specs.Beginnings.{BeginsBy}
 use Rattle.pie_audit.specs.Text.{BeginsAtCore, finding_at, text_fault, text_lines}
-use Rattle.pie_audit.specs.declared.auditor.Finding.TheVariants.{Differs}
+use Rattle.pie_audit.specs.declared.auditor.Finding.{Finding}
+use Rattle.pie_audit.specs.declared.auditor.Finding.TheVariants.{Clean, Differs}
 use Rattle.pie_book.specs.Core.{CoreView, answer_in, core_along}
 use Rattle.pie_book.specs.Decision.{decision, refusal_by_rule}
 use Rattle.pie_book.specs.Book.{refused_or}
@@ -68,17 +69,31 @@ pub record IsDecided (start : Start) (origin : Origin) (lines : List Line) (numb
   pub counted : number ≡ count_after origin before + 1
   pub decision : decided.decision ≡ decision_at start origin before decided.recorded
 
--- the result of `decide_event`, unless the reader or memory failed: the decision by the core of the text's beginning,
--- whatever its numbers are, and by every history that the text continues; no event only if the audit does not find that
--- the event with this number differs; or the first fault of the text
+-- the last event that is decided again: the first that differs, otherwise the last one
+abbrev pub last_decided : Finding → ℕ
+last_decided (Clean events) = events
+last_decided (Differs event) = event
+
+-- an event with this number is none of those that are decided again in these lines: if it comes after the lines `first`,
+-- the last of those comes before it
+abbrev pub IsPast : Origin → List Line → List Line → ℕ → Type 0
+IsPast origin first lines number =
+    difference_from origin first ≡ None → count_after origin first < number → last_decided (finding_from origin lines) < number
+
+-- the result of `decide_event`, unless the reader or memory failed. An event: the beginning has no fault, and the decision
+-- is the one by the core of the beginning, whatever its numbers are, and by every history that the text continues. No
+-- event: the text has no fault, the audit does not find that the event with this number differs, and the event comes
+-- before the text, after its last event, or after the first event that differs. Otherwise the first fault of the text
 abbrev pub DecidesEvent : List Row → ℕ → Result (Option DecidedEvent) TraceFault → Type 0
 DecidesEvent rows number (Ok (Some decided)) =
     ((opening : Opening) (core : CoreView) (set_by : Option ℕ) → BeginsAtCore rows opening core set_by
     → IsDecided (start_at core set_by) (at_core opening core set_by) (text_lines rows) number decided)
     × ((opening : Opening) (past : List Event) (set_by : Option ℕ) → BeginsBy rows opening past set_by
     → IsDecided (start_after set_by past) (at_opening opening) (map Valid past ++ text_lines rows) number decided)
+    × ((why : TraceFault) → beginning_of rows ≡ Err why → ⊥)
 DecidesEvent rows number (Ok None) =
     (text_fault rows ≡ None) × ((begun : Beginning) → beginning_of rows ≡ Ok begun → finding_at begun rows ≡ Differs number → ⊥)
+    × ((begun : Beginning) → beginning_of rows ≡ Ok begun → begun.core.count < number → last_decided (finding_at begun rows) < number)
 DecidesEvent rows number (Err why) = is_io_or_memory why ≡ false → text_fault rows ≡ Some why
 
 -- ---- a reader of lines
@@ -100,6 +115,7 @@ abbrev pub ReadsTo : Start → Origin → List Line → RemainingLines → ℕ �
 ReadsTo start origin first all number auditor set_by line (Ok true) = HasReached start origin first all number auditor set_by line
 ReadsTo start origin first all number auditor set_by line (Ok false) =
     (all.fault ≡ None) × (difference_from origin first ≡ None → difference_from origin (first ++ all.lines) ≡ Some number → ⊥)
+    × IsPast origin first (first ++ all.lines) number
 ReadsTo start origin first all number auditor set_by line (Err why) = is_io_or_memory why ≡ false → all.fault ≡ Some why
 
 -- the result for the remaining lines, if the lines `first` come before them
@@ -107,4 +123,5 @@ abbrev pub DecidesAfter : Start → Origin → List Line → RemainingLines → 
 DecidesAfter start origin first all number (Ok (Some decided)) = IsDecided start origin (first ++ all.lines) number decided
 DecidesAfter start origin first all number (Ok None) =
     (all.fault ≡ None) × (difference_from origin first ≡ None → difference_from origin (first ++ all.lines) ≡ Some number → ⊥)
+    × IsPast origin first (first ++ all.lines) number
 DecidesAfter start origin first all number (Err why) = is_io_or_memory why ≡ false → all.fault ≡ Some why

@@ -62,6 +62,7 @@ fn is_next(replay: &Replay, number: u64) -> bool
 
 /// Reads lines into `line` and decides their events again, up to the event with this number. Returns true if `line` is
 /// this event: it is then not yet decided. Returns false if there is none, or an event before it differs.
+#[tactic(auto, using(crate::proofs::DecidedFacts::passed_none))]
 fn read_to<R: Read + Drop>(
     lines: &mut TextLines<R>,
     replay: &mut Replay,

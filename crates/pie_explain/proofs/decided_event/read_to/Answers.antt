@@ -3,7 +3,7 @@ use Rattle.pie_explain.proofs.Names.{reads-more}
 use Rattle.pie_audit.specs.Replay.{AuditsFrom, difference_from, Origin, count_after, next_number}
 use Rattle.pie_record.specs.HistoryLines.{is_event}
 use Rattle.pie_record.specs.declared.history_record.Line.{Line}
-use Rattle.pie_explain.proofs.DecidedFacts.{not-here}
+use Rattle.pie_explain.proofs.DecidedFacts.{not-here, still-past}
 use Rattle.pie_explain.proofs.decided_event.read_to.Goals.{else-is_event-via-then-is_event+else-is_next, else-is_event-via-else-is_event}
 use Rattle.pie_explain.proofs.decided_event.read_to.Goals as goal
 
@@ -21,4 +21,5 @@ lines-preserved g c =
     rw (← append_assoc first seen (line ∷ [])) (
       c.feed.ensures.follows start origin (first ++ seen) passed.0,
       λ none. not-here origin (first ++ seen) line c.args.number (passed.1 none) (other origin (first ++ seen) passed.0.audits),
+      still-past origin first (first ++ seen) line c.args.number passed.2 (other origin (first ++ seen) passed.0.audits),
     ))

@@ -286,7 +286,7 @@ static __always_inline bool write_name(struct queue *queue) {
     u32 namespace = 0;
     if (record == NULL)
         return false;
-    fill_head(&record->head, queue, WATCH_QUEUE, queue->seq, NOW);
+    fill_head(&record->head, queue, WATCH_QUEUE, queue->seq - queue->lost, NOW);
     record->address = queue->key;
     record->kind = queue->kind;
     READ(record->ifindex, device, net_device, ifindex);

@@ -1,6 +1,6 @@
-# For the first processes of the kernels that scripts boot here (boot_init.sh, measure.sh, mutants.sh). guest.sh copies this file to /watch.sh, and each
-# reads it by `.` after /net.sh.
-in_queue="/bin/ip netns exec r"
+# For the first processes of the kernels that scripts boot here (boot_init.sh, measure.sh, mutants.sh, package_init.sh). guest.sh copies this file to
+# /watch.sh, and each reads it by `.` after /net.sh.
+in_queue="/bin/ip netns exec r" device=rb
 run_as=
 
 # watches NAME WORDS..: starts pie-watch, by `in_queue` in the namespace of the queue and by `run_as` as another user, and waits until it records
@@ -33,8 +33,8 @@ queues() {
 
 # floods COUNT SIZE: UDP of this size, with ECN, by the kernel's packet generator, from ports that change, to an address at the link that no host has
 floods() {
-    $in_queue $box sh -c "cd /proc/net/pktgen && echo add_device rb > kpktgend_0 && for words in 'count $1' 'pkt_size $2' 'ratep 20000' 'dst 10.0.2.9' \
+    $in_queue $box sh -c "cd /proc/net/pktgen && echo add_device $device > kpktgend_0 && for words in 'count $1' 'pkt_size $2' 'ratep 20000' 'dst 10.0.2.9' \
         'dst_mac 02:00:00:00:00:09' 'tos 02' 'udp_src_min 1000' 'udp_src_max 1100' 'flag UDPSRC_RND' 'xmit_mode queue_xmit'
-        do echo \$words > rb || echo FAILED pktgen; done
+        do echo \$words > $device || echo FAILED pktgen; done
         echo start > pgctrl; echo rem_device_all > kpktgend_0"
 }

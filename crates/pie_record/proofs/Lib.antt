@@ -1,6 +1,5 @@
 mod LaneFacts
 mod FieldFacts
-mod InputFacts
 mod ScanFacts
 mod LineReads
 mod HistoryFacts

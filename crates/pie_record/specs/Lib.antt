@@ -1,6 +1,10 @@
 pub mod Names
 pub mod Field
 pub mod Text
+pub mod PlainLine
+pub mod Input
+pub mod Plain
+pub mod Source
 pub mod Command
 pub mod FirstRecord
 pub mod HistoryLines
@@ -9,6 +13,9 @@ pub mod ReadBack
 unfoldable pub use Names.*
 unfoldable pub use Field.*
 unfoldable pub use Text.*
+unfoldable pub use PlainLine.*
+unfoldable pub use Input.*
+unfoldable pub use Plain.*
 unfoldable pub use Command.*
 unfoldable pub use FirstRecord.*
 unfoldable pub use HistoryLines.*

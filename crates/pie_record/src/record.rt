@@ -1,7 +1,7 @@
 //! One record of a text.
 ghost use Rattle.std.specs.Prelude.{◌≡◌, ◌≤◌, ◌<◌, ◌+◌, ◌-◌, ◌^◌, ◌++◌, ◌∷◌, get_or};
 ghost use Rattle.pie_record.specs.{[], ℕ, IfSome, Some, drop, length, number, option_and_then, option_map, field_at, text_of, IsLine, Row, split_line, start_of, IfOk, IfErr, ReadsPlain, TraceFault, IsReading, rows_left, fields_of};
-ghost use Rattle.pie_record.specs.Text.{StepsBy};
+ghost use Rattle.pie_record.specs.Source.{StepsBy};
 
 use crate::TraceFault;
 use crate::fault::ReadFailure;

@@ -1,4 +1,4 @@
-use Rattle.pie_record.specs.Text.{source_left}
+use Rattle.pie_record.specs.Source.{source_left}
 use Rattle.pie_record.proofs.InputFacts.{left-later}
 use Rattle.pie_record.proofs.records.take_record.Goals as goal
 

@@ -1,6 +1,6 @@
 use Rattle.std.proofs.Common.{◌≡◌}
 use Rattle.pie_record.specs.{IfSome, Some}
-use Rattle.pie_record.specs.Text.{IsSource, source_left}
+use Rattle.pie_record.specs.Source.{IsSource, source_left}
 use Rattle.pie_record.proofs.records.take_record.Given as goal
 
 abbrev pub invariant-loop-steps : goal.invariant-loop-steps

@@ -53,6 +53,12 @@ rests() {
     asks
 }
 
+# falls: fills the queue, and sends packets more slowly while it empties
+falls() {
+    floods 2000 500
+    floods 800 500 1000
+}
+
 # crawls COUNT SIZE SECONDS: packets that leave at 1 kB/s, for this time
 crawls() {
     asks

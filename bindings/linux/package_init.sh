@@ -25,7 +25,7 @@ records() {
     name=$1
     shift
     tc qdisc add dev eth0 root handle 1: "$@" || echo "FAILED tc $*"
-    watches "$name" eth0 -o "$name.csv"
+    watches "$name" eth0 --ring 256 -o "$name.csv"
     iperf3 -c 10.0.2.1 -P 2 -n $bytes > /dev/null 2>&1 &
     tcp=$!
     iperf3 -c 10.0.2.1 -p 5202 -u -b 0 -P 8 -l 700 -n $bytes > /dev/null 2>&1

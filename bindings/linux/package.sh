@@ -6,11 +6,11 @@
 # --kernel 6.12
 #           boots the kernel of Debian 12's backports, as boot.sh does
 # PACKAGE   juniperbowls-watch_*.deb. By default dpkg-buildpackage makes it from the files of this repository
-# PACKETS   the packets of the kernel's packet generator for each queue
+# PACKETS   the packets of the kernel's packet generator for pie, and a quarter of it for fq_pie
 # ENQUEUES  the least number of recorded enqueues, and a quarter of it of fq_pie
 # needs: a request
 #
-# usage: [PACKAGE=file] [BYTES=4M] [PACKETS=150000] [ENQUEUES=200000] [HEADERS=folder] [KEEP=folder for all files] bindings/linux/package.sh [--kernel 6.12] [ROOT]
+# usage: [PACKAGE=file] [BYTES=4M] [PACKETS=200000] [ENQUEUES=200000] [HEADERS=folder] [KEEP=folder for all files] bindings/linux/package.sh [--kernel 6.12] [ROOT]
 set -eu
 cd "$(dirname "$0")/../.."
 me=bindings/linux/package.sh
@@ -46,7 +46,7 @@ PATH=$PATH:/usr/sbin mke2fs -q -t ext4 -d "$work/system" "$work/disk" 3G > /dev/
 rm -rf "$work/system"
 truncate -s 1G "$work/records"
 # shellcheck disable=SC2086
-boot "root=/dev/vda rw net.ifnames=0 init=/package_init.sh bytes=${BYTES:-4M} packets=${PACKETS:-150000} no_timer_check nowatchdog rcupdate.rcu_cpu_stall_suppress=1" \
+boot "root=/dev/vda rw net.ifnames=0 init=/package_init.sh bytes=${BYTES:-4M} packets=${PACKETS:-200000} no_timer_check nowatchdog rcupdate.rcu_cpu_stall_suppress=1" \
     -m 1536 -smp 2 -accel tcg,thread=multi $machine -drive "file=$work/disk,format=raw,if=virtio,cache=unsafe" -drive "file=$work/records,format=raw,if=virtio" \
     -netdev hubport,id=n0,hubid=0 -device virtio-net-pci,romfile=,netdev=n0 -netdev hubport,id=n1,hubid=0 -device virtio-net-pci,romfile=,netdev=n1
 mkdir "$work/steps"

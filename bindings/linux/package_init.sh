@@ -20,17 +20,17 @@ done
 modprobe -a sch_pie sch_fq_pie pktgen
 sleep 1
 
-# records NAME WORDS..: records traffic of TCP, UDP and the packet generator through a queue of these words, and decides it again
+# records NAME PACKETS WORDS..: records TCP, UDP and PACKETS of the packet generator through a queue of these words, and decides each step again
 records() {
-    name=$1
-    shift
+    name=$1 count=$2
+    shift 2
     tc qdisc add dev eth0 root handle 1: "$@" || echo "FAILED tc $*"
     watches "$name" eth0 --ring 256 -o "$name.csv"
     iperf3 -c 10.0.2.1 -P 2 -n $bytes > /dev/null 2>&1 &
     tcp=$!
     iperf3 -c 10.0.2.1 -p 5202 -u -b 0 -P 8 -l 700 -n $bytes > /dev/null 2>&1
     wait $tcp
-    floods $packets 400
+    floods $count 400
     sleep 1
     tc -s -j qdisc show dev eth0 > "$name.json"
     ends 0
@@ -39,8 +39,8 @@ records() {
     echo "TOLD $name: pie-watch-check: $(tail -n 1 "$name.lost")"
     tc qdisc del dev eth0 root
 }
-records pie pie
-records fq_pie fq_pie ecn
+records pie $packets pie
+records fq_pie $((packets / 4)) fq_pie ecn
 dmesg | grep -E 'WARNING|BUG|Oops|Call Trace'
 tar -cf - ./*.csv ./*.json ./*.later ./*.lost > /dev/vdb || echo "FAILED tar"
 sync

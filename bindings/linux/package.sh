@@ -22,7 +22,7 @@ if [ "${1-}" = --kernel ]; then
     HEADERS=${HEADERS:-$1/usr/src}
 fi
 for program in mmdebstrap mke2fs dpkg-buildpackage dh; do
-    PATH=$PATH:/usr/sbin command -v $program > /dev/null || { echo "NOT RUN: $me: no $program here (bindings/linux/install.sh)"; exit 0; }
+    PATH=$PATH:/usr/sbin command -v $program > /dev/null || { echo "NOT RUN: $me: no $program here (bindings/linux/install.sh, bindings/c/install.sh)"; exit 0; }
 done
 # shellcheck source=../kernel/guest.sh
 . bindings/kernel/guest.sh

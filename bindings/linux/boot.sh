@@ -62,7 +62,7 @@ done
 mkdir "$work/segments"
 number=1
 while [ -e "$work/steps/segments.$number" ]; do
-    bindings/linux/out/pie-watch text -o "$work/segments/$number.csv" "$work/steps/segments.$number"
+    bindings/linux/out/pie-watch text -o "$work/segments/$number.csv" "$work/steps/segments.$number" || { echo "$me: segment $number: status $?" >&2; exit 1; }
     "$steps" < "$work/segments/$number.csv" > "$work/decided" || { echo "$me: segment $number: $(cat "$work/decided")" >&2; exit 1; }
     number=$((number + 1))
 done

@@ -39,26 +39,42 @@ connects 1
 for at in a:a0 r:ra r:rb b:b0; do
     /bin/ip netns exec ${at%:*} $box sysctl -q -w net.ipv6.conf.${at#*:}.disable_ipv6=1
 done
+# (ARP would send packets while the queue rests)
+/bin/ip -n r neigh replace 10.0.2.1 lladdr $(/bin/ip netns exec b $box cat /sys/class/net/b0/address) dev rb nud permanent
+/bin/ip -n b neigh replace 10.0.2.2 lladdr $(/bin/ip netns exec r $box cat /sys/class/net/rb/address) dev b0 nud permanent
 
 # asks: sends a packet through the queue
 asks() {
     /bin/ip netns exec a $box ping -q -c 1 -W 1 10.0.2.1 > /dev/null
 }
 
+# sleeps SECONDS: pie-watch, which looks at the ring buffer 500 times a second, is stopped meanwhile: each look takes long in simulated time
+sleeps() {
+    $box kill -STOP $($box pidof pie-watch)
+    $box sleep $1
+    $box kill -CONT $($box pidof pie-watch)
+}
+
 # rests SECONDS: two packets with this time between them. The queue's first calculation is over
 rests() {
     $box sleep 1
     asks
-    $box sleep $1
+    sleeps $1
     asks
 }
 
-# crawls COUNT SIZE SECONDS: packets that leave at 1 kB/s, for this time
+# falls: fills the queue, and sends packets more slowly while it empties
+falls() {
+    floods 2000 500
+    floods 800 500 1000
+}
+
+# crawls COUNT SIZE SECONDS: pings that leave at 1 kB/s, for this time. (The packet generator would wait until the last packet has left)
 crawls() {
     asks
     /bin/tc -n r class change dev rb parent 1: classid 1:1 htb rate 8kbit
-    floods $1 $2
-    $box sleep $3
+    /bin/ip netns exec a $box ping -q -c $1 -i 0.005 -s $2 -W 1 10.0.2.1 > /dev/null
+    sleeps $3
 }
 
 # tries FAULT TRAFFIC WORDS..: the traffic through the queue of these words
@@ -72,7 +88,7 @@ tries() {
     /bin/tc -n r qdisc del dev rb root
 }
 $box insmod /mods/sch_pie.ko || echo "FAILED insmod"
-watches faults --rate-estimator --compact -o /tmp/faults.steps rb
+watches faults $watch_words --compact -o /tmp/faults.steps rb
 tab=$($box printf '\t')
 while IFS=$tab read -r fault traffic words; do
     IFS=' '
@@ -89,14 +105,14 @@ END
 fill_watch
 cp "$work/mutants/sch_pie.ko" "$work/root/mods/"
 
-# tries KIND OPTION..: boots with the faults of this kind, and finds each
+# tries KIND WORDS OPTION..: boots with the faults of this kind, and finds each. WORDS: an option of pie-watch, or nothing
 tries() {
-    local kind=$1 number=0 fault found right
-    shift
+    local kind=$1 words=$2 number=0 fault found right
+    shift 2
     bindings/linux/mutant.py --list "$kind" > "$work/root/mods/faults"
     fill_root "$work/init" veth sch_htb pktgen
     truncate -s 2G "$work/disk"
-    boot "no_timer_check nowatchdog rcupdate.rcu_cpu_stall_suppress=1" "$@" -drive "file=$work/disk,format=raw,if=virtio"
+    boot "no_timer_check nowatchdog rcupdate.rcu_cpu_stall_suppress=1 watch_words=$words" "$@" -drive "file=$work/disk,format=raw,if=virtio"
     mkdir "$work/$kind"
     tar -C "$work/$kind" -xf "$work/disk"
     rm "$work/disk"
@@ -120,7 +136,7 @@ tries() {
 }
 failed=0
 # shellcheck disable=SC2086
-tries live -m 1024 -smp 2 -accel tcg,thread=multi $machine
+tries live --rate-estimator -m 1024 -smp 2 -accel tcg,thread=multi $machine
 # shellcheck disable=SC2086
-tries simulated $SIMULATED
+tries simulated '' $SIMULATED
 exit $failed

@@ -331,19 +331,20 @@ static unsigned read_handle(const char *text) {
     return (unsigned)major << 16;
 }
 
-static unsigned read_part(const char *text) {
+/* Reads a number from 1 to `most`. `fault` begins the error of any other text. */
+static u64 read_number(const char *text, u64 most, const char *fault) {
     char *rest;
-    unsigned long part = strtoul(text, &rest, 10);
-    if (rest == text || *rest != '\0' || part == 0 || part > 1000000)
-        fail("--every is a number from 1 to 1000000: ", text);
-    return (unsigned)part;
+    unsigned long number = strtoul(text, &rest, 10);
+    if (rest == text || *rest != '\0' || *text == '-' || number == 0 || number > most)
+        fail(fault, text);
+    return number;
 }
 
 static unsigned read_ring(const char *text) {
-    char *rest;
-    unsigned long mib = strtoul(text, &rest, 10);
-    if (rest == text || *rest != '\0' || mib == 0 || mib > MOST_RING || (mib & (mib - 1)) != 0)
-        fail("--ring is a power of two from 1 to 2048 MiB: ", text);
+    static const char fault[] = "--ring is a power of two from 1 to 2048 MiB: ";
+    u64 mib = read_number(text, MOST_RING, fault);
+    if ((mib & (mib - 1)) != 0)
+        fail(fault, text);
     return (unsigned)mib;
 }
 
@@ -358,14 +359,6 @@ static u64 read_size(const char *text) {
     if (!is_size || size << shift < LEAST_SEGMENT)
         fail("--rotate is a size of at least 64kb, such as 64mb: ", text);
     return size << shift;
-}
-
-static u64 read_segments(const char *text) {
-    char *rest;
-    unsigned long segments = strtoul(text, &rest, 10);
-    if (rest == text || *rest != '\0' || *text == '-' || segments == 0)
-        fail("--segments is a number from 1 on: ", text);
-    return segments;
 }
 
 static void read_options(struct options *options, int count, char **words) {
@@ -400,7 +393,7 @@ static void read_options(struct options *options, int count, char **words) {
             options->is_all = true;
             break;
         case 'n':
-            options->part = read_part(optarg);
+            options->part = (unsigned)read_number(optarg, 1000000, "--every is a number from 1 to 1000000: ");
             break;
         case 'o':
             options->output = optarg;
@@ -415,7 +408,7 @@ static void read_options(struct options *options, int count, char **words) {
             options->rotate = read_size(optarg);
             break;
         case 's':
-            options->segments = read_segments(optarg);
+            options->segments = read_number(optarg, UINT64_MAX, "--segments is a number from 1 on: ");
             break;
         case 'r':
             options->ring = read_ring(optarg);

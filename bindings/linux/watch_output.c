@@ -76,9 +76,11 @@ static bool write_to(struct watch_output *output, FILE *file, const void *record
     return true;
 }
 
-/* Begins a queue in the present segment. Steps are lost if the segment before was closed earlier. Returns false if the queue is not known. */
-static bool begin_queue(struct watch_output *output, struct output_queue *queue, unsigned number) {
+/* Begins a queue in the present segment, before its step `seq`. Steps are lost if the segment before was closed earlier. Returns false if the queue is not
+ * known. */
+static bool begin_queue(struct watch_output *output, struct output_queue *queue, unsigned number, u32 seq) {
     struct watch_base lost = {.head = {.type = WATCH_LOST, .queue = (u16)number}, .lost = queue->late};
+    queue->name.head.seq = seq - queue->late;
     if (output->is_compact) {
         fwrite(&queue->name, 1, sizeof queue->name, output->output.file);
         output->bytes += sizeof queue->name;
@@ -97,7 +99,7 @@ bool watch_output_add(struct watch_output *output, const void *record) {
     queue = queue_of(output, head->queue);
     if (queue == NULL)
         return false;
-    if (head->type == WATCH_RESUME && (queue->is_pending || queue->is_late) && !begin_queue(output, queue, head->queue))
+    if (head->type == WATCH_RESUME && (queue->is_pending || queue->is_late) && !begin_queue(output, queue, head->queue, head->seq))
         return false;
     if (queue->is_late) {
         queue->late += head->type == WATCH_LOST ? ((const struct watch_base *)record)->lost : head->type != WATCH_BASE;
@@ -147,7 +149,7 @@ bool watch_output_failed(const struct watch_output *output) {
 bool watch_output_close(struct watch_output *output) {
     for (size_t i = 0; i < output->count; i++) {
         if (output->queues[i].is_late && output->queues[i].late != 0)
-            begin_queue(output, &output->queues[i], (unsigned)i);
+            begin_queue(output, &output->queues[i], (unsigned)i, output->queues[i].late);
     }
     bool is_closed = close_output(&output->before);
     is_closed = close_output(&output->output) && is_closed;

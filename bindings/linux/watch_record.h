@@ -20,7 +20,7 @@ typedef uint64_t u64;
 enum watch_kind { WATCH_PIE, WATCH_FQ_PIE };
 
 enum watch_type {
-    WATCH_QUEUE = 1, /* struct watch_queue: a queue has this number from now on */
+    WATCH_QUEUE = 1, /* struct watch_queue: a queue has this number from now on; `seq` is the number of its first step, recorded or lost, after this record */
     WATCH_LOST,      /* struct watch_base: `counts` steps of the queue were not recorded; WATCH_RESUME follows */
     WATCH_INIT,      /* struct watch_whole: the queue was created; step 0 */
     WATCH_RESUME,    /* struct watch_whole: the queue before the next step; WATCH_FLOW and WATCH_WAIT follow */

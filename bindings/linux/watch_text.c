@@ -166,7 +166,7 @@ static bool add_queue(struct watch_text *text, const struct watch_queue *record)
     if (record->handle != 0)
         snprintf(handle, sizeof handle, "%x:", record->handle >> 16);
     free(queue->flows); /* (of a queue with the same number, 65,536 queues ago) */
-    *queue = (struct text_queue){.is_there = true, .kind = record->kind};
+    *queue = (struct text_queue){.is_there = true, .kind = record->kind, .seq = record->head.seq};
     snprintf(queue->name, sizeof queue->name, "%.15s/%s/%zu", record->device, handle, number);
     return true;
 }

@@ -7,14 +7,12 @@ use Rattle.pie_linux.specs.declared.params.MarkLimit.TheVariants.{Tenth, Percent
 use Rattle.pie_linux.specs.declared.state.LinuxState.{LinuxState}
 use Rattle.pie_linux.specs.declared.arrival.LinuxArrival.{LinuxArrival}
 use Rattle.pie_linux.specs.declared.departure.LinuxDeparture.{LinuxDeparture}
-use Rattle.pie_linux.specs.Early.{early_cause}
-use Rattle.pie_linux.specs.Enqueue.{accu_after, enqueue_cause, enqueued}
+use Rattle.pie_linux.specs.Enqueue.{accu_after, early_cause, enqueue_cause, enqueued, is_markable, marked_up_to}
 use Rattle.pie_linux.specs.Numbers.{difference_64, full_burst, long_delay, one, scaled, ticks}
 use Rattle.pie_linux.specs.Queue.{flow_backlog, flow_of, is_over_memory, next_cursor, round_of}
 use Rattle.pie_linux.specs.declared.cause.LinuxCause.TheVariants.{SumAbove, WordBelow}
 use Rattle.pie_linux.specs.declared.cause.Picked.TheVariants.{HighProbability, Marked}
 use Rattle.pie_linux.specs.Departure.{average, departed, elapsed}
-use Rattle.pie_linux.specs.Marks.{is_markable, marked_up_to}
 use Rattle.pie_linux.specs.Update.{capped, decays, divisor_at, gain_of, next_prob, overflows, raised, raw_step, step_of, stepped, updated}
 
 abbrev params : ℕ → ℕ → ℕ → ℕ → Bool → Bool → Bool → MarkLimit → LinuxParams
@@ -51,194 +49,86 @@ abbrev departure : ℕ → ℕ → ℕ → ℕ → ℕ → ℕ → LinuxDepartur
 departure backlog size enqueued first second third =
     record { backlog = backlog; size = size; enqueued = enqueued; first = first; second = second; third = third }
 
--- updates
-tuned_below_a_millionth : updated (params 234375 1000 2 20 false false false Tenth) (state 1543123 0 0 68299825 0 0 (2 ^ 64 - 1) 0 0) 261298
-    ≡ state 1543123 1543123 0 68299825 4711882455679 0 (2 ^ 64 - 1) 0 261298
+-- updates: the divisor below a millionth, a 10,000th, a thousandth, a hundredth and a tenth, and above a tenth; the decay; cap and long delay;
+-- the divisor below a 100,000th, with a restart; a small backlog; two long delays of fq_pie, at a probability below 1 and above it
+updates : (updated (params 234375 1000 2 20 false false false Tenth) (state 1543123 0 0 68299825 0 0 (2 ^ 64 - 1) 0 0) 261298
+    ≡ state 1543123 1543123 0 68299825 4711882455679 0 (2 ^ 64 - 1) 0 261298)
+    × (updated (params 234375 1000 2 20 false false false Tenth) (state 1561907 1543123 0 68611337 4711882455679 94237649113580 (2 ^ 64 - 1) 0 261298) 264326
+    ≡ state 1561907 1561907 0 68611337 11536510392211 94237649113580 (2 ^ 64 - 1) 0 264326)
+    × (updated (params 234375 1000 2 20 false false false Tenth) (state 1571376 1561907 0 68932313 11536510392211 324967856957800 (2 ^ 64 - 1) 0 264326) 267354
+    ≡ state 1571376 1571376 0 68932313 37327561926574 324967856957800 (2 ^ 64 - 1) 0 267354)
+    × (updated (params 234375 1000 2 20 false false false Tenth) (state 1617833 1608402 0 69866850 93163332827888 4328414600979568 (2 ^ 64 - 1) 0 270358) 270358
+    ≡ state 1617833 1617833 0 69866850 199647739398080 4328414600979568 (2 ^ 64 - 1) 0 270358)
+    × (updated (params 234375 1000 2 20 false false false Tenth) (state 1712347 1693421 0 71736075 770699920450034 64114690749252164 (2 ^ 64 - 1) 0 282422) 285450
+    ≡ state 1712347 1712347 0 71736075 1251246826708192 64114690749252164 (2 ^ 64 - 1) 0 285450)
+    × (updated (params 234375 1000 2 20 false false false Tenth) (state 1882251 1882487 0 76116475 7608596656357820 68477369907220380 (2 ^ 64 - 1) 0 302080) 305108
+    ≡ state 1882251 1882251 0 76116475 8557172047145380 68477369907220380 (2 ^ 64 - 1) 0 305108)
+    × (updated (params 234375 300 2 20 true false false Tenth) (state 0 0 0 483326202 7028184942490798 0 (2 ^ 64 - 1) 0 0) 0
+    ≡ state 0 0 0 483326202 6851871089551489 0 (2 ^ 64 - 1) 0 0)
+    × (updated (params 234375 300 2 20 true false false Tenth) (state 1359606 1221482 0 489370221 12515062556647403 12515062556647403 (2 ^ 64 - 1) 0 239200) 240000
+    ≡ state 1359606 1359606 0 489370221 13956214437405961 12515062556647403 (2 ^ 64 - 1) 0 240000)
+    × (updated (params 234375 500 4 30 true true false Tenth) (state 0 0 0 580812996 319379716730 0 (2 ^ 64 - 1) 0 0) 0
+    ≡ state 0 0 2343750 (2 ^ 64 - 1) 0 0 (2 ^ 64 - 1) 0 0)
+    × (updated (params 234375 500 4 30 true true false Tenth) (state 0 17855 0 608804280 17322062265239390 50530106368340326 (2 ^ 64 - 1) 0 1600) 1914
+    ≡ state 0 0 0 608804280 16897455686781425 50530106368340326 (2 ^ 64 - 1) 0 1914)
+    × (updated (params 234375 400 2 20 true false false (Percent 10)) (state 3990202 3903316 0 233677335 3692252009567533 3692252009567533 (2 ^ 64 - 1) 0 148704) 145376
+    ≡ state 3990202 3990202 0 233677335 6466379163305289 3692252009567533 (2 ^ 64 - 1) 0 145376)
+    × (updated (params 234375 400 2 20 true false false (Percent 10)) (state 5456141 5444090 0 240841759 69883803624533156 0 (2 ^ 64 - 1) 0 97884) 91584
+    ≡ state 5456141 5456141 0 240841759 72766107386050272 0 (2 ^ 64 - 1) 0 91584)
 unfolding updated next_prob step_of raw_step divisor_at
-tuned_below_a_millionth = refl
+updates = (refl, refl, refl, refl, refl, refl, refl, refl, refl, refl, refl, refl)
 
-tuned_below_a_10_thousandth : updated (params 234375 1000 2 20 false false false Tenth) (state 1561907 1543123 0 68611337 4711882455679 94237649113580 (2 ^ 64 - 1) 0 261298) 264326
-    ≡ state 1561907 1561907 0 68611337 11536510392211 94237649113580 (2 ^ 64 - 1) 0 264326
-unfolding updated next_prob step_of raw_step divisor_at
-tuned_below_a_10_thousandth = refl
-
-tuned_below_a_thousandth : updated (params 234375 1000 2 20 false false false Tenth) (state 1571376 1561907 0 68932313 11536510392211 324967856957800 (2 ^ 64 - 1) 0 264326) 267354
-    ≡ state 1571376 1571376 0 68932313 37327561926574 324967856957800 (2 ^ 64 - 1) 0 267354
-unfolding updated next_prob step_of raw_step divisor_at
-tuned_below_a_thousandth = refl
-
-tuned_below_a_hundredth : updated (params 234375 1000 2 20 false false false Tenth) (state 1617833 1608402 0 69866850 93163332827888 4328414600979568 (2 ^ 64 - 1) 0 270358) 270358
-    ≡ state 1617833 1617833 0 69866850 199647739398080 4328414600979568 (2 ^ 64 - 1) 0 270358
-unfolding updated next_prob step_of raw_step divisor_at
-tuned_below_a_hundredth = refl
-
-tuned_below_a_tenth : updated (params 234375 1000 2 20 false false false Tenth) (state 1712347 1693421 0 71736075 770699920450034 64114690749252164 (2 ^ 64 - 1) 0 282422) 285450
-    ≡ state 1712347 1712347 0 71736075 1251246826708192 64114690749252164 (2 ^ 64 - 1) 0 285450
-unfolding updated next_prob step_of raw_step divisor_at
-tuned_below_a_tenth = refl
-
-above_a_tenth : updated (params 234375 1000 2 20 false false false Tenth) (state 1882251 1882487 0 76116475 7608596656357820 68477369907220380 (2 ^ 64 - 1) 0 302080) 305108
-    ≡ state 1882251 1882251 0 76116475 8557172047145380 68477369907220380 (2 ^ 64 - 1) 0 305108
-unfolding updated next_prob step_of raw_step divisor_at
-above_a_tenth = refl
-
-update_decays : updated (params 234375 300 2 20 true false false Tenth) (state 0 0 0 483326202 7028184942490798 0 (2 ^ 64 - 1) 0 0) 0
-    ≡ state 0 0 0 483326202 6851871089551489 0 (2 ^ 64 - 1) 0 0
-unfolding updated next_prob step_of raw_step divisor_at
-update_decays = refl
-
-capped_and_raised : updated (params 234375 300 2 20 true false false Tenth) (state 1359606 1221482 0 489370221 12515062556647403 12515062556647403 (2 ^ 64 - 1) 0 239200) 240000
-    ≡ state 1359606 1359606 0 489370221 13956214437405961 12515062556647403 (2 ^ 64 - 1) 0 240000
-unfolding updated next_prob step_of raw_step divisor_at
-capped_and_raised = refl
-
-tuned_below_a_100_thousandth : updated (params 234375 500 4 30 true true false Tenth) (state 0 0 0 580812996 319379716730 0 (2 ^ 64 - 1) 0 0) 0
-    ≡ state 0 0 2343750 (2 ^ 64 - 1) 0 0 (2 ^ 64 - 1) 0 0
-unfolding updated next_prob step_of raw_step divisor_at
-tuned_below_a_100_thousandth = refl
-
-small_backlog : updated (params 234375 500 4 30 true true false Tenth) (state 0 17855 0 608804280 17322062265239390 50530106368340326 (2 ^ 64 - 1) 0 1600) 1914
-    ≡ state 0 0 0 608804280 16897455686781425 50530106368340326 (2 ^ 64 - 1) 0 1914
-unfolding updated next_prob step_of raw_step divisor_at
-small_backlog = refl
-
-update_raised : updated (params 234375 400 2 20 true false false (Percent 10)) (state 3990202 3903316 0 233677335 3692252009567533 3692252009567533 (2 ^ 64 - 1) 0 148704) 145376
-    ≡ state 3990202 3990202 0 233677335 6466379163305289 3692252009567533 (2 ^ 64 - 1) 0 145376
-unfolding updated next_prob step_of raw_step divisor_at
-update_raised = refl
-
-above_one : updated (params 234375 400 2 20 true false false (Percent 10)) (state 5456141 5444090 0 240841759 69883803624533156 0 (2 ^ 64 - 1) 0 97884) 91584
-    ≡ state 5456141 5456141 0 240841759 72766107386050272 0 (2 ^ 64 - 1) 0 91584
-unfolding updated next_prob step_of raw_step divisor_at
-above_one = refl
-
--- departures
-wait_first : departed (params 234375 1000 2 20 false false false Tenth) (state 0 0 2343750 (2 ^ 64 - 1) 0 0 (2 ^ 64 - 1) 0 0)
-    (departure 0 42 60799984 60800051 0 0)
-    ≡ state 0 0 2343750 60800051 0 0 (2 ^ 64 - 1) 0 0
+-- departures: the first, one that empties the queue, burst allowance, none left; with the rate estimator: no measurement, its beginning, a
+-- packet of it, its end
+departures : (departed (params 234375 1000 2 20 false false false Tenth) (state 0 0 2343750 (2 ^ 64 - 1) 0 0 (2 ^ 64 - 1) 0 0) (departure 0 42 60799984 60800051 0 0)
+    ≡ state 0 0 2343750 60800051 0 0 (2 ^ 64 - 1) 0 0)
+    × (departed (params 234375 1000 2 20 false false false Tenth) (state 0 0 2343750 60800051 0 0 (2 ^ 64 - 1) 0 0) (departure 0 74 60956509 60956573 0 0)
+    ≡ state 0 0 2187228 60956573 0 0 (2 ^ 64 - 1) 0 0)
+    × (departed (params 234375 1000 2 20 false false false Tenth) (state 0 0 520609 62623192 0 0 (2 ^ 64 - 1) 0 0) (departure 28742 2962 62623568 62632135 0 0)
+    ≡ state 8567 0 511666 62632135 0 0 (2 ^ 64 - 1) 0 0)
+    × (departed (params 234375 1000 2 20 false false false Tenth) (state 315709 0 0 63161437 0 0 (2 ^ 64 - 1) 0 0) (departure 102808 4410 62845849 63189825 0 0)
+    ≡ state 343976 0 0 63189825 0 0 (2 ^ 64 - 1) 0 0)
+    × (departed (params 234375 1000 2 20 true false true Tenth) (state 0 0 2343750 (2 ^ 64 - 1) 0 0 (2 ^ 64 - 1) 0 0) (departure 0 42 0 62406099 0 0)
+    ≡ state 0 0 2343750 (2 ^ 64 - 1) 0 0 (2 ^ 64 - 1) 0 0)
+    × (departed (params 234375 1000 2 20 true false true Tenth) (state 0 0 2343750 (2 ^ 64 - 1) 0 0 (2 ^ 64 - 1) 0 0) (departure 39364 2962 0 63951596 63951603 0)
+    ≡ state 0 0 2343750 63951603 0 0 2962 0 0)
+    × (departed (params 234375 1000 2 20 true false true Tenth) (state 0 0 2343750 63951603 0 0 2962 0 0) (departure 36336 2962 0 63970528 0 0)
+    ≡ state 0 0 2343750 63951603 0 0 5924 0 0)
+    × (departed (params 234375 1000 2 20 true false true Tenth) (state 0 0 2343750 63951603 0 0 14810 0 0) (departure 24224 2962 0 64046228 64046235 0)
+    ≡ state 0 0 2249125 64046235 0 0 0 48 0)
 unfolding departed
-wait_first = refl
+departures = (refl, refl, refl, refl, refl, refl, refl, refl)
 
-wait_emptied : departed (params 234375 1000 2 20 false false false Tenth) (state 0 0 2343750 60800051 0 0 (2 ^ 64 - 1) 0 0)
-    (departure 0 74 60956509 60956573 0 0)
-    ≡ state 0 0 2187228 60956573 0 0 (2 ^ 64 - 1) 0 0
-unfolding departed
-wait_emptied = refl
-
-wait_burst : departed (params 234375 1000 2 20 false false false Tenth) (state 0 0 520609 62623192 0 0 (2 ^ 64 - 1) 0 0)
-    (departure 28742 2962 62623568 62632135 0 0)
-    ≡ state 8567 0 511666 62632135 0 0 (2 ^ 64 - 1) 0 0
-unfolding departed
-wait_burst = refl
-
-wait_plain : departed (params 234375 1000 2 20 false false false Tenth) (state 315709 0 0 63161437 0 0 (2 ^ 64 - 1) 0 0)
-    (departure 102808 4410 62845849 63189825 0 0)
-    ≡ state 343976 0 0 63189825 0 0 (2 ^ 64 - 1) 0 0
-unfolding departed
-wait_plain = refl
-
-rate_idle : departed (params 234375 1000 2 20 true false true Tenth) (state 0 0 2343750 (2 ^ 64 - 1) 0 0 (2 ^ 64 - 1) 0 0)
-    (departure 0 42 0 62406099 0 0)
-    ≡ state 0 0 2343750 (2 ^ 64 - 1) 0 0 (2 ^ 64 - 1) 0 0
-unfolding departed
-rate_idle = refl
-
-rate_begins : departed (params 234375 1000 2 20 true false true Tenth) (state 0 0 2343750 (2 ^ 64 - 1) 0 0 (2 ^ 64 - 1) 0 0)
-    (departure 39364 2962 0 63951596 63951603 0)
-    ≡ state 0 0 2343750 63951603 0 0 2962 0 0
-unfolding departed
-rate_begins = refl
-
-rate_counts : departed (params 234375 1000 2 20 true false true Tenth) (state 0 0 2343750 63951603 0 0 2962 0 0)
-    (departure 36336 2962 0 63970528 0 0)
-    ≡ state 0 0 2343750 63951603 0 0 5924 0 0
-unfolding departed
-rate_counts = refl
-
-rate_ends : departed (params 234375 1000 2 20 true false true Tenth) (state 0 0 2343750 63951603 0 0 14810 0 0)
-    (departure 24224 2962 0 64046228 64046235 0)
-    ≡ state 0 0 2249125 64046235 0 0 0 48 0
-unfolding departed
-rate_ends = refl
-
--- arrivals
-arrival_burst_time : enqueued (params 234375 1000 2 20 false false false Tenth) (state 0 0 2343750 (2 ^ 64 - 1) 0 0 (2 ^ 64 - 1) 0 0)
-    (arrival 0 0 42 1514 (is_markable 0x0806 0x0001 true) 0)
-    ≡ state 0 0 2343750 (2 ^ 64 - 1) 0 0 (2 ^ 64 - 1) 0 0
+-- arrivals: burst allowance; sum below 0.85; word not below; picked, ecn off; low delay; picked, not markable; picked, marked; picked at a
+-- probability above the limit for marks; over the limit; short queue; with bytemode: sum below 0.85, word not below, picked
+arrivals : (enqueued (params 234375 1000 2 20 false false false Tenth) (state 0 0 2343750 (2 ^ 64 - 1) 0 0 (2 ^ 64 - 1) 0 0) (arrival 0 0 42 1514 (is_markable 0x0806 0x0001 true) 0)
+    ≡ state 0 0 2343750 (2 ^ 64 - 1) 0 0 (2 ^ 64 - 1) 0 0)
+    × (enqueued (params 234375 1000 2 20 false false false Tenth) (state 315709 0 0 63161437 0 0 (2 ^ 64 - 1) 0 0) (arrival 37 102832 1490 1514 (is_markable 0x0800 0x4500 true) 0)
+    ≡ state 315709 0 0 63161437 0 0 (2 ^ 64 - 1) 0 0)
+    × (enqueued (params 234375 1000 2 20 false false false Tenth) (state 1710333 1693421 0 71679450 770699920450034 61031891067452028 (2 ^ 64 - 1) 0 282422) (arrival 114 285450 2962 1514 (is_markable 0x0800 0x4500 true) 13977271019429242545)
+    ≡ state 1710333 1693421 0 71679450 770699920450034 61802590987902062 (2 ^ 64 - 1) 0 282422)
+    × (enqueued (params 234375 1000 2 20 false false false Tenth) (state 1745761 1721777 0 72151525 1707141388897574 96879981963385064 (2 ^ 64 - 1) 0 280908) (arrival 112 283960 1490 1514 (is_markable 0x0800 0x4500 true) 412485875105615544)
+    ≡ state 1745761 1721777 0 72151525 1707141388897574 0 (2 ^ 64 - 1) 0 280908)
+    × (enqueued (params 234375 1000 2 20 false false false Tenth) (state 116613 201664 0 85999046 13937629000955166 83625774005730996 (2 ^ 64 - 1) 0 24152) (arrival 9 18120 1514 1514 (is_markable 0x0800 0x4500 true) 0)
+    ≡ state 116613 201664 0 85999046 13937629000955166 83625774005730996 (2 ^ 64 - 1) 0 24152)
+    × (enqueued (params 234375 300 2 20 true false false Tenth) (state 1259046 1277717 0 461015730 516025572106415 63865719801312537 (2 ^ 64 - 1) 0 212576) (arrival 166 211876 700 1514 (is_markable 0x0800 0x4500 true) 65084377044639148)
+    ≡ state 1259046 1277717 0 461015730 516025572106415 0 (2 ^ 64 - 1) 0 212576)
+    × (enqueued (params 234375 300 2 20 true false false Tenth) (state 1401027 1402547 0 464109217 3319067852296025 59175556760511671 (2 ^ 64 - 1) 0 234016) (arrival 183 233902 2962 1514 (is_markable 0x0800 0x4502 true) 140994173141578523)
+    ≡ state 1401027 1402547 0 464109217 3319067852296025 0 (2 ^ 64 - 1) 0 234016)
+    × (enqueued (params 234375 300 2 20 true false false Tenth) (state 1535888 1540640 0 467191004 7307386216813502 83492504730210464 (2 ^ 64 - 1) 0 234032) (arrival 198 232404 700 1514 (is_markable 0x0800 0x4500 true) 1430465884011629073)
+    ≡ state 1535888 1540640 0 467191004 7307386216813502 0 (2 ^ 64 - 1) 0 234032)
+    × (enqueued (params 234375 300 2 20 true false false Tenth) (state 799751 771063 0 488180221 8471137346077381 25413412038232143 (2 ^ 64 - 1) 0 232800) (arrival 300 0 800 1514 (is_markable 0x0800 0x4502 true) 0)
+    ≡ state 799751 771063 0 488180221 8471137346077381 0 (2 ^ 64 - 1) 0 232800)
+    × (enqueued (params 234375 300 2 20 true false false Tenth) (state 68630 445739 0 529670223 61407279171506857 0 (2 ^ 64 - 1) 0 32800) (arrival 3 2400 800 1514 (is_markable 0x0800 0x4502 true) 0)
+    ≡ state 68630 445739 0 529670223 61407279171506857 0 (2 ^ 64 - 1) 0 32800)
+    × (enqueued (params 234375 500 4 30 true true false Tenth) (state 784880 760182 0 597675670 620741417307412 0 (2 ^ 64 - 1) 0 144698) (arrival 180 149326 400 1514 (is_markable 0x0800 0x4502 true) 0)
+    ≡ state 784880 760182 0 597675670 620741417307412 164000374453600 (2 ^ 64 - 1) 0 144698)
+    × (enqueued (params 234375 500 4 30 true true false Tenth) (state 879191 844727 0 598302230 1676476466438478 60997240272685384 (2 ^ 64 - 1) 0 157954) (arrival 199 159554 400 1514 (is_markable 0x0800 0x4502 true) 13664488342366354851)
+    ≡ state 879191 844727 0 598302230 1676476466438478 61440166683897384 (2 ^ 64 - 1) 0 157954)
+    × (enqueued (params 234375 500 4 30 true true false Tenth) (state 1107792 1108291 0 600600533 9766030327615946 220241948796621956 (2 ^ 64 - 1) 0 172612) (arrival 247 170784 400 1514 (is_markable 0x0800 0x4502 true) 31319750613974230)
+    ≡ state 1107792 1108291 0 600600533 9766030327615946 0 (2 ^ 64 - 1) 0 172612)
 unfolding enqueue_cause early_cause
-arrival_burst_time = refl
-
-arrival_sum_below : enqueued (params 234375 1000 2 20 false false false Tenth) (state 315709 0 0 63161437 0 0 (2 ^ 64 - 1) 0 0)
-    (arrival 37 102832 1490 1514 (is_markable 0x0800 0x4500 true) 0)
-    ≡ state 315709 0 0 63161437 0 0 (2 ^ 64 - 1) 0 0
-unfolding enqueue_cause early_cause
-arrival_sum_below = refl
-
-arrival_word_not : enqueued (params 234375 1000 2 20 false false false Tenth) (state 1710333 1693421 0 71679450 770699920450034 61031891067452028 (2 ^ 64 - 1) 0 282422)
-    (arrival 114 285450 2962 1514 (is_markable 0x0800 0x4500 true) 13977271019429242545)
-    ≡ state 1710333 1693421 0 71679450 770699920450034 61802590987902062 (2 ^ 64 - 1) 0 282422
-unfolding enqueue_cause early_cause
-arrival_word_not = refl
-
-arrival_word_off : enqueued (params 234375 1000 2 20 false false false Tenth) (state 1745761 1721777 0 72151525 1707141388897574 96879981963385064 (2 ^ 64 - 1) 0 280908)
-    (arrival 112 283960 1490 1514 (is_markable 0x0800 0x4500 true) 412485875105615544)
-    ≡ state 1745761 1721777 0 72151525 1707141388897574 0 (2 ^ 64 - 1) 0 280908
-unfolding enqueue_cause early_cause
-arrival_word_off = refl
-
-arrival_low_delay : enqueued (params 234375 1000 2 20 false false false Tenth) (state 116613 201664 0 85999046 13937629000955166 83625774005730996 (2 ^ 64 - 1) 0 24152)
-    (arrival 9 18120 1514 1514 (is_markable 0x0800 0x4500 true) 0)
-    ≡ state 116613 201664 0 85999046 13937629000955166 83625774005730996 (2 ^ 64 - 1) 0 24152
-unfolding enqueue_cause early_cause
-arrival_low_delay = refl
-
-arrival_word_not_capable : enqueued (params 234375 300 2 20 true false false Tenth) (state 1259046 1277717 0 461015730 516025572106415 63865719801312537 (2 ^ 64 - 1) 0 212576)
-    (arrival 166 211876 700 1514 (is_markable 0x0800 0x4500 true) 65084377044639148)
-    ≡ state 1259046 1277717 0 461015730 516025572106415 0 (2 ^ 64 - 1) 0 212576
-unfolding enqueue_cause early_cause
-arrival_word_not_capable = refl
-
-arrival_word_marked : enqueued (params 234375 300 2 20 true false false Tenth) (state 1401027 1402547 0 464109217 3319067852296025 59175556760511671 (2 ^ 64 - 1) 0 234016)
-    (arrival 183 233902 2962 1514 (is_markable 0x0800 0x4502 true) 140994173141578523)
-    ≡ state 1401027 1402547 0 464109217 3319067852296025 0 (2 ^ 64 - 1) 0 234016
-unfolding enqueue_cause early_cause
-arrival_word_marked = refl
-
-arrival_word_high : enqueued (params 234375 300 2 20 true false false Tenth) (state 1535888 1540640 0 467191004 7307386216813502 83492504730210464 (2 ^ 64 - 1) 0 234032)
-    (arrival 198 232404 700 1514 (is_markable 0x0800 0x4500 true) 1430465884011629073)
-    ≡ state 1535888 1540640 0 467191004 7307386216813502 0 (2 ^ 64 - 1) 0 234032
-unfolding enqueue_cause early_cause
-arrival_word_high = refl
-
-arrival_over_limit : enqueued (params 234375 300 2 20 true false false Tenth) (state 799751 771063 0 488180221 8471137346077381 25413412038232143 (2 ^ 64 - 1) 0 232800)
-    (arrival 300 0 800 1514 (is_markable 0x0800 0x4502 true) 0)
-    ≡ state 799751 771063 0 488180221 8471137346077381 0 (2 ^ 64 - 1) 0 232800
-unfolding enqueue_cause early_cause
-arrival_over_limit = refl
-
-arrival_short_queue : enqueued (params 234375 300 2 20 true false false Tenth) (state 68630 445739 0 529670223 61407279171506857 0 (2 ^ 64 - 1) 0 32800)
-    (arrival 3 2400 800 1514 (is_markable 0x0800 0x4502 true) 0)
-    ≡ state 68630 445739 0 529670223 61407279171506857 0 (2 ^ 64 - 1) 0 32800
-unfolding enqueue_cause early_cause
-arrival_short_queue = refl
-
-arrival_sum_below_scaled : enqueued (params 234375 500 4 30 true true false Tenth) (state 784880 760182 0 597675670 620741417307412 0 (2 ^ 64 - 1) 0 144698)
-    (arrival 180 149326 400 1514 (is_markable 0x0800 0x4502 true) 0)
-    ≡ state 784880 760182 0 597675670 620741417307412 164000374453600 (2 ^ 64 - 1) 0 144698
-unfolding enqueue_cause early_cause
-arrival_sum_below_scaled = refl
-
-arrival_word_not_scaled : enqueued (params 234375 500 4 30 true true false Tenth) (state 879191 844727 0 598302230 1676476466438478 60997240272685384 (2 ^ 64 - 1) 0 157954)
-    (arrival 199 159554 400 1514 (is_markable 0x0800 0x4502 true) 13664488342366354851)
-    ≡ state 879191 844727 0 598302230 1676476466438478 61440166683897384 (2 ^ 64 - 1) 0 157954
-unfolding enqueue_cause early_cause
-arrival_word_not_scaled = refl
-
-arrival_word_high_scaled : enqueued (params 234375 500 4 30 true true false Tenth) (state 1107792 1108291 0 600600533 9766030327615946 220241948796621956 (2 ^ 64 - 1) 0 172612)
-    (arrival 247 170784 400 1514 (is_markable 0x0800 0x4502 true) 31319750613974230)
-    ≡ state 1107792 1108291 0 600600533 9766030327615946 0 (2 ^ 64 - 1) 0 172612
-unfolding enqueue_cause early_cause
-arrival_word_high_scaled = refl
+arrivals = (refl, refl, refl, refl, refl, refl, refl, refl, refl, refl, refl, refl, refl)
 
 -- rules that the recorded traffic did not reach, by C's arithmetic
 

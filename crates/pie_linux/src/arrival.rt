@@ -1,5 +1,5 @@
 ghost use Rattle.std.specs.Prelude.{◌≡◌};
-ghost use Rattle.pie_linux.specs.Marks.{is_markable};
+ghost use Rattle.pie_linux.specs.Enqueue.{is_markable};
 
 /// An arriving packet, with the queue before it.
 #[derive(Clone, Copy)]

@@ -1,6 +1,5 @@
 ghost use Rattle.std.specs.Prelude.{◌≡◌, ◌<◌, ◌≤◌, ◌^◌};
-ghost use Rattle.pie_linux.specs.Early.{accumulated, early_cause, is_low, mtu_of, own_of, own_prob, sum_of, summed_cause};
-ghost use Rattle.pie_linux.specs.Enqueue.{enqueue_cause, enqueued, fate_of};
+ghost use Rattle.pie_linux.specs.Enqueue.{accumulated, early_cause, enqueue_cause, enqueued, fate_of, is_low, mtu_of, own_of, own_prob, sum_of, summed_cause};
 
 use crate::arrival::LinuxArrival;
 use crate::cause::{LinuxCause, Picked};
@@ -27,7 +26,7 @@ impl LinuxState {
 
 /// Returns the cause of the decision, from the packet's own probability and the accumulated one with it.
 #[inline(always)]
-#[tactic(auto, using(std::proofs::lemmas::Bool::Decides::nat_tests), unfolding(crate::specs::Enqueue::enqueue_cause, crate::specs::Early::early_cause))]
+#[tactic(auto, using(std::proofs::lemmas::Bool::Decides::nat_tests), unfolding(crate::specs::Enqueue::enqueue_cause, crate::specs::Enqueue::early_cause))]
 fn enqueue_cause(
     state: &LinuxState,
     params: &LinuxParams,

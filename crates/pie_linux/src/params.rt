@@ -1,5 +1,5 @@
 ghost use Rattle.std.specs.Prelude.{◌≡◌};
-ghost use Rattle.pie_linux.specs.Marks.{marked_up_to};
+ghost use Rattle.pie_linux.specs.Enqueue.{marked_up_to};
 
 use crate::state::ONE;
 

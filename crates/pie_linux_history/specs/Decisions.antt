@@ -4,8 +4,7 @@
 use Rattle.std.specs.Prelude.{ℕ, ◌+◌, ◌-◌, ◌%◌, ◌^◌, Bool, true, false, ◌&&◌, ◌==◌, if◌then◌else◌, Option, Some, None, get_or, unwrap_or}
 use Rattle.std.specs.Option.{option_or}
 use Rattle.pie_linux.specs.Numbers.{sum_32, ticks}
-use Rattle.pie_linux.specs.Marks.{is_markable}
-use Rattle.pie_linux.specs.Enqueue.{counted, draws, enqueue_cause, enqueued, is_queued, one_if}
+use Rattle.pie_linux.specs.Enqueue.{counted, draws, enqueue_cause, enqueued, is_markable, is_queued, one_if}
 use Rattle.pie_linux.specs.Departure.{departed}
 use Rattle.pie_linux.specs.Update.{restarted, updated}
 use Rattle.pie_linux.specs.Queue.{flow_backlog, is_over_memory, next_cursor}

@@ -148,26 +148,26 @@ refusals_in given = cond (is_refused given) 1 0
 
 -- the effect of a request: the book is in the state after it, a refusal is counted, and the text is that of its
 -- history record
-pub record IsReplied (version : Version) (number : ℕ) (row : Row) (request : Request) (opening : Opening) (new : BookView) (refused refused_then : ℕ)
+pub record IsReplied (version : Version) (number : ℕ) (row : Row) (request : Request) (opening : Opening) (new : BookView) (refusals_before refusals_then : ℕ)
     (text : List ℕ) (run_state : RunState) : Type 0 where
   pub is_in_state : IsInState new opening (state_after opening run_state request)
-  pub refusals : refused_then ≡ refused + refusals_in (reply_at opening run_state request)
+  pub refusals : refusals_then ≡ refusals_before + refusals_in (reply_at opening run_state request)
   pub made : text ≡ text_of (history_row version number row (reply_at opening run_state request))
 
 -- the effect of a request, for each record that makes it, and for each state of the book before
 abbrev pub Replies : Version → ℕ → Request → BookView → BookView → ℕ → ℕ → List ℕ → Type 0
-Replies version number request old new refused refused_then text =
+Replies version number request old new refusals_before refusals_then text =
     (row : Row) → request_of version row ≡ Ok request → (run_state : RunState) → IsInState old old.opening run_state
-    → IsReplied version number row request old.opening new refused refused_then text run_state
+    → IsReplied version number row request old.opening new refusals_before refusals_then text run_state
 
 -- the outcome of the run of these records, by the book's running core, and for every history that the book
 -- represents: the first fault, the result, and the history text up to the first record that has a fault. `number`
--- is the number of the first record, and `refused` the number of refusals before it
+-- is the number of the first record, and `refusals` the number of refusals before it
 abbrev pub runs_on : Version → ℕ → Opening → ℕ → BookView → ℕ → List Row → Pass RunState RunEnd
-runs_on version max_records opening number book refused rows = record {
+runs_on version max_records opening number book refusals rows = record {
   found = first_fault version max_records number rows;
   can_precede = IsInState book opening;
-  gives = λ from. Some (end_after version opening from refused rows);
+  gives = λ from. Some (end_after version opening from refusals rows);
   text = λ from. text_at version max_records opening number from rows;
 }
 

@@ -63,10 +63,11 @@ rests() {
     asks
 }
 
-# falls: fills the queue, and sends packets more slowly while it empties
+# falls COUNT SIZE: fills the queue, and lets it empty. Pings arrive meanwhile
 falls() {
-    floods 2000 500
-    floods 800 500 1000
+    /bin/ip netns exec a $box ping -q -c 1000 -i 0.005 -s 400 -W 1 10.0.2.1 > /dev/null &
+    floods $1 $2
+    $box kill $!
 }
 
 # crawls COUNT SIZE SECONDS: pings that leave at 1 kB/s, for this time. (The packet generator would wait until the last packet has left)

@@ -15,7 +15,4 @@ mod rows;
 mod value;
 
 pub use law::rows_are_written_as_objects;
-pub use object::{push_member, push_name};
 pub use report::AsJson;
-pub use rows::JsonRows;
-pub use value::push_value;

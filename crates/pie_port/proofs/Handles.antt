@@ -1,6 +1,9 @@
 -- The machine values of a `BoxPointer` and of a handle of any type, and the ownership of a closed and of an open handle.
 -- Assumes `Logic`.
-use Rattle.pie_port.proofs.Names.{Goal, Good, Item, List, Logic, None, Option, Ptr, RattleType, RawPtr, Seq, Some, Step, Ura, Val, Valss, [], and_tt, bare, block_ptr, box_owns, dnil, drop, ent, feq_i, feq_l, fjoin, fpack, fpick, fsep, fsplit, fst∗, ghosts, handle_tells, has_ty, in_a_block, layout, lone, move, never, nothing, null_ptr, of_list, ptr_val, refl, sem, step, subst, use1, vcons, vnil, vptr, vstruct, within, ‵, ℕ, ◌$◌, ◌++◌, ◌∷◌, ◌≡◌, ◌+◌, ◌<◌, sym, ◌∙◌, length, map, arith, get_or, drop_more, PieEvent, CallerView, ◌≤◌, zero, suc, take, slice_set, ap, Event, RawParams, params_after, params_in, ◌-◌, add-one}
+use Rattle.pie_port.proofs.Names.{Goal, Good, Item, List, Logic, None, Option, Ptr, RattleType, RawPtr, Seq, Some, Step, Ura, Val, Valss, []}
+use Rattle.pie_port.proofs.Names.{and_tt, bare, block_ptr, box_owns, dnil, drop, ent, feq_i, feq_l, fjoin, fpack, fpick, fsep, fsplit, fst∗}
+use Rattle.pie_port.proofs.Names.{ghosts, handle_tells, has_ty, in_a_block, layout, lone, move, never, nothing, null_ptr, of_list, ptr_val, refl}
+use Rattle.pie_port.proofs.Names.{sem, step, subst, use1, vcons, vnil, vptr, vstruct, within, ‵, ℕ, ◌$◌, ◌++◌, ◌∷◌, ◌≡◌}
 use mathlib.Core.Bool.{true, ◌&&◌}
 use lib.Dec.{T}
 use mir.Syntax.{impl, tnil, Sym}
@@ -10,7 +13,7 @@ use denote.Struct.Owning.{shape}
 use Rattle.core.specs.declared.alloc.Allocator.{Ghosts}
 use Rattle.core.proofs.alloc.Calls.{Al}
 use Rattle.pie_port.specs.contracts.handle.BoxPointer as loose
-use Rattle.pie_port.specs.{Global, Command, Reply, EventCall, Took, command_by, event_answered, events_answered, number_of, without_highest, highest_alone, IsBothOf, ExcerptView, text_of, event_row, record_text}
+use Rattle.pie_port.specs.{Global}
 use Rattle.pie_port.specs.Owned.{owns_if}
 use base.Fml.{Fml}
 use base.Fraction.{full_share}
@@ -22,12 +25,6 @@ use denote.Struct.Struct.{Shape, Struct}
 use Rattle.std.proofs.GlobalToken.{dealloc_token-Testable}
 use Rattle.std.specs.contracts.alloc.Global as heap
 use Rattle.std.proofs.alloc.Global.TheLaws as heap_laws
-use Rattle.std.proofs.Common.{length-append, length-drop}
-use Rattle.std.proofs.Math.ListN.{set}
-use Rattle.std.proofs.lemmas.List.{drop-set-lt, length-map, drop_all}
-use Rattle.std.proofs.lemmas.Grind.{common_steps, elements}
-use Rattle.pie_queue.specs.declared.packet.Waiting.{Waiting}
-use Rattle.pie_excerpt.specs.Reading.{queued_row}
 
 abbrev pub both : Val → Val → Val
 both v w = vstruct (vcons v (vcons w vnil))
@@ -115,104 +112,3 @@ module _ (R : RattleType) where
         (λ b c e.
         use1 𝓛 (given (Testable (block_ptr b c)) (‵ (box_owns (ghosts.dealloc_token a) R (block_ptr b c) x))) (tested 𝓛 a (block_ptr b c) x) $
         learn t (λ may. opened b c x refl e may))
-
--- ---- One more event of a burst is decided.
-
--- the command at a place, and those after it
-pub is_at : (call : EventCall) (es : List PieEvent) (i : ℕ) (d : PieEvent) (command : Command) → i < length es → command ≡ command_by call (get_or es i d)
-    → map (command_by call) (drop i es) ≡ command ∷ map (command_by call) (drop (i + 1) es)
-is_at call es i d command some is = grind (arith, drop_more es i d)
-
--- a place from which there is a command is one of an event
-pub is_place : (call : EventCall) (es : List PieEvent) (i : ℕ) → 0 < length (map (command_by call) (drop i es)) → i < length es
-is_place call es i some = omega (arith, some, length-map (drop i es) (command_by call), length-drop i es)
-
-none_answered : (call : EventCall) (caller : ℕ) (es : List PieEvent) → events_answered call caller es [] ≡ es
-none_answered call caller [] = refl
-none_answered call caller (e ∷ es) = refl
-
-answered-more : (call : EventCall) (caller : ℕ) (es : List PieEvent) (rs : List Reply) (r : Reply) (d : PieEvent) → length rs < length es
-    → events_answered call caller es (rs ++ r ∷ [])
-    ≡ set (events_answered call caller es rs) (length rs) (event_answered call caller (get_or (events_answered call caller es rs) (length rs) d) r)
-answered-more call caller [] rs r d some = absurd (omega (arith, some))
-answered-more call caller (e ∷ es) [] r d some = grind (arith, none_answered call caller es)
-answered-more call caller (e ∷ es) (q ∷ rs) r d some = grind (arith, answered-more call caller es rs r d)
-
-length-answered : (call : EventCall) (caller : ℕ) (es : List PieEvent) (rs : List Reply) → length (events_answered call caller es rs) ≡ length es
-length-answered call caller [] rs = refl
-length-answered call caller (e ∷ es) [] = refl
-length-answered call caller (e ∷ es) (r ∷ rs) = omega (arith, length-answered call caller es rs)
-
--- a burst took one more result, which was written to the event at its place
-pub took : (call : EventCall) (caller number : ℕ) (events now next : List PieEvent) (place done : ℕ) (replies : List Reply) (reply : Reply)
-    (d : PieEvent)
-    → Took call caller number events now done replies → done ≡ place → place < length now
-    → next ≡ set now place (event_answered call number (get_or now place d) reply)
-    → Took call caller number events next (place + 1) (replies ++ reply ∷ [])
-took call caller number events now next place done replies reply d before at some is =
-    let here : place ≡ length replies = sym at ∙ before.counted in
-    let few : length replies < length events = grind (arith, length-answered call caller events replies) in
-    let has_result = answered-more call caller events replies reply d few in record {
-      events_are = grind arith;
-      counted = omega (arith, here, length-append replies (reply ∷ []));
-      same = before.same;
-    }
-
--- the events after a place are unchanged
-pub later_stay : (call : EventCall) (l now : List PieEvent) (i : ℕ) (e : PieEvent) → now ≡ set l i e
-    → map (command_by call) (drop (i + 1) now) ≡ map (command_by call) (drop (i + 1) l)
-later_stay call l now i e is = grind (arith, drop-set-lt (i + 1) l i e)
-
--- a burst begins
-pub begun : (call : EventCall) (caller : ℕ) (events : List PieEvent) (done : ℕ) → done ≡ 0 → Took call caller caller events events done []
-begun call caller events done none = record { events_are = sym (none_answered call caller events); counted = none; same = refl }
-
--- ---- A port that takes back the number that it gave away is unchanged.
-
-pub taken_back : (p q s r : CallerView) → p.first < p.limit → q ≡ without_highest p → s ≡ highest_alone p → IsBothOf number_of q s r → r ≡ p
-taken_back p q s r some is_q is_s both = grind arith
-
--- ---- What a port writes: events as structs, one after another, and the records of an excerpt.
-
-module _ {X Y : Type 0} (f : X → Y) where
-  set : (ys : List Y) (xs : List X) (i : ℕ) (x : X) → i < length xs → length xs ≤ length ys → x ≡ get_or xs i x
-      → slice_set (map f (take i xs) ++ drop i ys) i (f x) ≡ map f (take (suc i) xs) ++ drop (suc i) ys
-  set ys [] i x lt le is = absurd (omega arith)
-  set [] (first ∷ xs) i x lt le is = absurd (omega arith)
-  set (y ∷ ys) (first ∷ xs) zero x lt le is = λ k. f (is k) ∷ ys
-  set (y ∷ ys) (first ∷ xs) (suc i) x lt le is = ap (λ (l : List Y). f first ∷ l) (set ys xs i x (omega (arith, lt)) (omega (arith, le)) is)
-
-  -- one more event is written at its place
-  pub set_next : (now ys : List Y) (xs : List X) (i : ℕ) (x : X) → i < length xs → length xs ≤ length ys → x ≡ get_or xs i x
-      → now ≡ map f (take i xs) ++ drop i ys → slice_set now i (f x) ≡ map f (take (i + 1) xs) ++ drop (i + 1) ys
-  set_next now ys xs i x lt le is before =
-      let next : i + 1 ≡ suc i = omega arith in
-      ap (λ (l : List Y). slice_set l i (f x)) before ∙ (set ys xs i x lt le is
-      ∙ sym (ap (λ n. map f (take n xs) ++ drop n ys) next))
-
-  -- all events are written
-  pub all_set : (now ys : List Y) (xs : List X) (i : ℕ) → i ≡ length xs → now ≡ map f (take i xs) ++ drop i ys
-      → now ≡ map f xs ++ drop (length xs) ys
-  all_set now ys xs i all is = grind (arith, common_steps)
-
--- the parameters after one more event
-pub params_next : (p : RawParams) (events : List Event) (i : ℕ) (e : Event) → i < length events → e ≡ get_or events i e
-    → params_after p (drop i events) ≡ params_after (params_in p e.command) (drop (i + 1) events)
-params_next p events i e lt is = grind (arith, drop_more events i e)
-
--- the parameters after all events
-pub params_end : (p : RawParams) (events : List Event) (i : ℕ) → length events ≤ i → params_after p (drop i events) ≡ p
-params_end p events i all = grind (arith, drop_all i events)
-
--- ---- the record at a place of an excerpt's text, after the `resume` record
-
-pub at_packet : (e : ExcerptView) (i : ℕ) (w : Waiting) → i < length e.waiting → w ≡ get_or e.waiting i w
-    → record_text e (i + 1) ≡ text_of (queued_row w)
-at_packet e i w lt is = rw add-one (grind (arith, elements))
-
-pub at_event : (e : ExcerptView) (i : ℕ) (event : Event) → length e.waiting ≤ i → i - length e.waiting < length e.events
-    → event ≡ get_or e.events (i - length e.waiting) event → record_text e (i + 1) ≡ text_of (event_row event)
-at_event e i event le lt is = rw add-one (grind (arith, elements))
-
-pub at_none : (e : ExcerptView) (i : ℕ) → length e.waiting ≤ i → length e.events ≤ i - length e.waiting → record_text e (i + 1) ≡ []
-at_none e i le past = grind (arith, elements)

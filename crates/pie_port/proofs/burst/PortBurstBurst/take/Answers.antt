@@ -1,7 +1,7 @@
 use Rattle.std.specs.Prelude.{slice_index_or, slice_set}
 use Rattle.pie_port.specs.{EventCall, event_answered, blank}
 use Rattle.std.proofs.Common.{◌≡◌, subst}
-use Rattle.pie_port.proofs.Handles.{is_place, later_stay, took}
+use Rattle.pie_port.proofs.Bursting.{is_place, later_stay, took}
 use Rattle.pie_port.proofs.burst.PortBurstBurst.take.Goals as goal
 
 pub returns-clause-commands : goal.returns-clause-commands

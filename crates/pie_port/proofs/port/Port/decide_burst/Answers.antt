@@ -1,7 +1,7 @@
 use Rattle.pie_port.specs.{AnswersWithin, WasBusy, command_by, events_answered}
 use Rattle.pie_port.proofs.Names.{◌≡◌, ◌∙◌, ℕ, [], refl, ap, subst, length, map, List, CallerView, LinkView, HasSameNumbers, PieEvent}
 use Rattle.std.proofs.Common.{inl, inr, rules}
-use Rattle.pie_port.proofs.Handles.{begun}
+use Rattle.pie_port.proofs.Bursting.{begun}
 use Rattle.pie_port.proofs.port.Port.decide_burst.Goals as goal
 use Rattle.pie_port.proofs.port.Port.decide_burst.Goals.{in-Ok, in-Err}
 

@@ -2,7 +2,7 @@
 _pie() {
     local word=${COMP_WORDS[COMP_CWORD]} subcommand=${COMP_WORDS[1]:-} words
     if [ "$COMP_CWORD" = 1 ]; then
-        words='run audit explain cut migrate storm params what-if help --help --version'
+        words='run audit explain cut migrate storm params what-if advise help --help --version'
     else
         case $subcommand in
             run) words='--count --progress --output --force --help' ;;
@@ -15,7 +15,8 @@ _pie() {
                 --no_cap_drop_adjustment --decay --overhead --mpu --linklayer --help' ;;
             what-if) words='--from --target --tupdate --max_burst --alpha --beta --mean_pkt --limit --mark_ecnth --dq_threshold --csv \
                 --progress --output --force --help' ;;
-            help) words='run audit explain cut migrate storm params what-if help' ;;
+            advise) words='--rate --rtt --flows --overhead --ecn --help' ;;
+            help) words='run audit explain cut migrate storm params what-if advise help' ;;
             *) words='' ;;
         esac
     fi

@@ -15,8 +15,11 @@ average, so the share is p / 1.85 (for small p). The controller is the update of
     ((alpha + beta) - beta e^-Ts) / Ts.
 The margins therefore depend on R and on the rate per flow, C / N.
 
-With --check nothing is drawn. The stored picture must equal the one that this script draws, and the
-margins are compared with other methods:
+It also writes crates/pie_advise/src/margin_table.rt, from which `pie advise` reads: the least margins
+of all round-trip times and rates per flow up to given ones, rounded down.
+
+With --check nothing is written. The stored picture and table must equal those that this script makes,
+and the margins are compared with other methods:
 
 - An integrator with a delay has its margins in closed form.
 - The frequency at which the loop's gain is 1 solves a cubic, if the controller is alpha and beta
@@ -40,6 +43,9 @@ PER_PICK = 1 + NEVER  # probability that adds up from pick to pick, on average
 TUNING = ((1e-6, 2048), (1e-5, 512), (1e-4, 128), (1e-3, 32), (1e-2, 8), (1e-1, 2))
 TRIPS = (0.01, 0.02, 0.05, 0.1, 0.2)
 RATES = [10 ** (place / 40) for place in range(-35, 81)]  # Mbit/s for each flow
+TABLE = Path(__file__).resolve().parent.parent / "crates/pie_advise/src/margin_table.rt"
+TABLE_TRIPS = (0.001, 0.01, 0.02, 0.05, 0.1, 0.2)  # the table has rows and columns for all of these but the first
+TABLE_RATES = (0.05, 0.1, 0.2, 0.5, 1, 2, 5, 10, 20, 50, 100, 200, 500, 1000)
 
 
 def divisor(prob):
@@ -100,6 +106,55 @@ def curve(trip, rates=RATES):
         share = share_at(rate, trip + TARGET)
         if share <= 0.5:
             yield rate, margins(Loop(trip + TARGET, share))
+
+
+def between(least, greatest, steps=12):
+    """Returns values from `least` to `greatest`, with equal ratios."""
+    return [least * (greatest / least) ** (step / steps) for step in range(steps + 1)]
+
+
+def lesser(*found):
+    """Returns the least of each of these margins; None if there are none."""
+    found = [both for both in found if both]
+    return (min(it[0] for it in found), min(it[1] for it in found)) if found else None
+
+
+def least_table():
+    """Returns a row for each round-trip time of the table, with the least margins for each rate per flow."""
+    rows = []
+    for trips in zip(TABLE_TRIPS, TABLE_TRIPS[1:]):
+        row = []
+        for place, rates in enumerate(zip(TABLE_RATES, TABLE_RATES[1:])):
+            here = [both for trip in between(*trips) for _, both in curve(trip, between(*rates))]
+            row.append(lesser(*here, rows[-1][place] if rows else None, row[-1] if row else None))
+        rows.append(row)
+    return rows
+
+
+def entry(both):
+    if both is None:
+        return "Margin::Outside"
+    return "Margin::Unstable" if min(both) < 0 else f"Margin::Stable({math.floor(both[0])}, {math.floor(both[1])})"
+
+
+def numbers(name, about, values, scale):
+    """Returns the source of a constant of whole numbers, as `rt fmt` lays it out."""
+    words = [f"{value * scale:_.0f}" for value in values]
+    begun = f"/// {about}\npub(crate) const {name}: [u64; {len(words)}] = ["
+    line = f"{begun}{', '.join(words)}];\n"
+    return line if len(line.splitlines()[1]) <= 100 else f"{begun}\n{''.join(f'    {word},{chr(10)}' for word in words)}];\n"
+
+
+def table():
+    """Returns the source of the table."""
+    rows = least_table()
+    entries = "".join(f"    {entry(both)},\n" for row in rows for both in row)
+    return (f"//! The margins of stability, written by docs/margins.py.\n\nuse crate::margin::Margin;\n\n"
+            f"{numbers('TRIPS', 'Round-trip times without the queue, in nanoseconds.', TABLE_TRIPS[1:], 1e9)}\n"
+            f"{numbers('RATES', 'Rates per flow, in bits per second.', TABLE_RATES[1:], 1e6)}\n"
+            "/// The least margins of all round-trip times and rates per flow up to those of the entry: for each round-trip time an\n"
+            "/// entry for each rate per flow.\n"
+            f"pub(crate) const MARGINS: [Margin; {len(rows) * len(rows[0])}] = [\n{entries}];\n")
 
 
 def drawn():
@@ -223,9 +278,13 @@ def checks():
 def main():
     is_check = sys.argv[1:] == ["--check"]
     keep("margins.svg", drawn(), is_check)
-    if is_check:
+    if not is_check:
+        TABLE.write_text(table())
+    else:
+        if TABLE.read_text() != table():
+            sys.exit(f"docs/margins.py: {TABLE} is not the table that this script writes")
         checks()
-        print("docs/margins.py: the stored picture is the one that this script draws; other methods find the same margins, and simulations agree")
+        print("docs/margins.py: the stored picture and table are those that this script makes; other methods find the same margins, and simulations agree")
 
 
 if __name__ == "__main__":

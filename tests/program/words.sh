@@ -25,7 +25,7 @@ help() {
 help pie --help
 help pie.short -h
 help pie help
-for name in run audit explain cut migrate storm params; do
+for name in run audit explain cut migrate storm params advise; do
     help "$name" "$name" --help
     help "$name.short" "$name" -h
     help "$name" help "$name"

@@ -24,7 +24,7 @@ pub use Rattle.pie_commands.specs.declared.cut.Pieces.TheVariants.{Every, Part}
 pub use Rattle.pie_commands.specs.declared.cut.CutRequest.TheVariants.{Last, Once}
 pub use Rattle.pie_commands.specs.declared.end.End.{End}
 pub use Rattle.pie_commands.specs.declared.end.End.TheVariants.{Done, Failed, Fault, CannotStart, NoOutputFile, Unopened}
-pub use Rattle.pie_commands.specs.declared.options.subcommand.Subcommand.TheVariants.{Audit, Cut, Explain, Migrate, Params, Run, Storm, WhatIf}
+pub use Rattle.pie_commands.specs.declared.options.subcommand.Subcommand.TheVariants.{Advise, Audit, Cut, Explain, Migrate, Params, Run, Storm, WhatIf}
 pub use Rattle.pie_cut.specs.Joined.{EndView, JoinsText}
 pub use Rattle.pie_cut.specs.Excerpt.{HasLast}
 pub use Rattle.pie_cut.specs.declared.joint_audit.Joined.{Joined}

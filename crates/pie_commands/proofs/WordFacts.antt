@@ -3,7 +3,7 @@ use Rattle.pie_commands.proofs.Names.{◌≡◌, ◌∙◌, ◌+◌, ◌<◌, �
 use Rattle.pie_commands.proofs.Names.{false, refl, ap, ◌&&◌, not, AddsSubcommand, App, app_of, with_subcommand, Subcommand, Run, Wants, app_for}
 use Rattle.pie_commands.proofs.Names.{with_subcommands, [], Option, Some, None, codes, sym, option_and_then, option_map, unwrap_or, if◌then◌else◌}
 use Rattle.pie_commands.proofs.Names.{bytes_eq, HasMatchesOf, Row, Text, found_of, is_simple, rows_of, subcommand_rows_of, subcommand_name_of}
-use Rattle.pie_commands.proofs.Names.{clap_on_literals, Audit, Explain, Cut, Migrate, Storm, Params, WhatIf, options_in, pie_app, subcommand_in}
+use Rattle.pie_commands.proofs.Names.{clap_on_literals, Advise, Audit, Explain, Cut, Migrate, Storm, Params, WhatIf, options_in, pie_app, subcommand_in}
 use Rattle.std.proofs.Math.Seq.{drop-length}
 use Rattle.clap.specs.declared.builder.command.Command.{Command}
 use Rattle.std.specs.Box.{box_value}
@@ -87,6 +87,7 @@ asked_by word = if bytes_eq word (codes "run") then Some Run
     else if bytes_eq word (codes "storm") then Some Storm
     else if bytes_eq word (codes "params") then Some Params
     else if bytes_eq word (codes "what-if") then Some WhatIf
+    else if bytes_eq word (codes "advise") then Some Advise
     else None
 
 asked-word : (subcommand : Subcommand) → asked_by (word_of subcommand) ≡ Some subcommand
@@ -105,8 +106,9 @@ known-word word one is other same = ap Some (same-word one other (ap Some (sym i
 -- a word that is no subcommand's name selects none
 pub unknown-word : (word : Text) → bytes_eq word (codes "run") ≡ false → bytes_eq word (codes "audit") ≡ false
     → bytes_eq word (codes "explain") ≡ false → bytes_eq word (codes "cut") ≡ false → bytes_eq word (codes "migrate") ≡ false
-    → bytes_eq word (codes "storm") ≡ false → bytes_eq word (codes "params") ≡ false → bytes_eq word (codes "what-if") ≡ false → (subcommand : Subcommand) → word ≡ word_of subcommand
+    → bytes_eq word (codes "storm") ≡ false → bytes_eq word (codes "params") ≡ false → bytes_eq word (codes "what-if") ≡ false
+    → bytes_eq word (codes "advise") ≡ false → (subcommand : Subcommand) → word ≡ word_of subcommand
     → None ≡ Some subcommand
-unknown-word word run audit explain cut migrate storm params what_if subcommand is =
-    let none : asked_by word ≡ None = rw (run, audit, explain, cut, migrate, storm, params, what_if) refl in
+unknown-word word run audit explain cut migrate storm params what_if advise subcommand is =
+    let none : asked_by word ≡ None = rw (run, audit, explain, cut, migrate, storm, params, what_if, advise) refl in
     sym none ∙ ap asked_by is ∙ asked-word subcommand

@@ -6,7 +6,7 @@ use Rattle.clap.specs.declared.error.Error.{Error}
 use Rattle.clap.specs.declared.error.kind.ErrorKind.TheVariants.{OutOfMemory}
 use Rattle.clap.specs.declared.parser.matches.ArgMatches.{ArgMatches}
 use Rattle.pie_commands.specs.declared.options.subcommand.Subcommand.{Subcommand}
-use Rattle.pie_commands.specs.declared.options.subcommand.Subcommand.TheVariants.{Run, Audit, Explain, Cut, Migrate, Storm, Params, WhatIf}
+use Rattle.pie_commands.specs.declared.options.subcommand.Subcommand.TheVariants.{Run, Audit, Explain, Cut, Migrate, Storm, Params, WhatIf, Advise}
 use Rattle.pie_commands.specs.Words.{word_of}
 use Rattle.pie_commands.specs.Words.{Asks, file_in, files_in, is_forced, is_joined, options_in, output_in, pie_app, subcommand_in}
 use Rattle.pie_commands.specs.Files.{Opens, text_given}
@@ -21,10 +21,11 @@ use Rattle.pie_commands.specs.Files.{EndsIn}
 use Rattle.pie_commands.specs.StormEnds.{EndsStorm}
 use Rattle.pie_commands.specs.Tuning.{EndsParams}
 use Rattle.pie_commands.specs.WhatIfEnds.{EndsWhatIf}
+use Rattle.pie_commands.specs.Advising.{EndsAdvise}
 
 -- the end of a subcommand with these options, with its output. `input` is the known text of the reader and `files`
--- the known text of each file. If `works`, a known file can always be opened. A storm alone can lack memory or a thread
--- before it writes anything
+-- the known text of each file. If `works`, a known file can always be opened. A storm and an advice alone can lack
+-- memory, or a storm a thread, before they write anything
 abbrev pub EndsAs : Subcommand → List Row → Bool → Option (List ℕ) → Held → End → Option (List ℕ) → Option (List ℕ) → Type 0
 EndsAs Run options works input files = EndsRead (Opens works files (file_in options)) (EndsRun (text_given input files (file_in options)))
 EndsAs Audit options works input files = EndsAuditing works (is_joined options) input files (files_in options)
@@ -37,12 +38,14 @@ EndsAs Storm options works input files = EndsStorm options
 EndsAs Params options works input files = EndsParams options
 EndsAs WhatIf options works input files =
     EndsWhatIf (Opens works files (file_in options)) options (text_given input files (file_in options))
+EndsAs Advise options works input files = EndsAdvise options
 
 -- the name of the file that a subcommand writes instead of the caller's writer
 abbrev pub output_for : Subcommand → List Row → Option Text
 output_for Audit options = None
 output_for Storm options = None
 output_for Params options = None
+output_for Advise options = None
 output_for _ options = output_in options
 
 -- the end of a subcommand that writes to the caller's writer, or to a new file for the name in the options; with

@@ -11,7 +11,7 @@ use Rattle.clap.specs.Words.{app_of}
 use Rattle.clap.specs.declared.builder.action.ArgAction.TheVariants.{Append, SetTrue}
 use Rattle.clap.specs.declared.builder.value_parser.ValueParser.TheVariants.{Unsigned}
 use Rattle.pie_commands.specs.declared.options.subcommand.Subcommand.{Subcommand}
-use Rattle.pie_commands.specs.declared.options.subcommand.Subcommand.TheVariants.{Run, Audit, Explain, Cut, Migrate, Storm, Params, WhatIf}
+use Rattle.pie_commands.specs.declared.options.subcommand.Subcommand.TheVariants.{Run, Audit, Explain, Cut, Migrate, Storm, Params, WhatIf, Advise}
 use Rattle.pie_commands.specs.Files.{file_of}
 use Rattle.pie_commands.specs.declared.options.argument.Argument.{Argument}
 use Rattle.pie_commands.specs.declared.options.argument.ValueKind.{ValueKind}
@@ -102,6 +102,7 @@ rules_for WhatIf = text_rule (codes "from") ∷ text_rule (codes "target") ∷ t
     ∷ number_rule (codes "alpha") 0 32 ∷ number_rule (codes "beta") 0 32 ∷ number_rule (codes "mean_pkt") 1 65535 ∷ number_rule (codes "limit") 1 (2 ^ 30)
     ∷ number_rule (codes "mark_ecnth") 0 1_000_000_000_000 ∷ number_rule (codes "dq_threshold") 1024 65536 ∷ flag_rule (codes "csv")
     ∷ progress_rule ∷ output_rule ∷ force_rule ∷ file_rule ∷ []
+rules_for Advise = text_rule (codes "rate") ∷ text_rule (codes "rtt") ∷ text_rule (codes "flows") ∷ text_rule (codes "overhead") ∷ flag_rule (codes "ecn") ∷ []
 
 -- the name of each subcommand
 abbrev pub word_of : Subcommand → Text
@@ -113,6 +114,7 @@ word_of Migrate = codes "migrate"
 word_of Storm = codes "storm"
 word_of Params = codes "params"
 word_of WhatIf = codes "what-if"
+word_of Advise = codes "advise"
 
 abbrev pub app_for : Subcommand → App
 app_for subcommand = with_rules (new_app (word_of subcommand)) (rules_for subcommand)
@@ -125,7 +127,7 @@ abbrev pub with_subcommands : App → List Subcommand → App
 with_subcommands = with_all_subcommands adds
 
 abbrev pub pie_app : App
-pie_app = with_subcommands pie_alone (Run ∷ Audit ∷ Explain ∷ Cut ∷ Migrate ∷ Storm ∷ Params ∷ WhatIf ∷ [])
+pie_app = with_subcommands pie_alone (Run ∷ Audit ∷ Explain ∷ Cut ∷ Migrate ∷ Storm ∷ Params ∷ WhatIf ∷ Advise ∷ [])
 
 -- ---- subcommands
 

@@ -5,6 +5,7 @@ ghost use Rattle.pie_commands.specs.Files.{EndsAt, file_of};
 ghost use Rattle.pie_commands.specs.Words.{file_in, is_forced};
 ghost use Rattle.pie_commands.specs.Subcommands.{EndsAs, output_for};
 
+use crate::advise::advise;
 use crate::audit::audit;
 use crate::cut::cut;
 use crate::end::End;
@@ -51,6 +52,7 @@ pub(crate) fn dispatch<
         Subcommand::Storm => storm(rt, alloc, options, output, errors),
         Subcommand::Params => params(alloc, options, output, errors),
         Subcommand::WhatIf => what_if(rt, alloc, options, input, output, errors),
+        Subcommand::Advise => advise(alloc, options, output, errors),
     }
 }
 
@@ -86,7 +88,7 @@ pub(crate) fn output_for<'a>(subcommand: Subcommand, options: &ArgMatches<'a>) -
     ensures { option_map (λ name. name.now) result ≡ output_for subcommand (rows_of (found_of options.now)) }
 {
     match subcommand {
-        Subcommand::Audit | Subcommand::Storm | Subcommand::Params => None,
+        Subcommand::Audit | Subcommand::Storm | Subcommand::Params | Subcommand::Advise => None,
         _ => output(options),
     }
 }

@@ -16,6 +16,7 @@
 //! input, or when it is dropped. It ignores failed writes to the error stream and a clock that can't be read.
 #![tactic(auto)]
 
+mod advise;
 mod audit;
 mod comparison;
 mod cut;

@@ -4,6 +4,7 @@
 //! `flag`, `file` and the other functions of values.rt read the options that `clap` matched. `Subcommand::named`
 //! returns the subcommand of a name.
 
+mod advise_page;
 mod argument;
 mod command_line;
 mod history_pages;

@@ -42,7 +42,7 @@ fn number_in(
 }
 
 /// Returns the overhead of the option `--overhead`, or none if it isn't given.
-fn overhead_in(options: &ArgMatches<'_>) -> Result<Overhead, OptionFault>
+pub(crate) fn overhead_in(options: &ArgMatches<'_>) -> Result<Overhead, OptionFault>
     ensures { result ≡ given_or overhead_of (Overhead.Added 0) (first_of (codes "overhead") (rows_of (found_of options.now))) }
 {
     match text(options, "overhead") {

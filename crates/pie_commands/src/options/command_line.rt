@@ -3,6 +3,7 @@ ghost use Rattle.std.specs.Prelude.{◌≡◌, ◌<◌, ◌∷◌, IfOk, List, [
 ghost use Rattle.clap.specs.Words.{App, Rule, app_of, new_app, new_rule, with_rule};
 ghost use Rattle.pie_commands.specs.Words.{rule_for, Wants, word_of, adds, app_for, pie_alone, pie_app, rules_for, with_rules, with_subcommands};
 
+use crate::options::advise_page::ADVISE;
 use crate::options::argument::{Argument, Page, arg_of};
 use crate::options::history_pages::{AUDIT, CUT, EXPLAIN, MIGRATE};
 use crate::options::subcommand::Subcommand;
@@ -76,6 +77,7 @@ fn page_of<'a>(subcommand: Subcommand) -> Page<'a>
         Subcommand::Storm => STORM,
         Subcommand::Params => PARAMS,
         Subcommand::WhatIf => WHAT_IF,
+        Subcommand::Advise => ADVISE,
     }
 }
 
@@ -90,6 +92,7 @@ pub(crate) fn arguments_of(subcommand: Subcommand) -> &'static [Argument] {
         Subcommand::Storm => STORM.arguments,
         Subcommand::Params => PARAMS.arguments,
         Subcommand::WhatIf => WHAT_IF.arguments,
+        Subcommand::Advise => ADVISE.arguments,
     }
 }
 
@@ -166,6 +169,7 @@ pub(crate) fn options<'a>(alloc: Global) -> Result<Command<'a>, AllocError>
             Subcommand::Storm,
             Subcommand::Params,
             Subcommand::WhatIf,
+            Subcommand::Advise,
         ],
     )
 }

@@ -22,6 +22,8 @@ pub(crate) enum Subcommand {
     Params,
     /// Decide a history again with other parameters.
     WhatIf,
+    /// Advise on parameters.
+    Advise,
 }
 
 impl Subcommand {
@@ -39,6 +41,7 @@ impl Subcommand {
             "storm" => Some(Subcommand::Storm),
             "params" => Some(Subcommand::Params),
             "what-if" => Some(Subcommand::WhatIf),
+            "advise" => Some(Subcommand::Advise),
             _ => None,
         }
     }

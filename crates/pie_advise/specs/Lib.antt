@@ -1,0 +1,5 @@
+pub mod Advice
+pub mod Margins
+pub mod Outlook
+pub mod Request
+pub mod Settings

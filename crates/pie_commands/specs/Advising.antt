@@ -1,0 +1,73 @@
+-- `pie advise`: the link that its options describe, and its end.
+use Rattle.std.specs.Prelude.{ℕ, ◌≡◌, ◌==◌, List, [], Bool, Option, Some, None, Result, Ok, Err, codes, if◌then◌else◌, option_and_then}
+use Rattle.std.specs.Io.KnownBytes.{Appends}
+use Rattle.std.specs.Result.{result_ok}
+use Rattle.clap.specs.Words.{Row, Text, first_of}
+use Rattle.pie_advise.specs.Advice.{IsAdvice, opening_for_link, tuning_for}
+use Rattle.pie_advise.specs.Request.{range_in}
+use Rattle.pie_advise.specs.declared.request.Range.{Range}
+use Rattle.pie_advise.specs.declared.request.Request.{Request}
+use Rattle.pie_params.specs.Params.{IsInRange}
+use Rattle.pie_record.specs.declared.fault.TraceFault.TheVariants as trace_fault
+use Rattle.pie_units.specs.Number.{rate_of}
+use Rattle.pie_units.specs.Opening.{overhead_of, params_for}
+use Rattle.pie_units.specs.declared.layer.Overhead.{Overhead}
+use Rattle.pie_units.specs.declared.layer.Overhead.TheVariants.{Added}
+use Rattle.pie_units.specs.declared.unit.Quantity.{Quantity}
+use Rattle.pie_units.specs.declared.unit.Quantity.TheVariants.{Packets, Time}
+use Rattle.pie_commands.specs.Ends.{WritesNothing}
+use Rattle.pie_commands.specs.Tuning.{given_or}
+use Rattle.pie_commands.specs.Words.{flag_given}
+use Rattle.pie_commands.specs.declared.end.End.{End}
+use Rattle.pie_commands.specs.declared.end.End.TheVariants.{Done, Differs, Fault, Unopened, CannotStart, NoOutputFile, Failed}
+
+-- the rate of the options
+abbrev pub rate_given : List Row → Option ℕ
+rate_given options = option_and_then (λ text. result_ok (rate_of text)) (first_of (codes "rate") options)
+
+-- the range of an option of this name
+abbrev pub range_given : Text → Quantity → List Row → Option Range
+range_given name kind options = option_and_then (λ text. range_in kind text) (first_of name options)
+
+-- the overhead of the options: none without the option
+abbrev pub overhead_given : List Row → Option Overhead
+overhead_given options = result_ok (given_or overhead_of (Added 0) (first_of (codes "overhead") options))
+
+-- a link with these values, of which each is valid, and with at least one flow
+abbrev pub request_with : Option ℕ → Option Range → Option Range → Option Overhead → Bool → Option Request
+request_with (Some rate) (Some trips) (Some flows) (Some overhead) ecn =
+    if flows.least == 0 then None
+    else Some (record { rate = rate; trips = trips; flows = flows; overhead = overhead; ecn = ecn })
+request_with (Some rate) (Some trips) (Some flows) None ecn = None
+request_with (Some rate) (Some trips) None overhead ecn = None
+request_with (Some rate) None flows overhead ecn = None
+request_with None trips flows overhead ecn = None
+
+-- the link that the options describe
+abbrev pub request_in : List Row → Option Request
+request_in options =
+    request_with (rate_given options) (range_given (codes "rtt") Time options) (range_given (codes "flows") Packets options) (overhead_given options)
+    (flag_given (codes "ecn") options)
+
+-- the advice about the link was written, and the parameters are in their ranges
+pub record WritesAdvice (request : Request) (before now : Option (List ℕ)) : Type 0 where
+  pub in_range : IsInRange (params_for (tuning_for request))
+  pub text : List ℕ
+  pub advice : IsAdvice request (opening_for_link request) [] text
+  pub written : Appends before now text
+
+-- the end of an advice about a link: it was written; or the writer failed; or there was no memory and nothing was
+-- written; or a parameter is out of its range and nothing was written
+abbrev pub advises : Option Request → End → Option (List ℕ) → Option (List ℕ) → Type 0
+advises None end before now = WritesNothing end before now
+advises (Some request) Done before now = WritesAdvice request before now
+advises (Some request) Differs before now = ⊥
+advises (Some request) (Fault why) before now = why ≡ trace_fault.Write
+advises (Some request) Unopened before now = ⊥
+advises (Some request) CannotStart before now = now ≡ before
+advises (Some request) NoOutputFile before now = ⊥
+advises (Some request) Failed before now = (now ≡ before) × (IsInRange (params_for (tuning_for request)) → ⊥)
+
+-- the end of `pie advise`; if the options describe no link, nothing is written
+abbrev pub EndsAdvise : List Row → End → Option (List ℕ) → Option (List ℕ) → Type 0
+EndsAdvise options = advises (request_in options)

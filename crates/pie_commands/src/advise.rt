@@ -1,0 +1,133 @@
+//! `pie advise`: writes advice on the parameters of a queue for a link.
+ghost use Rattle.std.specs.Prelude.{◌≡◌, ◌⊎◌, Some};
+ghost use Rattle.std.specs.Io.KnownBytes.{Appends};
+ghost use Rattle.clap.specs.Words.{found_of, rows_of};
+ghost use Rattle.pie_advise.specs.Advice.{opening_for_link, tuning_for};
+ghost use Rattle.pie_params.specs.Params.{IsInRange};
+ghost use Rattle.pie_units.specs.Opening.{params_for};
+ghost use Rattle.pie_commands.specs.Advising.{EndsAdvise, advises, range_given, rate_given, request_in};
+ghost use Rattle.pie_record.specs.declared.fault.TraceFault.TheVariants as trace_fault;
+
+use crate::end::{End, end_failed, end_unable, end_with_fault};
+use crate::options::{flag, parsed, text};
+use crate::params::overhead_in;
+use clap::ArgMatches;
+use pie_advise::{Range, Request, opening_for_link, push_advice, range_in};
+use pie_event::Opening;
+use pie_text::Page;
+use pie_trace::TraceFault;
+use pie_units::{Quantity, rate_of};
+use std::alloc::Global;
+use std::io::Write;
+
+/// Returns the rate that the options give. If they give none, writes a line to `errors`.
+fn rate_given<E: Write>(options: &ArgMatches<'_>, errors: &mut E) -> Option<u64>
+    ensures { result ≡ rate_given (rows_of (found_of options.now)) }
+{
+    let Some(text) = text(options, "rate") else {
+        let _ = writeln!(errors, "pie: advise needs --rate, such as --rate 20mbit");
+        return None;
+    };
+    parsed(rate_of(text), "--rate", errors)
+}
+
+/// Returns the range of the option `name`, of numbers of this kind, such as `example`. If there is none, writes a line to
+/// `errors`.
+fn range_given<E: Write>(
+    options: &ArgMatches<'_>,
+    name: &str,
+    kind: Quantity,
+    example: &str,
+    errors: &mut E,
+) -> Option<Range>
+    ensures { result ≡ range_given name.now kind (rows_of (found_of options.now)) }
+{
+    let Some(text) = text(options, name) else {
+        let _ = writeln!(
+            errors,
+            "pie: advise needs --{name}, such as --{name} {example}"
+        );
+        return None;
+    };
+    let range = range_in(kind, text.as_bytes());
+    if range.is_none() {
+        let _ = writeln!(
+            errors,
+            "pie: --{name} must be a value, or the least and the greatest one with a dash between them, such as {example}"
+        );
+    }
+    range
+}
+
+/// Returns the link that the options describe. If a value is missing or not valid, writes a line to `errors`.
+fn request_of<E: Write>(options: &ArgMatches<'_>, errors: &mut E) -> Option<Request>
+    ensures { result ≡ request_in (rows_of (found_of options.now)) }
+{
+    let rate = rate_given(options, errors)?;
+    let trips = range_given(options, "rtt", Quantity::Time, "10ms-100ms", errors)?;
+    let flows = range_given(options, "flows", Quantity::Packets, "1-16", errors)?;
+    let overhead = parsed(overhead_in(options), "--overhead", errors)?;
+    if flows.least == 0 {
+        let _ = writeln!(errors, "pie: --flows must be at least 1");
+        return None;
+    }
+    let ecn = flag(options, "ecn");
+    Some(Request {
+        rate,
+        trips,
+        flows,
+        overhead,
+        ecn,
+    })
+}
+
+/// Writes these bytes to `output`, and flushes it.
+fn write_whole<W: Write, E: Write>(bytes: &[u8], output: &mut W, errors: &mut E) -> End
+    ensures { ((result ≡ End.Done) × Appends (W.contents output.old) (W.contents output.new) bytes.now) ⊎ (result ≡ End.Fault trace_fault.Write) }
+{
+    let written = match output.write_all(bytes) {
+        Ok(()) => output.flush(),
+        Err(why) => Err(why),
+    };
+    match written {
+        Ok(()) => End::Done,
+        Err(_) => end_with_fault(errors, TraceFault::Write),
+    }
+}
+
+/// Writes the advice about an opening for a link.
+#[tactic(auto, using(crate::proofs::AdviceFacts::wrote))]
+fn write_advice<W: Write, E: Write>(
+    alloc: Global,
+    request: &Request,
+    opening: &Opening,
+    output: &mut W,
+    errors: &mut E,
+) -> End
+    ensures { opening.now ≡ opening_for_link request.now → IsInRange (params_for (tuning_for request.now))
+        → advises (Some request.now) result (W.contents output.old) (W.contents output.new) }
+{
+    let mut page = Page::new(alloc);
+    match push_advice(&mut page, request, opening) {
+        Ok(()) => write_whole(page.as_bytes(), output, errors),
+        Err(_) => end_unable(errors, "out of memory"),
+    }
+}
+
+/// `pie advise`: writes advice on the parameters of a queue for the link that the options describe.
+pub(crate) fn advise<W: Write, E: Write>(
+    alloc: Global,
+    options: &ArgMatches<'_>,
+    output: &mut W,
+    errors: &mut E,
+) -> End
+    ensures { EndsAdvise (rows_of (found_of options.now)) result (W.contents output.old) (W.contents output.new) }
+{
+    let Some(request) = request_of(options, errors) else {
+        return End::Failed;
+    };
+    match opening_for_link(&request) {
+        Ok(opening) => write_advice(alloc, &request, &opening, output, errors),
+        Err(why) => end_failed(errors, why),
+    }
+}

@@ -1,4 +1,5 @@
 mod Names
+mod AdviceFacts
 mod EndFacts
 mod Examples
 mod FileAuditFacts

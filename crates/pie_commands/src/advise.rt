@@ -2,7 +2,9 @@
 ghost use Rattle.std.specs.Prelude.{◌≡◌, ◌⊎◌, Some};
 ghost use Rattle.std.specs.Io.KnownBytes.{Appends};
 ghost use Rattle.clap.specs.Words.{found_of, rows_of};
-ghost use Rattle.pie_advise.specs.Advice.{opening_for_link};
+ghost use Rattle.pie_advise.specs.Advice.{opening_for_link, tuning_for};
+ghost use Rattle.pie_params.specs.Params.{IsInRange};
+ghost use Rattle.pie_units.specs.Opening.{params_for};
 ghost use Rattle.pie_commands.specs.Advising.{EndsAdvise, advises, range_given, rate_given, request_in};
 ghost use Rattle.pie_record.specs.declared.fault.TraceFault.TheVariants as trace_fault;
 
@@ -94,6 +96,7 @@ fn write_whole<W: Write, E: Write>(bytes: &[u8], output: &mut W, errors: &mut E)
 }
 
 /// Writes the advice about an opening for a link.
+#[tactic(auto, using(crate::proofs::AdviceFacts::wrote))]
 fn write_advice<W: Write, E: Write>(
     alloc: Global,
     request: &Request,
@@ -101,14 +104,14 @@ fn write_advice<W: Write, E: Write>(
     output: &mut W,
     errors: &mut E,
 ) -> End
-    ensures { opening.now ≡ opening_for_link request.now
+    ensures { opening.now ≡ opening_for_link request.now → IsInRange (params_for (tuning_for request.now))
         → advises (Some request.now) result (W.contents output.old) (W.contents output.new) }
 {
     let mut page = Page::new(alloc);
-    if push_advice(&mut page, request, opening).is_err() {
-        return end_unable(errors, "out of memory");
+    match push_advice(&mut page, request, opening) {
+        Ok(()) => write_whole(page.as_bytes(), output, errors),
+        Err(_) => end_unable(errors, "out of memory"),
     }
-    write_whole(page.as_bytes(), output, errors)
 }
 
 /// `pie advise`: writes advice on the parameters of a queue for the link that the options describe.

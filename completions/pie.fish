@@ -30,6 +30,7 @@ complete -c pie -n '__fish_seen_subcommand_from explain' -l full -d 'several lin
 complete -c pie -n '__fish_seen_subcommand_from explain' -l flows -x -d 'a summary of each of the N largest flows'
 complete -c pie -n '__fish_seen_subcommand_from explain' -l digest -d 'summaries, and lost and marked packets'
 complete -c pie -n '__fish_seen_subcommand_from explain' -l csv -d 'CSV instead of words'
+complete -c pie -n '__fish_seen_subcommand_from explain' -l json -d 'objects of JSON instead of words'
 complete -c pie -n '__fish_seen_subcommand_from explain' -l wall -d 'moments as wall-clock times in UTC'
 complete -c pie -n '__fish_seen_subcommand_from cut' -l from -x -d 'events at or after this moment or time'
 complete -c pie -n '__fish_seen_subcommand_from cut' -l to -x -d 'events at or before this moment or time'

@@ -1,0 +1,11 @@
+-- The report as objects of JSON is the output of its kind.
+use Rattle.pie_commands.proofs.explain.explain_with.Goals as goal
+
+pub returns-in-JsonRecords : goal.returns-in-JsonRecords
+returns-in-JsonRecords g c = rw c.in-JsonRecords.is c.explain-in-JsonRecords.ensures
+
+pub returns-in-JsonSums : goal.returns-in-JsonSums
+returns-in-JsonSums g c = rw c.in-JsonSums.is c.explain-in-JsonSums.ensures
+
+pub returns-in-JsonFlows : goal.returns-in-JsonFlows
+returns-in-JsonFlows g c = rw c.in-JsonFlows.is c.explain-in-JsonFlows.ensures

@@ -1,3 +1,4 @@
+-- The report as objects of JSON is the output of its kind.
 use Rattle.pie_commands.proofs.explain.explain_with.Goals as goal
 
 pub returns-in-JsonRecords : goal.returns-in-JsonRecords

@@ -1,15 +1,17 @@
 -- Facts about the promises of each subcommand: if files hold more than is known, and for the command line that selects it.
 use Rattle.std.proofs.Common.{arith}
 use Rattle.std.proofs.lemmas.Bool.Decides.{nat_tests}
-use Rattle.pie_commands.proofs.Names.{◌≡◌, ◌∙◌, ℕ, List, [], ◌∷◌, Option, Some, Bool, true, subst, sym, IfErr, IfOk, Result, Ok, Err, option_map, App}
+use Rattle.pie_commands.proofs.Names.{◌≡◌, ◌∙◌, refl, ℕ, List, [], ◌∷◌, Option, Some, Bool, true, subst, sym, IfErr, IfOk, Result, Ok, Err, option_map, App}
 use Rattle.pie_commands.proofs.Names.{HasMatchesOf, Text, kind_of, subcommand_name_of, subcommand_rows_of, takes, End, CannotStart, Failed, Audit, file_in, get_or, inl, inr, None, take}
 use Rattle.pie_commands.proofs.Names.{files_in, is_forced, is_joined, options_in, pie_app, subcommand_in, Joined, EndView, text_given, Held, Keeps}
 use Rattle.pie_commands.proofs.Names.{AuditsFiles, HaveOutcomes, FileOutcome, HasFileOutcome, EndsAuditing, EndsFiles, LacksFinding, Answers, EndsAs, EndsTo, FindsMatches}
 use Rattle.pie_commands.proofs.Names.{may_differ, output_for, Finds, JoinsText, records_of, ◌++◌, false}
 use Rattle.pie_commands.proofs.Names.{IfSome}
 use Rattle.pie_commands.specs.Files.{Opens, opens_after}
+use Rattle.pie_advise.specs.declared.request.Request.{Request}
+use Rattle.pie_commands.specs.Advising.{advises, request_in}
 use Rattle.pie_commands.specs.WhatIfEnds.{EndsCompared, alteration_of, end_of_what_if, ends_what_if, writes_other}
-use Rattle.pie_commands.specs.declared.options.subcommand.Subcommand.TheVariants.{WhatIf}
+use Rattle.pie_commands.specs.declared.options.subcommand.Subcommand.TheVariants.{Advise, Cut, Explain, Migrate, Params, Run, Storm, WhatIf}
 use Rattle.pie_commands.specs.declared.end.End.TheVariants.{Done, Fault, NoOutputFile, Unopened as NotOpened}
 use Rattle.pie_what_if.specs.Result.{IsDecidedAgain}
 use Rattle.pie_what_if.specs.declared.alteration.Alteration.{Alteration}
@@ -149,9 +151,21 @@ EndsAs-kept other options works input old new end before now keeps promise =
 
 -- ---- the three subcommands whose text can have an event that differs
 
+advice-agrees : (asked : Option Request) (before now : Option (List ℕ)) → advises asked Differs before now → may_differ Advise ≡ true
+advice-agrees None before now promise = grind (arith, nat_tests)
+advice-agrees (Some request) before now promise = grind (arith, nat_tests)
+
 differs-as : (subcommand : Subcommand) (options : List Row) (works : Bool) (input : Option (List ℕ)) (files : Held) (before now : Option (List ℕ))
     → EndsAs subcommand options works input files Differs before now → may_differ subcommand ≡ true
-differs-as subcommand options works input files before now promise = grind (arith, nat_tests)
+differs-as Audit options works input files before now promise = refl
+differs-as Explain options works input files before now promise = refl
+differs-as Cut options works input files before now promise = refl
+differs-as Run options works input files before now promise = grind (arith, nat_tests)
+differs-as Migrate options works input files before now promise = grind (arith, nat_tests)
+differs-as Storm options works input files before now promise = grind (arith, nat_tests)
+differs-as Params options works input files before now promise = grind (arith, nat_tests)
+differs-as WhatIf options works input files before now promise = grind (arith, nat_tests)
+differs-as Advise options works input files before now promise = advice-agrees (request_in options) before now promise
 
 differs-to : (subcommand : Subcommand) (options : List Row) (works : Bool) (input fresh : Option (List ℕ)) (old new : Held) (before now : Option (List ℕ))
     → EndsTo subcommand options works input fresh old new Differs before now → may_differ subcommand ≡ true

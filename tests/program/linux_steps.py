@@ -1,7 +1,8 @@
 #!/usr/bin/env python3
 """Tests pie_linux_history by its program pie_linux_steps on steps that were recorded on Debian 12's kernel 6.1, unmodified
 (crates/pie_linux_steps/stdin: four queues, each from its beginning or taken over while it ran; then a pie and an
-fq_pie with their rows mixed, a queue of which steps were lost, and one that a lower limit shortens).
+fq_pie with their rows mixed, a queue of which steps were lost, and one that a lower limit shortens; and a part of a queue
+of kernel 6.12, whose device returned 22 of 30 packets).
 
 - Every step is decided as the kernel did.
 - If one recorded number is changed, the program names its queue, step and column, the changed number and the right
@@ -114,6 +115,13 @@ check(run(mixed[:9] + mixed[10:]) == (1, f"queue {mixed[11][0]}, step {field(mix
 at = ROWS.index(LOST[0])
 unresumed = run([*ROWS[: at + 1], *ROWS[at + 2 :]])
 check(unresumed == (2, f"step {field(ROWS[at + 2], 'seq')} of queue {LOST[0][2]}: no row of the type init or resume is before it\n"), "lost steps, not resumed:", unresumed)
+
+# an arrival after 22 departures came back: the number of the bytes and of the packets must be those of the last departures
+at = next(at for at, row in enumerate(ROWS) if row[0] == "eth0/1:/0" and field(row, "type") == "enq")
+bytes_before = COLUMNS.index("bl0")
+fewer = [*ROWS[:at], [*ROWS[at][:bytes_before], str(int(field(ROWS[at], "bl0")) - 400), *ROWS[at][bytes_before + 1 :]], *ROWS[at + 1 :]]
+found = run(fewer)
+check(field(ROWS[at], "qlen0") == "28" and found == (1, f"queue eth0/1:/0, step {field(ROWS[at], 'seq')}: qlen0 is recorded as 28, the rules give 27\n"), "21 packets that came back:", found)
 
 # the packets that were dropped
 status, output = run(ROWS, words=["--lost"])

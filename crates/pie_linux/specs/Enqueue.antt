@@ -97,42 +97,26 @@ enqueue_cause params state arrival =
 -- true for the fate of a marked packet
 abbrev pub is_mark : Picked → Bool
 is_mark Marked = true
-is_mark EcnOff = false
-is_mark HighProbability = false
-is_mark NotCapable = false
+is_mark _ = false
 
 -- true if the packet is marked
 abbrev pub is_marked : LinuxCause → Bool
 is_marked (SumAbove picked) = is_mark picked
 is_marked (WordBelow picked) = is_mark picked
-is_marked OverLimit = false
-is_marked BurstTime = false
-is_marked LowDelay = false
-is_marked ShortQueue = false
-is_marked SumBelow = false
-is_marked WordNotBelow = false
+is_marked _ = false
 
 -- true if the packet is queued, marked or not
 abbrev pub is_queued : LinuxCause → Bool
 is_queued (SumAbove picked) = is_mark picked
 is_queued (WordBelow picked) = is_mark picked
 is_queued OverLimit = false
-is_queued BurstTime = true
-is_queued LowDelay = true
-is_queued ShortQueue = true
-is_queued SumBelow = true
-is_queued WordNotBelow = true
+is_queued _ = true
 
 -- true if the decision drew a random word
 abbrev pub draws : LinuxCause → Bool
 draws (WordBelow _) = true
 draws WordNotBelow = true
-draws (SumAbove _) = false
-draws OverLimit = false
-draws BurstTime = false
-draws LowDelay = false
-draws ShortQueue = false
-draws SumBelow = false
+draws _ = false
 
 -- the accumulated probability after a decision with this cause, from the one before it and the sum: 0 after a drop and
 -- after a pick by the word, unchanged after the three early returns, otherwise the sum, also after a mark by the sum
@@ -154,13 +138,7 @@ enqueued params state arrival =
 -- true if the limit dropped the packet
 abbrev pub is_over_limit : LinuxCause → Bool
 is_over_limit OverLimit = true
-is_over_limit (SumAbove _) = false
-is_over_limit (WordBelow _) = false
-is_over_limit BurstTime = false
-is_over_limit LowDelay = false
-is_over_limit ShortQueue = false
-is_over_limit SumBelow = false
-is_over_limit WordNotBelow = false
+is_over_limit _ = false
 
 -- 1 for true
 abbrev pub one_if : Bool → ℕ

@@ -1,6 +1,6 @@
 -- The decision of one recorded step, from the numbers of its queue and of its flow: the numbers after it, by the rules of
 -- pie_linux, and the first recorded number that differs from them. No decision reads a recorded result, except the clock of
--- a departure, and the bytes that say if the parent has taken a packet at which it peeked.
+-- a departure, and the bytes that say if the kernel counts departures again.
 use Rattle.std.specs.Prelude.{ℕ, ◌+◌, ◌-◌, ◌%◌, ◌^◌, Bool, true, false, ◌&&◌, ◌==◌, if◌then◌else◌, Option, Some, None, get_or, unwrap_or}
 use Rattle.std.specs.Option.{option_or}
 use Rattle.pie_linux.specs.Numbers.{sum_32, ticks}
@@ -13,7 +13,7 @@ use Rattle.pie_linux.specs.declared.state.LinuxState.{LinuxState}
 use Rattle.pie_linux.specs.declared.arrival.LinuxArrival.{LinuxArrival}
 use Rattle.pie_linux.specs.declared.departure.LinuxDeparture.{LinuxDeparture}
 use Rattle.pie_linux.specs.declared.cause.LinuxCause.{LinuxCause}
-use Rattle.pie_linux.specs.declared.cause.LinuxCause.TheVariants.{OverLimit, BurstTime, LowDelay, ShortQueue, SumBelow, SumAbove, WordBelow, WordNotBelow}
+use Rattle.pie_linux.specs.declared.cause.LinuxCause.TheVariants.{OverLimit, SumAbove, WordBelow}
 use Rattle.pie_linux_history.specs.declared.step.Step.{Step}
 use Rattle.pie_linux_history.specs.declared.numbers.Waiting.{Waiting}
 use Rattle.pie_linux_history.specs.declared.numbers.FlowNumbers.{FlowNumbers}
@@ -51,9 +51,9 @@ removed queue waiting = record queue {
 abbrev pub removed_flow : FlowNumbers → Waiting → FlowNumbers
 removed_flow flow waiting = record flow { backlog = difference_32 flow.backlog waiting.length }
 
--- ---- a peeked packet
+-- ---- peeked and returned packets
 
--- true if the kernel no longer counts a packet at which the parent peeked: there is none, or the recorded bytes are those
+-- true if the kernel no longer counts packets at which the parent peeked, or which the device returned: there are none, or the recorded bytes are those
 -- without it
 abbrev pub taken_by : Option ℕ → ℕ → ℕ → Bool
 taken_by None recorded bytes = true
@@ -64,7 +64,7 @@ is_taken queue recorded = taken_by queue.peeked recorded queue.bytes
 
 -- the kernel's number of packets
 abbrev pub length_at : QueueNumbers → Bool → ℕ
-length_at queue taken = if taken then queue.length else sum_32 queue.length 1
+length_at queue taken = if taken then queue.length else sum_32 queue.length queue.peeked_packets
 
 -- the kernel's number of bytes
 abbrev pub bytes_with : Option ℕ → Bool → ℕ → ℕ
@@ -113,13 +113,7 @@ cause_of queue flow step = enqueue_cause queue.params flow.state (arrival queue 
 -- packets comes before it
 abbrev pub counts_memory : LinuxCause → Bool
 counts_memory OverLimit = false
-counts_memory BurstTime = true
-counts_memory LowDelay = true
-counts_memory ShortQueue = true
-counts_memory SumBelow = true
-counts_memory (SumAbove _) = true
-counts_memory (WordBelow _) = true
-counts_memory WordNotBelow = true
+counts_memory _ = true
 
 abbrev pub over_memory_after : Option ℕ → Bool → ℕ → Option ℕ
 over_memory_after None over recorded = Some recorded
@@ -160,13 +154,9 @@ returned_value cause has_flows = if is_queued cause then 0 else if has_flows the
 
 abbrev pub early_result : LinuxCause → ℕ
 early_result OverLimit = 255
-early_result BurstTime = 0
-early_result LowDelay = 0
-early_result ShortQueue = 0
-early_result SumBelow = 0
 early_result (SumAbove _) = 1
 early_result (WordBelow _) = 1
-early_result WordNotBelow = 0
+early_result _ = 0
 
 -- the first difference of the decision of an arrival
 abbrev pub decision_difference : Step → LinuxCause → ℕ → ℕ → Bool → Option Difference
@@ -219,7 +209,7 @@ abbrev pub left_backlog : QueueNumbers → FlowNumbers → Waiting → ℕ
 left_backlog queue flow waiting = backlog_of queue (removed_flow flow waiting) (removed queue waiting).bytes
 
 abbrev pub departed_queue : QueueNumbers → Waiting → QueueNumbers
-departed_queue queue waiting = record (removed queue waiting) { peeked = Some waiting.length }
+departed_queue queue waiting = record (removed queue waiting) { peeked = Some waiting.length; peeked_packets = 1 }
 
 abbrev pub departed_flow : QueueNumbers → FlowNumbers → Waiting → Step → FlowNumbers
 departed_flow queue flow waiting step = record (removed_flow flow waiting) {

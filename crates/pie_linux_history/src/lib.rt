@@ -8,7 +8,7 @@
 //! Proved: each decision of one step. `QueueNumbers::arrive`, `depart`, `update`, `begin_round`, `change` and `reset`
 //! give the numbers of the queue and of the flow after the step, and the first recorded number that differs from them,
 //! exactly as specs/Decisions.antt defines them over the rules of pie_linux. Tested only (tests/program/linux_steps.py):
-//! the fields of a row, the choice of the queue and of the flow of a step, and the order of the waiting packets.
+//! the fields of a row, the choice of the queue and of the flow of a step, and the packets that wait or wait again.
 #![tactic(auto)]
 
 mod choice;

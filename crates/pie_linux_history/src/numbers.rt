@@ -60,13 +60,15 @@ pub(crate) struct QueueNumbers {
     pub params: LinuxParams,
     /// The counters.
     pub stats: LinuxStats,
-    /// The packets that wait, without a peeked packet.
+    /// The packets that wait, without those that may be counted again.
     pub length: u32,
     /// Their bytes.
     pub bytes: u32,
-    /// The bytes of the last departure, if the parent may only have peeked at it. The kernel counts it until the parent
-    /// takes it.
+    /// The bytes of the last departures, if the parent may only have peeked at the last one, or the device may have returned
+    /// them. The kernel counts these packets until they leave.
     pub peeked: Option<u32>,
+    /// The number of these departures.
+    pub peeked_packets: u32,
     /// The memory of the waiting packets, in bytes.
     pub memory: u32,
     /// The limit of fq_pie's memory.
@@ -192,7 +194,7 @@ impl QueueNumbers {
         if is_taken {
             self.length
         } else {
-            self.length.wrapping_add(1)
+            self.length.wrapping_add(self.peeked_packets)
         }
     }
 
@@ -368,6 +370,7 @@ impl QueueNumbers {
     {
         self.remove(flow, waiting);
         self.peeked = Some(waiting.length);
+        self.peeked_packets = 1;
         let backlog = if self.has_flows {
             flow.backlog
         } else {

@@ -10,6 +10,9 @@ use std::collections::VecDeque;
 /// The most flows of fq_pie (`fq_pie_init`).
 const MAX_FLOWS: u32 = 65536;
 
+/// The departures that a device can return at once.
+const RETURNED: usize = 256;
+
 /// A flow of fq_pie, or all of pie: its numbers and its waiting packets.
 #[derive(Drop)]
 struct Flow {
@@ -22,6 +25,9 @@ struct Flow {
 pub(crate) struct Queue {
     numbers: QueueNumbers,
     flows: Vec<Flow>,
+    /// The lengths of the last departures, and the number of all.
+    sent: [u32; RETURNED],
+    count: usize,
 }
 
 /// Returns the numbers of a queue after its first step.
@@ -38,6 +44,7 @@ fn first_numbers(step: &Step) -> QueueNumbers {
         length: 0,
         bytes: 0,
         peeked: None,
+        peeked_packets: 0,
         memory: 0,
         memory_limit: step.truesize,
         over_memory: if is_new { Some(0) } else { None },
@@ -78,6 +85,8 @@ impl Queue {
         Ok(Queue {
             numbers: first_numbers(step),
             flows,
+            sent: [0; RETURNED],
+            count: 0,
         })
     }
 
@@ -122,6 +131,8 @@ impl Queue {
     fn resume_packet(&mut self, step: &Step) -> Result<Decision, AllocError> {
         if step.x0 != 0 {
             self.numbers.peeked = Some(step.packet_length);
+            self.numbers.peeked_packets = 1;
+            self.send(step.packet_length);
             return Ok(Decision::other(None));
         }
         self.numbers.add(&waiting_of(step));
@@ -147,8 +158,32 @@ impl Queue {
         Ok(())
     }
 
+    /// Keeps the length of a departure.
+    fn send(&mut self, length: u32) {
+        self.sent[self.count % RETURNED] = length;
+        self.count = self.count.wrapping_add(1);
+    }
+
+    /// Finds the last departures that the kernel counts again, since the device returned them, from the recorded bytes.
+    fn count_again(&mut self, recorded: u32) {
+        let more = recorded.wrapping_sub(self.numbers.bytes);
+        let mut bytes: u32 = 0;
+        for packets in 0..RETURNED {
+            if bytes >= more {
+                break;
+            }
+            let at = self.count.wrapping_sub(packets).wrapping_sub(1) % RETURNED;
+            bytes = bytes.saturating_add(self.sent[at]);
+            if bytes == more {
+                self.numbers.peeked = Some(bytes);
+                self.numbers.peeked_packets = (packets as u32).wrapping_add(1);
+            }
+        }
+    }
+
     /// Decides an arrival again.
     fn arrive(&mut self, step: &Step) -> Result<Decision, AllocError> {
+        self.count_again(step.bytes_before);
         let place = self.place(step);
         let Some(flow) = self.flows.get_mut(place) else {
             return Ok(Decision::other(no_flow(step)));
@@ -178,7 +213,11 @@ impl Queue {
             return no_flow(step);
         };
         match flow.waiting.pop_front() {
-            Some(waiting) => self.numbers.depart(&mut flow.numbers, &waiting, step),
+            Some(waiting) => {
+                let difference = self.numbers.depart(&mut flow.numbers, &waiting, step);
+                self.send(waiting.length);
+                difference
+            }
             None => Some(Difference {
                 column: Column::LengthAfter,
                 recorded: u64::from(step.length_after),
@@ -189,6 +228,9 @@ impl Queue {
 
     /// Makes an update of the probability again.
     fn update(&mut self, step: &Step) -> Option<Difference> {
+        if !self.numbers.has_flows {
+            self.count_again(step.backlog);
+        }
         let place = self.place(step);
         match self.flows.get_mut(place) {
             Some(flow) => self.numbers.update(&mut flow.numbers, step),

@@ -21,7 +21,7 @@ use Rattle.pie_summary.specs.Summary.{without_packets, summary_of}
 use Rattle.pie_summary.specs.Lines.{lines_whole}
 use Rattle.pie_summary.specs.declared.lines.LineStyle.{LineStyle}
 use Rattle.pie_commands.specs.declared.explain.OutputKind.{OutputKind}
-use Rattle.pie_commands.specs.declared.explain.OutputKind.TheVariants.{Digest, Flows, JsonFlows, JsonRecords, JsonSums, Lines, Records, Sums, Words}
+use Rattle.pie_commands.specs.declared.explain.OutputKind.TheVariants.{Digest, Flows, JsonRecords, JsonSums, Lines, Records, Sums, Words}
 use Rattle.pie_explain.specs.declared.fault.ExplainFault.{ExplainFault}
 use Rattle.pie_explain.specs.TextAnswer.{ExplainsText}
 use Rattle.pie_commands.specs.declared.end.End.{End}
@@ -80,9 +80,9 @@ is_summary options =
 abbrev pub is_json : List Row → Bool
 is_json options = flag_given (codes "json") options
 
--- true unless a digest is requested together with sums by flow, or JSON together with CSV or a digest
+-- true unless a digest is requested together with sums by flow, or JSON together with CSV, a digest or sums by flow
 abbrev pub may_combine : Bool → Option ℕ → Bool → Bool → Bool
-may_combine digest flows json csv = not (digest && is_some flows) && not (json && (csv || digest))
+may_combine digest flows json csv = not (digest && is_some flows) && not (json && (csv || (digest || is_some flows)))
 
 -- the chosen events, if at most one of the five options chooses some; without any of them all events
 abbrev pub chosen : Option ℕ → Option ℕ → Bool → Bool → Bool → Option EventChoice
@@ -155,7 +155,6 @@ plain_kind_of style options csv =
 abbrev pub as_json : OutputKind → OutputKind
 as_json (Records records) = JsonRecords records
 as_json (Sums sums) = JsonSums sums
-as_json (Flows by_flow) = JsonFlows by_flow
 as_json kind = kind
 
 abbrev pub output_kind_of : LineStyle → List Row → OutputKind
@@ -172,7 +171,6 @@ output_text (Digest summaries) = summary_of summaries
 output_text (Flows by_flow) = flows_whole by_flow
 output_text (JsonRecords records) = λ all. objects_of (pages (as_records records.by_wall) all)
 output_text (JsonSums sums) = λ all. objects_of (summary_of (without_packets sums) all)
-output_text (JsonFlows by_flow) = λ all. objects_of (flows_whole by_flow all)
 
 -- ---- the end
 

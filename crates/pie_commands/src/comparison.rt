@@ -1,7 +1,7 @@
 //! The comparison of a history with the other history of `pie what-if`, by the numbers of their summaries.
 
 use pie_explain::{EventChoice, ExplainFault, Form, Selection, explain};
-use pie_summary::SummariesOnly;
+use pie_summary::Summaries;
 use pie_trace::TraceFault;
 use pie_units::When;
 use std::alloc::{AllocError, Global};
@@ -46,7 +46,11 @@ fn summary_of(alloc: Global, text: &[u8], from: u64) -> Result<Vec<u8>, ExplainF
         csv: true,
         by_wall: false,
     };
-    let sums = SummariesOnly { form, every: None };
+    let sums = Summaries {
+        form,
+        every: None,
+        packets: false,
+    };
     match explain(alloc, text, &mut written, selection, sums) {
         Ok(_) => Ok(written),
         Err(why) => {

@@ -31,8 +31,8 @@ const NO_PERIOD: &str = "--every: the interval must be at least 1 ns";
 /// The message for `--flows` together with `--digest`.
 const NOT_BOTH: &str = "--flows cannot be combined with --digest";
 
-/// The message for `--json` together with `--csv` or `--digest`.
-const JSON_ALONE: &str = "--json cannot be combined with --csv or --digest";
+/// The message for `--json` together with an option that it excludes.
+const JSON_ALONE: &str = "--json cannot be combined with --csv, --digest or --flows";
 
 /// Returns the length of an interval in these options, if it is valid.
 fn every_of(options: &ArgMatches<'_>) -> Option<u64>
@@ -126,7 +126,8 @@ fn selection_of<E: Write>(options: &ArgMatches<'_>, errors: &mut E) -> Option<Se
         fault(errors, NOT_BOTH);
         return None;
     }
-    if flag(options, "json") && (flag(options, "csv") || flag(options, "digest")) {
+    let is_other = flag(options, "digest") || number(options, "flows").is_some();
+    if flag(options, "json") && (flag(options, "csv") || is_other) {
         fault(errors, JSON_ALONE);
         return None;
     }
@@ -155,8 +156,6 @@ pub(crate) enum OutputKind {
     JsonRecords(Records),
     /// `Sums` in CSV as objects of JSON.
     JsonSums(SummariesOnly),
-    /// `Flows` in CSV as objects of JSON.
-    JsonFlows(ByFlow),
 }
 
 /// Returns the kind with objects of JSON instead of CSV.
@@ -166,7 +165,6 @@ fn as_json(kind: OutputKind) -> OutputKind
     match kind {
         OutputKind::Records(each) => OutputKind::JsonRecords(each),
         OutputKind::Sums(sums) => OutputKind::JsonSums(sums),
-        OutputKind::Flows(flows) => OutputKind::JsonFlows(flows),
         _ => kind,
     }
 }
@@ -251,9 +249,6 @@ fn explain_with<R: Read + Drop, W: Write>(
             pie_explain::explain(alloc, input, output, selection, AsJson { report })
         }
         OutputKind::JsonSums(report) => {
-            pie_explain::explain(alloc, input, output, selection, AsJson { report })
-        }
-        OutputKind::JsonFlows(report) => {
             pie_explain::explain(alloc, input, output, selection, AsJson { report })
         }
     }

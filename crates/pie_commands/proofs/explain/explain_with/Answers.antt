@@ -6,6 +6,3 @@ returns-in-JsonRecords g c = rw c.in-JsonRecords.is c.explain-in-JsonRecords.ens
 
 pub returns-in-JsonSums : goal.returns-in-JsonSums
 returns-in-JsonSums g c = rw c.in-JsonSums.is c.explain-in-JsonSums.ensures
-
-pub returns-in-JsonFlows : goal.returns-in-JsonFlows
-returns-in-JsonFlows g c = rw c.in-JsonFlows.is c.explain-in-JsonFlows.ensures

@@ -127,22 +127,6 @@ module _ (known : Option (List ℕ)) (bytes all copied rest : List ℕ) (at end 
           rw (copied-is, range-behind bytes at count end ahead-long)
           (ap (λ (l : List ℕ). l ++ ys) (sym (take-append-drop count ahead)) ∙ append_assoc (take count ahead) (drop count ahead) ys)
 
--- ---- The text appended to a writer's bytes and to the rows that wait behind them.
-
--- the pending rows were written, and none remains
-pub moved_ok : (out now : Option (List ℕ)) (rows left : List ℕ) (result : Result (Unit {0}) TraceFault) → OnOk result (Appends out now rows)
-    → left ≡ [] → OnOk result (Appends (append_known out rows) (append_known now left) [])
-moved_ok out now rows left result written none = grind (arith, nat_tests, append-nil)
-
--- while few rows wait, nothing is written
-pub unmoved : (known : Option (List ℕ)) → Appends known known []
-unmoved known = Appends-nil known
-
--- if no row waited at first, the appended text is in the writer's bytes
-pub finished-ok : (before out now : Option (List ℕ)) (rows text : List ℕ) (result : Result (Unit {0}) TraceFault)
-    → Appends (append_known before []) (append_known out rows) text → OnOk result (Appends out now rows) → OnOk result (Appends before now text)
-finished-ok before out now rows text result stands written = grind (arith, nat_tests, append-nil)
-
 -- ---- The records that remain after one step of a read.
 
 -- a step after steps that took no record

@@ -5,9 +5,8 @@
 //! trace record, the line of a history record, and the text of records. An event's record is a command's record with its answer, so one reader reads
 //! the command of both (`command_at`).
 //!
-//! `Records` reads one record after another from any reader, and `HistoryLines` the opening and the lines of a history. `Rows` writes records that
-//! were read, and the text of other records, to any writer, many at a time. Both use memory for one record and one page. A reader never returns
-//! `Write`, and a writer never `Read` (clauses `input` and `io`).
+//! `Records` reads one record after another from any reader, and `HistoryLines` the opening and the lines of a history. Both use
+//! memory for one record and one page. A reader never returns `Write` (clause `input`).
 //!
 //! Crates above use these definitions through laws: `answers_are_read_back`, `requests_are_written_again`, `texts_are_read_back`,
 //! `openings_are_checked`.
@@ -28,7 +27,6 @@ mod long;
 pub mod number;
 pub mod record;
 pub mod records;
-pub mod rows;
 mod scan;
 pub mod trace_record;
 mod version;

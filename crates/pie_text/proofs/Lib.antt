@@ -1,1 +1,2 @@
+mod PageFacts
 pub mod TextFacts

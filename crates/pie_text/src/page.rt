@@ -1,9 +1,19 @@
-//! A page: bytes that wait to be written out, explanations in words or as CSV.
-ghost use Rattle.std.specs.Prelude.{◌≡◌, ◌++◌, [], OnOk, length, string_bytes};
+//! A page: text that waits to be written out, rows or words, many at a time.
+ghost use Rattle.std.specs.Prelude.{◌<◌, ◌≡◌, ◌++◌, ◌∷◌, [], ℕ, IfErr, List, OnOk, Option, length, string_bytes, true};
+ghost use Rattle.std.specs.Io.KnownBytes.{Appends, append_known};
+ghost use Rattle.pie_record.specs.Field.{IsWriteOrMemory};
+ghost use Rattle.pie_record.specs.Text.{text_of};
+ghost use Rattle.pie_record.specs.declared.fault.TraceFault.{TraceFault};
 
+use pie_record::TraceFault;
+use pie_record::record::Record;
 use std::alloc::{AllocError, Global};
+use std::io::Write;
 use std::marker::Model;
 use std::mem;
+
+/// The number of bytes that are written at a time, at least. At most these bytes and the longest row wait.
+const CHUNK: usize = 32000;
 
 /// Text that waits to be written out.
 #[derive(Drop)]
@@ -20,6 +30,23 @@ impl Model for Page {
     ghost Value = { List ℕ };
 
     ghost view = { λ page. page.bytes.items };
+}
+
+/// Flushes the writer, even if the last write failed. Returns the failure of that write, `written`, if it failed,
+/// otherwise that of the flush.
+fn flushed<W: Write>(written: Result<(), TraceFault>, writer: &mut W) -> Result<(), TraceFault>
+    ensures written { (before : Option (List ℕ)) (bytes : List ℕ) → OnOk written (Appends before (W.contents writer.old) bytes)
+        → OnOk result (Appends before (W.contents writer.new) bytes) }
+    ensures io { IfErr written IsWriteOrMemory → IfErr result IsWriteOrMemory }
+{
+    let flushed = writer.flush();
+    match written {
+        Ok(()) => match flushed {
+            Ok(()) => Ok(()),
+            Err(_) => Err(TraceFault::Write),
+        },
+        Err(why) => Err(why),
+    }
 }
 
 impl Page {
@@ -74,6 +101,69 @@ impl Page {
         put
     }
 
+    /// Adds the text of rows.
+    ///
+    /// # Errors
+    ///
+    /// `Memory`.
+    pub fn text(&mut self, text: &[u8]) -> Result<(), TraceFault>
+        ensures added { OnOk result (self.new ≡ self.old ++ text.now) }
+        ensures memory { IfErr result (λ why. why ≡ TraceFault.Memory) }
+    {
+        match self.push(text) {
+            Ok(()) => Ok(()),
+            Err(_) => Err(TraceFault::Memory),
+        }
+    }
+
+    /// Adds two texts, one after the other.
+    ///
+    /// # Errors
+    ///
+    /// `Memory`.
+    pub fn texts(&mut self, first: &[u8], second: &[u8]) -> Result<(), TraceFault>
+        ensures added { OnOk result (self.new ≡ self.old ++ (first.now ++ second.now)) }
+        ensures memory { IfErr result (λ why. why ≡ TraceFault.Memory) }
+    {
+        match self.text(first) {
+            Ok(()) => self.text(second),
+            Err(why) => Err(why),
+        }
+    }
+
+    /// Adds a line and its line feed.
+    fn plain(&mut self, line: &[u8]) -> Result<(), TraceFault>
+        ensures added { OnOk result (self.new ≡ self.old ++ (line.now ++ 10 ∷ [])) }
+        ensures memory { IfErr result (λ why. why ≡ TraceFault.Memory) }
+    {
+        match self.text(line) {
+            Ok(()) => {}
+            Err(why) => return Err(why),
+        }
+        match self.bytes.push(b'\n') {
+            Ok(()) => Ok(()),
+            Err(_) => Err(TraceFault::Memory),
+        }
+    }
+
+    /// Adds a row of these fields. A plain record is copied as it was read.
+    ///
+    /// # Errors
+    ///
+    /// `Memory`.
+    pub fn row(&mut self, fields: &Record) -> Result<(), TraceFault>
+        ensures added { OnOk result (self.new ≡ self.old ++ text_of fields.now) }
+        ensures memory { IfErr result (λ why. why ≡ TraceFault.Memory) }
+    {
+        if let Some(line) = fields.line() {
+            return self.plain(line);
+        }
+        match fields.text(self.alloc) {
+            Ok(text) => self.text(text.as_slice()),
+            Err(why) => Err(why),
+        }
+    }
+
     /// Returns the bytes of the page.
     pub fn as_bytes(&self) -> &[u8]
         ensures { result.now ≡ self.now }
@@ -88,10 +178,61 @@ impl Page {
         self.bytes.clear();
     }
 
-    /// Returns the number of bytes on the page.
-    pub fn len(&self) -> usize
-        ensures { result ≡ length self.now }
+    /// Writes the page out, and leaves it empty. Returns true if that succeeded.
+    #[inline(never)]
+    fn try_drain<W: Write>(&mut self, writer: &mut W) -> bool
+        ensures written { result ≡ true → Appends (W.contents writer.old) (W.contents writer.new) self.old }
+        ensures empty { self.new ≡ [] }
     {
-        self.bytes.len()
+        let written = writer.write_all(self.as_bytes());
+        self.clear();
+        written.is_ok()
+    }
+
+    /// Writes the page out, and leaves it empty.
+    fn drain<W: Write>(&mut self, writer: &mut W) -> Result<(), TraceFault>
+        ensures written { OnOk result (Appends (W.contents writer.old) (W.contents writer.new) self.old) }
+        ensures empty { self.new ≡ [] }
+        ensures io { IfErr result IsWriteOrMemory }
+    {
+        if self.try_drain(writer) {
+            Ok(())
+        } else {
+            Err(TraceFault::Write)
+        }
+    }
+
+    /// Writes the page out if it has at least `CHUNK` bytes.
+    ///
+    /// # Errors
+    ///
+    /// `Write`.
+    #[tactic(auto, using(crate::proofs::PageFacts::moved_ok, crate::proofs::PageFacts::unmoved))]
+    pub fn write_if_full<W: Write>(&mut self, writer: &mut W) -> Result<(), TraceFault>
+        ensures moved { OnOk result (Appends (append_known (W.contents writer.old) self.old) (append_known (W.contents writer.new) self.new) []) }
+        ensures waits { OnOk result (length self.new < 32000) }
+        ensures io { IfErr result IsWriteOrMemory }
+    {
+        if self.bytes.len() < CHUNK {
+            return Ok(());
+        }
+        self.drain(writer)
+    }
+
+    /// Writes the page out, leaves it empty, and flushes the writer, even if the page could not be written. All text
+    /// that was added since the page was last empty is then in the writer's bytes.
+    ///
+    /// # Errors
+    ///
+    /// `Write`, of the write or of the flush.
+    pub fn finish<W: Write>(&mut self, writer: &mut W) -> Result<(), TraceFault>
+        ensures written { OnOk result (Appends (W.contents writer.old) (W.contents writer.new) self.old) }
+        ensures all { (before : Option (List ℕ)) (text : List ℕ) → Appends (append_known before []) (append_known (W.contents writer.old) self.old) text
+            → OnOk result (Appends before (W.contents writer.new) text) }
+        ensures empty { self.new ≡ [] }
+        ensures io { IfErr result IsWriteOrMemory }
+    {
+        let written = self.drain(writer);
+        flushed(written, writer)
     }
 }

@@ -58,9 +58,6 @@ module _ (core : CoreView) where
 
 -- ---- Without events, and with all packets
 
-pub balanced_first : (opening : Opening) → IsBalanced (snapshot_of (first_core opening))
-balanced_first opening = grind (arith, nat_tests)
-
 -- a resumed core from which no announced packet or byte is missing has a balanced snapshot, if the announced numbers are balanced
 pub balanced_ended : (core : CoreView) (packets bytes : ℕ) → length core.waiting ≤ packets → bytes_of core.waiting ≤ bytes
     → end_refusal (record { core = core; packets = packets; bytes = bytes }) ≡ None

@@ -61,18 +61,6 @@ makes keeps looks s t call refusal sound left taken = record {
   represents = represents-call s t call refusal keeps looks sound left;
 }
 
--- the three facts after a refused call
-pub unmade : (s : PieState) (call : Call) (refusal : ℕ) → (refusal == 0) ≡ false → Makes s call refusal s
-unmade s call refusal some = record {
-  after = rw some refl;
-  sound = λ sound. sound;
-  represents = λ o events free. let none : (refusal == 0) ≡ true = rw free refl in cc;
-}
-
--- a refused arrival leaves the state unchanged
-pub untouched : (s : PieState) (a : ArrivingPacket) (refusal moment code : ℕ) → code ≡ refusal → (refusal == 0) ≡ false → Arrives s a refusal moment code s
-untouched s a refusal moment code is some = record { answer = rw (is, some) refl; fields = rw some refl; if_sound = λ _. unmade s (Arrive a moment) refusal some }
-
 -- ---- The state after a call
 
 pub arrived-state : (s : PieState) (a : ArrivingPacket) (moment : ℕ) → is_sound s ≡ true
@@ -160,10 +148,6 @@ pub kept-later : (s t : PieState) (a b : ArrivingPacket) (moment : ℕ) (h g : C
     → with_arrival t g ≡ with_arrival s (arrived (controller_state s) b moment)
 unfolding controller_state accu_left verdict
 kept-later s t a b moment h g at held after same = grind (arith, nat_tests)
-
-pub moment-later : (t : PieState) (a : ArrivingPacket) (h g : ControllerState) → h ≡ controller_state t → g ≡ arrived h a t.moment → g.moment ≡ t.moment
-unfolding controller_state
-moment-later t a h g held after = grind (arith, nat_tests)
 
 pub verdict-later : (s t : PieState) (a b : ArrivingPacket) (moment : ℕ) (h : ControllerState) (v : Verdict) → t ≡ at_later s moment
     → h ≡ controller_state t → v ≡ verdict h a

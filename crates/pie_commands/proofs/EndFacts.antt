@@ -15,9 +15,6 @@ use Rattle.pie_commands.specs.Files.{IsHindered, MayHave}
 
 -- ---- the status
 
-pub status-most : (end : End) → status_of end ≤ 2
-status-most end = grind (arith, nat_tests)
-
 -- three clauses on a known text, as one
 pub if-all : (known : Option (List ℕ)) (P Q S : List ℕ → Type 0) → IfSome known P → IfSome known Q → IfSome known S
     → IfSome known (λ text. P text × Q text × S text)
@@ -73,13 +70,6 @@ storm-ends options elements numbers plan events listed too_soon too_many before 
         history = subst (λ (list : List Event). WritesHistory plan list before now) same written;
       },
     )
-
-pub storm-unwritten : (options : List Row) (elements : Elements) (why : TraceFault) (before now : Option (List ℕ)) → elements_in options ≡ Some elements
-    → IsWriteOrMemory why → EndsStorm options (Fault why) before now
-storm-unwritten options elements why before now chosen write = rw chosen write
-
-pub storm-unchosen : (options : List Row) (before : Option (List ℕ)) → elements_in options ≡ None → EndsStorm options Failed before before
-storm-unchosen options before none = rw none (refl, refl)
 
 -- ---- output to the caller's writer or to a named file
 

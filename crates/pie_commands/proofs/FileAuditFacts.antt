@@ -53,17 +53,6 @@ outcomes-more works joined input files earlier before (first ∷ more) between o
     (sym (append_assoc earlier (first.0 ∷ []) (map (λ t. t.0) more))) is in
     (have.0, have.1, outcomes-more works joined input files (earlier ++ first.0 ∷ []) have.0 more between one after have.2 next)
 
-pub audits-none : (works joined : Bool) (input : Option (List ℕ)) (files : Text → Option (List ℕ)) (before : Option (List ℕ))
-    → AuditsFiles works joined input files [] false false None before before
-audits-none works joined input files before = record {
-  outcomes = [];
-  in_order = refl;
-  audited = refl;
-  written = Appends-nil before;
-  any_unaudited = refl;
-  any_broken = refl;
-}
-
 pub audits-more : (works joined : Bool) (input : Option (List ℕ)) (files : Text → Option (List ℕ)) (names : List Text) (unfound broken : Bool)
     (end after : Option EndView) (before mid now : Option (List ℕ)) (name : Text) (outcome : Result Joined Unaudited)
     → AuditsFiles works joined input files names unfound broken end before mid
@@ -97,11 +86,6 @@ left-taken {R} first names place name input within is left =
     rw (add-one place, take-suc names place [] within) (subst (λ (n : Text). IsLeft first (take place names ++ n ∷ []) input) is left)
 
 -- ---- the end
-
-pub ends-audited : (works joined : Bool) (input : Option (List ℕ)) (files : Text → Option (List ℕ)) (names : List Text) (unfound broken : Bool)
-    (end : Option EndView) (before now : Option (List ℕ)) → AuditsFiles works joined input files names unfound broken end before now
-    → EndsFiles works joined input files names (worst unfound broken) before now
-ends-audited works joined input files names unfound broken end before now audits = inr (unfound, broken, end, refl, audits)
 
 pub ends-unwritten : (works joined : Bool) (input : Option (List ℕ)) (files : Text → Option (List ℕ)) (names : List Text) (place : ℕ) (name : Text)
     (unfound broken : Bool) (end after : Option EndView) (found : Joined) (before written now : Option (List ℕ)) → place < length names

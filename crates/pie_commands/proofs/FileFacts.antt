@@ -32,31 +32,7 @@ opens-left first files earlier input name is opens = grind (arith, nat_tests)
 
 -- ---- inputs that can be opened
 
-pub opens-dash : {R : Type 0} (input : Option R) (held : Option (List ℕ)) (name : Name) → bytes_eq name (codes "-") ≡ true
-    → CanOpen input held name → IsSome input
-opens-dash input held name dash opens = rw dash at opens
-
-pub opens-file : {R : Type 0} (input : Option R) (held : Option (List ℕ)) (name : Name) → bytes_eq name (codes "-") ≡ false
-    → CanOpen input held name → IsSome held
-opens-file input held name other opens = rw other at opens
-
--- no reader was opened, so the text cannot be opened
-pub never-opened : {A : Type 0} (works : Bool) (files : Name → Option (List ℕ)) (file given : Option Name) (reader : Option A) → given ≡ file
-    → reader ≡ None → (works ≡ true → CanRead files given → IsSome reader) → Opens works files file → ⊥
-never-opened works files file given reader same none opens can = grind (arith, nat_tests)
-
-pub can-open : {R : Type 0} (input : R) (files : Name → Option (List ℕ)) (name : Name) → CanRead files (Some name)
-    → CanOpen (Some input) (files name) name
-can-open input files name reads = grind (arith, nat_tests, codes)
-
 pub reads-given : {R : Type 0} (remaining : R → Option (List ℕ)) (first : R) (input : Option R) (files : Name → Option (List ℕ)) (name : Name)
     (known : Option (List ℕ))
     → Stays first input → ReadsNamed remaining input files name known → known ≡ text_given (remaining first) files (Some name)
 reads-given remaining first input files name known stays reads = grind (arith, nat_tests, codes)
-
--- the reader of a subcommand that takes one file
-pub reader-given : {R F : Type 0} (remaining : R → Option (List ℕ)) (held : F → Option (List ℕ)) (input : R) (files : Name → Option (List ℕ))
-    (name : Name) (file : Option Name)
-    (reader : Option (Either R F)) → file ≡ Some name → IfSome reader (λ r. ReadsNamed remaining (Some input) files name (either remaining held r))
-    → IfSome reader (λ r. either remaining held r ≡ text_given (remaining input) files file)
-reader-given remaining held input files name file reader is reads = grind (arith, nat_tests, reads-given)

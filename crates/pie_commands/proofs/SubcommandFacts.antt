@@ -208,12 +208,3 @@ answers-unable words works input fresh held end before now same unable = record 
       let is = unable asks.taken in
       inl (record { unable = is.0; keeps = keeps-same held; written = is.1 });
 }
-
-pub answers-none : (words : List Text) (works : Bool) (matches : ArgMatches) (input fresh : Option (List ℕ)) (held : Held) (before now : Option (List ℕ))
-    → HasMatchesOf pie_app words matches → ((subcommand : Subcommand) → subcommand_name_of matches ≡ Some (word_of subcommand) → ⊥)
-    → Answers words works input fresh held held Failed before now
-answers-none words works matches input fresh held before now matched none = record {
-  keeps = λ one. keeps-same held;
-  differs = λ is. cc;
-  ends = λ subcommand asks. absurd (none subcommand (name-found words matches matched ∙ asks.found));
-}

@@ -13,18 +13,6 @@ use Rattle.pie_commands.specs.Words.{word_of}
 
 -- ---- one after the other
 
--- one of the remaining arguments or subcommands is added
-pub wants-more : {A E : Type 0} (add : App → A → App) (begun next : Result Command E) (all : List A) (place : ℕ) (one other : A) (whole : App)
-    → place < length all → one ≡ get_or all place other
-    → ((rest : List A) (made : App) → Wants add (one ∷ rest) made begun → Wants add rest made next)
-    → Wants add (drop place all) whole begun → Wants add (drop (place + 1) all) whole next
-wants-more add begun next all place one other whole within is adds so =
-    rw add-one (adds (drop (suc place) all) whole (rw is (rw (drop-cons all place other) at so)))
-
-pub wants-none : {A E : Type 0} (add : App → A → App) (made : Result Command E) (all : List A) (whole : App)
-    → Wants add (drop (length all) all) whole made → IfOk made (λ command. app_of command ≡ whole)
-wants-none add made all whole so = rw (drop-length all) at so
-
 -- ---- subcommands
 
 -- a plain command has no global options
@@ -98,17 +86,3 @@ pub same-word : (one other : Subcommand) → Some (word_of one) ≡ Some (word_o
 same-word one other same =
     let asked : Some one ≡ Some other = sym (asked-word one) ∙ ap (option_and_then asked_by) same ∙ asked-word other in
     cc
-
--- a name selects at most one subcommand
-pub known-word : (word : Text) (one : Subcommand) → word ≡ word_of one → (other : Subcommand) → word ≡ word_of other → Some one ≡ Some other
-known-word word one is other same = ap Some (same-word one other (ap Some (sym is ∙ same)))
-
--- a word that is no subcommand's name selects none
-pub unknown-word : (word : Text) → bytes_eq word (codes "run") ≡ false → bytes_eq word (codes "audit") ≡ false
-    → bytes_eq word (codes "explain") ≡ false → bytes_eq word (codes "cut") ≡ false → bytes_eq word (codes "migrate") ≡ false
-    → bytes_eq word (codes "storm") ≡ false → bytes_eq word (codes "params") ≡ false → bytes_eq word (codes "what-if") ≡ false
-    → bytes_eq word (codes "advise") ≡ false → (subcommand : Subcommand) → word ≡ word_of subcommand
-    → None ≡ Some subcommand
-unknown-word word run audit explain cut migrate storm params what_if advise subcommand is =
-    let none : asked_by word ≡ None = rw (run, audit, explain, cut, migrate, storm, params, what_if, advise) refl in
-    sym none ∙ ap asked_by is ∙ asked-word subcommand

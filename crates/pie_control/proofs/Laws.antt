@@ -101,13 +101,4 @@ pub int_div-below : (z : ℤ) (d n : ℕ) → z ≤ℤ pos n → int_div z (pos 
 int_div-below (pos a) d n h = omega (arith, ints, div-le_self a d)
 int_div-below (negsuc a) d n h = omega (arith, ints)
 
--- 98 per cent of a number is at most the number, if it is not negative
-pub decay-below : (z : ℤ) (n : ℕ) → z ≤ℤ pos n → int_div (z *ℤ pos 98) (pos 100) ≤ℤ pos n
-decay-below (pos a) n h = omega (arith, ints)
-decay-below (negsuc a) n h = omega (arith, ints)
-
-pub bounded_of-below : (z : ℤ) (n : ℕ) → z ≤ℤ pos n → bounded_of z ≤ n
-bounded_of-below (pos a) n h = omega (arith, ints)
-bounded_of-below (negsuc a) n h = omega (arith, ints)
-
 pub ruleset quotients = (int_div-above, int_div-below)

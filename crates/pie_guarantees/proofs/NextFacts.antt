@@ -245,11 +245,6 @@ module _ (elements : Elements) (params : RawParams) (delay : ℕ) where
   once-within : (prob : ℕ) → once prob ≤ 10 ^ 12
   once-within prob = next-hold elements params prob delay delay
 
-  after-within : (n prob : ℕ) → prob ≤ 10 ^ 12 → after n prob ≤ 10 ^ 12
-  unfolding after_updates
-  after-within zero prob within = within
-  after-within (suc n) prob within = after-within n (once prob) (once-within prob)
-
   pub after_both : (m n prob : ℕ) → after (m + n) prob ≡ after n (after m prob)
   unfolding after_updates
   after_both zero n prob = let none : 0 + n ≡ n = omega arith in ap (λ (k : ℕ). after k prob) none

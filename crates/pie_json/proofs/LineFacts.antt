@@ -106,13 +106,3 @@ longer_line old new text out byte h other header names line =
     )
 
 -- ---- growth
-
-pub grows_not : (text out : List ℕ) → Grows text text out out
-grows_not text out = record { more = []; grown = sym (append-nil out); turned = sym (append-nil (objects_of text)) }
-
-pub grows_on : (a b c from to now : List ℕ) → Grows a b from to → Grows b c to now → Grows a c from now
-grows_on a b c from to now g h = record {
-  more = g.more ++ h.more;
-  grown = h.grown ∙ ap (λ (l : List ℕ). l ++ h.more) g.grown ∙ append_assoc from g.more h.more;
-  turned = h.turned ∙ ap (λ (l : List ℕ). l ++ h.more) g.turned ∙ append_assoc (objects_of a) g.more h.more;
-}

@@ -79,10 +79,6 @@ module _ {A : Type 0} where
 
 -- ---- numbers of ranges
 
--- a number between the ends of two adjacent ranges is in one of them
-pub in_either : (a b c d n : ℕ) → (b ≡ c) ⊎ (d ≡ a) → a < b → c < d → min a c ≤ n → n < max b d → ((a ≤ n) × (n < b)) ⊎ ((c ≤ n) × (n < d))
-in_either a b c d n adjacent left right low high = grind (arith, nat_tests)
-
 -- a number that is in neither range is not between their ends
 in_neither : (a b c d n : ℕ) → (b ≡ c) ⊎ (d ≡ a) → a < b → c < d → is_within a b n ≡ false → is_within c d n ≡ false
     → is_within (min a c) (max b d) n ≡ false

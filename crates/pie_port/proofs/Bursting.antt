@@ -5,11 +5,6 @@ use Rattle.std.proofs.Common.{drop, length-append, length-drop}
 use Rattle.std.proofs.Math.ListN.{set}
 use Rattle.std.proofs.lemmas.List.{drop-set-lt, length-map}
 
--- the command at a place, and those after it
-pub is_at : (call : EventCall) (es : List PieEvent) (i : ℕ) (d : PieEvent) (command : Command) → i < length es → command ≡ command_by call (get_or es i d)
-    → map (command_by call) (drop i es) ≡ command ∷ map (command_by call) (drop (i + 1) es)
-is_at call es i d command some is = grind (arith, drop_more es i d)
-
 -- a place from which there is a command is one of an event
 pub is_place : (call : EventCall) (es : List PieEvent) (i : ℕ) → 0 < length (map (command_by call) (drop i es)) → i < length es
 is_place call es i some = omega (arith, some, length-map (drop i es) (command_by call), length-drop i es)

@@ -19,14 +19,6 @@ bytes-drop [] entry first = cc
 bytes-drop (e ∷ entries) entry first =
     let same : e ≡ entry = cc in rw (sum_by-cons (λ (w : Waiting). w.packet.size) e entries, same) refl
 
-pub IsQueue-push : (entries : List Waiting) (entry : Waiting) (capacity : ℕ) → IsQueue (record { waiting = entries; capacity = capacity })
-    → length entries < capacity → IsSize entry.packet.size → IsQueue (record { waiting = entries ++ entry ∷ []; capacity = capacity })
-IsQueue-push entries entry capacity kept room size = record {
-  ring = kept.ring;
-  within = let more = length-append entries (entry ∷ []) in omega (arith, more);
-  sizes = All-append HasSize entries (entry ∷ []) kept.sizes (All-cons HasSize entry [] size (All-nil HasSize));
-}
-
 pub IsQueue-drop : (entries : List Waiting) (capacity : ℕ) → IsQueue (record { waiting = entries; capacity = capacity })
     → IsQueue (record { waiting = drop 1 entries; capacity = capacity })
 IsQueue-drop entries capacity kept = record {

@@ -40,13 +40,6 @@ taken_whole list n is = rw is (take-length list)
 
 -- ---- words
 
--- three words that are taken, and the words after them
-pub drawn : (first second third last : Stream) (size ecn word : ℕ) → (size, second) ≡ next_u64 first → (ecn, third) ≡ next_u64 second
-    → (word, last) ≡ next_u64 third
-    → (size ≡ (next_u64 first).0) × (ecn ≡ (next_u64 (next_u64 first).1).0) × (word ≡ (next_u64 (next_u64 (next_u64 first).1).1).0)
-    × (last ≡ after_three first)
-drawn first second third last size ecn word one two three = (grind arith, grind arith, grind arith, grind arith)
-
 -- ---- facts about all elements of a list
 
 of_if : {A : Type 0} (P : A → Type 0) (b : Bool) (x y : A) → (b ≡ true → P x) → P y → P (if b then x else y)

@@ -90,10 +90,3 @@ counted-among place places at shown one old is here = by_test (nat_lt at places)
     by_test false test =
         is ∙ same-range (λ w. count_at place w shown) (λ w. count_at place w (shown ++ one ∷ [])) 0 places
         (λ w from to. count-other place shown one w (λ e. behind at w test (omega (arith, to)) (here ∙ e)))
-
--- a number and others, together
-pub kept-cons : (n together : ℕ) (ns : List ℕ) → together ≡ kept (sum ns) → min (n + together) 18446744073709551615 ≡ kept (sum (n ∷ ns))
-kept-cons n together ns is = more n together (sum ns) is ∙ ap kept (sym (sum_by-cons (λ (x : ℕ). x) n ns))
-  where
-    more : (n k s : ℕ) → k ≡ min s 18446744073709551615 → min (n + k) 18446744073709551615 ≡ min (n + s) 18446744073709551615
-    more n k s is = omega (arith, is)

@@ -220,8 +220,3 @@ beside_same some flows one e =
     ap (λ (fs : List Flow). added_up (map (λ f. f.sums) fs))
     (sym (filter-append (λ f. not (is_among some f)) flows (one ∷ [])
     ∙ ap (λ (b : Bool). beside some flows ++ cond (not b) (one ∷ []) []) e ∙ append-nil (beside some flows)))
-
--- a loop's step
-pub next-flow : (flows : List Flow) (at : ℕ) (x : Flow) → at < length flows → x ≡ slice_index_or flows at x
-    → take at flows ++ x ∷ [] ≡ take (at + 1) flows
-next-flow flows at x within is = ap (λ (y : Flow). take at flows ++ y ∷ []) is ∙ sym (take_more flows at x within)

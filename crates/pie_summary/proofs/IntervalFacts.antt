@@ -97,9 +97,3 @@ written-push header at shown one text is =
     ap (λ ps. header ++ flat_map at ps) (places-push shown one)
     ∙ sym (flat_map_more at header (places shown) (place_of shown one))
     ∙ ap (λ (more : List ℕ). (header ++ flat_map at (places shown)) ++ more) (sym is)
-
-pub written-end : {E : Type 0} (result : Result (Unit {0}) E) (so_far summary_text page now text : List ℕ) → text ≡ summary_text
-    → OnOk result (now ≡ page ++ text) → OnOk result (Grows so_far (so_far ++ summary_text) page now)
-written-end (Ok done) so_far summary_text page now text is wrote =
-    record { more = text; grown = wrote; turned = ap (λ (t : List ℕ). so_far ++ t) (sym is) }
-written-end (Err why) so_far summary_text page now text is wrote = tt

@@ -146,15 +146,6 @@ holds-taken interval shown one meter waits awaits meter-is waits-is = record {
   spans = awaits.spans;
 }
 
--- the record at the end, of no event and of some
-pub at_last-none : (every : ℕ) (summary_text : List Explained → List ℕ) (all : List Explained) → last_interval (Some every) all ≡ None
-    → [] ≡ at_last (Some every) summary_text all
-at_last-none every summary_text all none = sym (ap (λ (last : Option ℕ). if is_some last then summary_text (last_events (Some every) all) else []) none)
-
-pub at_last-some : (every number : ℕ) (summary_text : List Explained → List ℕ) (all : List Explained) → last_interval (Some every) all ≡ Some number
-    → summary_text (last_events (Some every) all) ≡ at_last (Some every) summary_text all
-at_last-some every number summary_text all some = sym (ap (λ (last : Option ℕ). if is_some last then summary_text (last_events (Some every) all) else []) some)
-
 pub text_live : (by_wall : Bool) (all : List Explained) (meter : Meter) (waits : List ℕ) (most : ℕ) → meter ≡ meter_in all → waits ≡ waits_of all
     → most ≡ wait_99 waits meter → record_of by_wall meter most ≡ summary_text_of (record { csv = true; by_wall = by_wall }) all
 unfolding sums_of

@@ -94,38 +94,7 @@ module _ (numbers : List ℕ) (number : ℕ) (old : Total) (new : ℕ) (is : old
   before : ℕ
   before = min (sum numbers) 340282366920938463463374607431768211455
 
-  grown-by : {high low : ℕ} → high ≡ min (before + number) 340282366920938463463374607431768211455 / 18446744073709551616
-      → low ≡ min (before + number) 340282366920938463463374607431768211455 % 18446744073709551616
-      → record { high = high; low = low } ≡ total_of (numbers ++ number ∷ [])
-  unfolding before
-  grown-by high-is low-is =
-      (λ i. record { high = high-is i; low = low-is i })
-      ∙ ap total_in (kept-more (sum numbers) number 340282366920938463463374607431768211455
-      ∙ ap (λ (n : ℕ). min n 340282366920938463463374607431768211455) (sym (sum_by_push (λ (x : ℕ). x) numbers number)))
-
   parts : (old.high ≡ before / 18446744073709551616) × (old.low ≡ before % 18446744073709551616)
       × (before ≤ 340282366920938463463374607431768211455)
   unfolding before
   parts = (ap (λ (t : Total). t.high) is, ap (λ (t : Total). t.low) is, omega arith)
-
-  pub total-plain : old.low + number < 18446744073709551616 → new ≡ (old.low + number) % 18446744073709551616
-      → record { high = old.high; low = new } ≡ total_of (numbers ++ number ∷ [])
-  total-plain room new-is =
-      let high = parts.0 in let low = parts.1 in let most = parts.2 in
-      grown-by (omega (arith, high, low, most, room)) (omega (arith, high, low, most, room, new-is))
-
-  pub total-carried : 18446744073709551616 ≤ old.low + number → number < 18446744073709551616
-      → new ≡ (old.low + number) % 18446744073709551616 → carried_over (record { high = old.high; low = new }) ≡ total_of (numbers ++ number ∷ [])
-  total-carried none small new-is = by_test (old.high == 18446744073709551615) refl
-    where
-      by_test : (b : Bool) → (old.high == 18446744073709551615) ≡ b
-          → (if b then record { high = old.high; low = 18446744073709551615 } else record { high = old.high + 1; low = new })
-          ≡ total_of (numbers ++ number ∷ [])
-      by_test true test =
-          let high = parts.0 in let low = parts.1 in let most = parts.2 in
-          let full = eqb-true old.high 18446744073709551615 test in
-          grown-by (omega (arith, high, low, most, none, full)) (omega (arith, high, low, most, none, full))
-      by_test false test =
-          let high = parts.0 in let low = parts.1 in let most = parts.2 in
-          let room : old.high ≡ 18446744073709551615 → ⊥ = λ same. false≢true (sym test ∙ eq-eqb old.high 18446744073709551615 same) in
-          grown-by (omega (arith, high, low, most, none, small, room)) (omega (arith, high, low, most, none, small, new-is, room))

@@ -100,15 +100,3 @@ taken shown one is time-is notes takes reached-is =
     ∙ (λ i. meter_of (before ++ is i ∷ []) times) ∙ ap (λ all. meter_of all times) (sym (map_push meter_input_of shown one))
 
 -- ---- The meter's input for an event, by its numbers and its answer
-
-pub input-by : (met : Conditions) (one : Explained) (answer : Answer) (cause : Option CauseName) (arrived : Option ℕ) → HasConditions met one → one.explanation.event.answer ≡ answer
-    → cause_of one ≡ cause → size_in one ≡ arrived → meter_input_of one ≡ meter_input_by met answer cause arrived one.explanation.waited
-input-by met one answer cause arrived m is cause-is size-is = λ i. meter_input_by (m i) (is i) (cause-is i) (size-is i) one.explanation.waited
-
--- the input for an arrival with any verdict
-pub arrival-input : (met : Conditions) (verdict : Verdict) (cause : Option CauseName) (size waited : ℕ)
-    → record (meter_input_by met Done None None 0) { answer = answer_place (answer_of verdict); cause = cause; arrived = Some size }
-    ≡ meter_input_by met (answer_of verdict) cause (Some size) waited
-unfolding meter_input_by
-arrival-input met Enqueued cause size waited = refl
-arrival-input met _ cause size waited = refl

@@ -1,4 +1,5 @@
--- Choices of an opening, from their numbers, and the latest moment.
+-- The numbers and structs of the libraries for C: choices, packets, verdicts, parameters, openings, events and
+-- statistics; and the caller's bytes after a call that writes a text.
 use Rattle.std.specs.Prelude.{ℕ, ◌^◌, ◌-◌, ◌+◌, ◌/◌, ◌%◌, ◌==◌, if◌then◌else◌, ◌||◌, Bool, nat_lt, Option, Some, None, is_none, not, Result, Ok, Err, List, ◌++◌, drop, length, nat_le}
 use Rattle.pie_params.specs.declared.elements.Elements.{Elements}
 use Rattle.pie_params.specs.declared.elements.Decay.{Decay}
@@ -30,6 +31,8 @@ use Rattle.pie_event.specs.declared.opening.Opening.{Opening}
 use Rattle.pie_abi.specs.declared.opening.PieOpening.{PieOpening}
 use Rattle.pie_event.specs.declared.stats.Stats.{Stats}
 use Rattle.pie_abi.specs.declared.stats.PieStats.{PieStats}
+
+-- ---- Choices of an opening, from their numbers, and the latest moment.
 
 -- the latest moment
 abbrev pub last_moment : ℕ

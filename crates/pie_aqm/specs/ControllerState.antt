@@ -1,4 +1,4 @@
--- The state of a controller, and its soundness.
+-- The state of a controller, its soundness, its opening, and its events.
 use Rattle.std.specs.Prelude.{◌≡◌, ℕ, ◌^◌, ◌<◌, ◌≤◌, Bool, true, nat_le, nat_lt, not, is_none, Option, Some, None, find, List, [], ◌∷◌, ⊤}
 use Rattle.pie_aqm.specs.Types.{Begun, Profile, One, Two, RawParams, Elements, Verdict}
 use Rattle.pie_params.specs.Params.{first_bad}

@@ -1,4 +1,5 @@
--- Events with all events before them, and the greatest and the last element of a list.
+-- The state of a controller as a look-back over all its events (`state_of`), and the places of a history: each event
+-- with all events before it.
 use Rattle.std.specs.Prelude.{ℕ, max, List, [], ◌∷◌, ◌++◌, map, ◌≡◌, Bool, true, false, ◌&&◌, Option, option_map, Some, None, if◌then◌else◌}
 use Rattle.std.specs.List.{filter_map, after_last}
 use Rattle.pie_aqm.specs.Types.{RawParams, Elements, Departure, departure, Parts, Enqueue, Mark, Drop, Profile, One, Two, Verdict, Picking}
@@ -14,6 +15,8 @@ use Rattle.pie_early.specs.Events.{EarlyEvent, arrival, cleared}
 use Rattle.pie_early.specs.History.{accumulated}
 use Rattle.pie_event.specs.declared.verdict.Verdict.TheVariants.{Enqueued, Marked, DroppedEarly, DroppedBytes, DroppedPackets}
 use Rattle.pie_aqm.specs.Steps.{delay_by, keeps_wait, measures, wait_of, activates}
+
+-- ---- Events with all events before them, and the greatest and the last element of a list.
 
 -- an event of type E, and all events before it
 pub record Place (E : Type 0) : Type 0 where

@@ -1,9 +1,9 @@
 //! The audit of a history: it decides each recorded event again and names the first event that differs from the
 //! rules.
 //!
-//! The definitions that the contracts cite are in `specs/`. `finding` compares each event with the decision after
-//! all lines before it. pie_explain and pie_cut cite `specs/Replay.antt` for the event that
-//! set the probability, and for the knowledge of an excerpt about that event.
+//! The definitions that the contracts cite are in `specs/`. `Finds` (Text.antt) states the finding of a text: `finding`
+//! (Replay.antt) compares each event with the decision after all lines before it. pie_explain and pie_cut cite
+//! Replay.antt for the event that set the probability, and for the knowledge of an excerpt about that event.
 //!
 //! `clean_is_legal`: a text without a fault is clean exactly if its events are legal from its opening on; otherwise
 //! it differs at the first event that is not legal.

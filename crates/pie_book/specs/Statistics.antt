@@ -1,4 +1,4 @@
--- The statistics after a history: counts, sums and greatest values over all its events.
+-- The statistics and the registers after a history: counts, sums and greatest values over all its events.
 use Rattle.std.specs.Prelude.{ℕ, ◌-◌, Bool, true, false, List, [], ◌∷◌, map, Option, Some, None, count_by, sum_by, if◌then◌else◌, filter_map, is_some, ◌≡◌, ◌*◌, ◌^◌, ◌≤◌, ◌&&◌, nat_le, length}
 use Rattle.std.specs.Option.{option_map_or}
 use Rattle.pie_book.specs.Types.{Packet, Waiting, Event, Opening, Stats, Place, places, up_to, greatest, Effect, effect_of, departure, is_arrival, is_update, queued, marked, dropped_early, dropped_bytes, dropped_packets, found_none, was_reset, ControllerState, Registers, bytes_of}

@@ -1,4 +1,5 @@
--- The controller of a state, the soundness of states, and the state of an opening.
+-- The controller of a state, the soundness of states, the state of an opening, and the refusals, the return value and
+-- the state after each call.
 use Rattle.std.specs.Prelude.{ℕ, ◌^◌, ◌%◌, Bool, not, ◌&&◌, ◌==◌, nat_lt, nat_le, Option, Some, None, if◌then◌else◌, Result, Ok, Err, ◌≡◌, ◌≤◌, true, max, List, [], ◌∷◌, ◌++◌}
 use Rattle.pie_c.specs.Names.{Begun, ControllerState, choices_of, elements_of, last_moment, profile_number, profile_of, are_in_range, PieState, profile_for, Opened, opened, PieOpening, Arrive, Call, Depart, IsTaken, Advance, after_call, event_of_call, ControllerEvent, IsSound, Represents, arrived, capped, delay_answered, departed, due, is_too_soon, updated, verdict, RawParams, ecn_at, is_bad_size, verdict_number, PieUpdated}
 use Rattle.pie_rate.specs.declared.raw.RawCycle.{RawCycle}

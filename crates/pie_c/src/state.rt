@@ -1,3 +1,4 @@
+//! The state of a controller, and the result of an update, in the layout of C.
 ghost use Rattle.std.specs.Prelude.{◌≡◌, max, true};
 ghost use Rattle.pie_c.specs.{controller_state, is_sound, state_of, with_arrival, with_rate, with_registers, IsSound, nothing_updated, updated_with};
 

@@ -1,3 +1,4 @@
+//! The control law for numbers in their ranges.
 ghost use Rattle.std.specs.Prelude.{◌≡◌, ℕ, ◌^◌, ◌≤◌, List, [], ◌∷◌, ◌++◌, if◌then◌else◌};
 ghost use Rattle.pie_params.specs.declared.raw.RawParams.{RawParams};
 ghost use Rattle.pie_control.specs.declared.update.TheConstants.{MAX_DELAY};

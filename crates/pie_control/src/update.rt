@@ -1,3 +1,4 @@
+//! The queueing delay, and the probability after an update.
 ghost use Rattle.std.specs.Prelude.{◌≡◌, ℕ, ◌+◌, ◌^◌, ◌<◌, ◌≤◌, ◌&&◌, nat_le, if◌then◌else◌, pos, negsuc, ◌-ℤ◌, ◌*ℤ◌, ◌≤ℤ◌, ◌/◌, int_div};
 ghost use Rattle.std.specs.Int.{int_min};
 ghost use Rattle.pie_fixed.specs.declared.TheConstants.{ONE};

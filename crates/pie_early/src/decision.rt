@@ -1,3 +1,4 @@
+//! Decisions of early drop over plain numbers, and their causes.
 ghost use Rattle.std.specs.Prelude.{◌≡◌, ◌+◌, ◌*◌, ◌==◌, ◌≤◌, ◌&&◌, ◌||◌, ℕ, nat_lt, is_none, Some, if◌then◌else◌};
 ghost use Rattle.pie_params.specs.declared.elements.Size.TheVariants.{Scaled};
 ghost use Rattle.pie_event.specs.Cause.{verdict_named, verdict_of, name_of};

@@ -1,3 +1,4 @@
+//! Early drop for numbers in their ranges.
 ghost use Rattle.std.specs.Prelude.{◌≡◌, ℕ, ◌+◌, ◌*◌, ◌<◌, ◌↔◌, List, [], ◌∷◌, ◌++◌, true, replicate, IsTrue};
 ghost use Rattle.pie_fixed.specs.declared.TheConstants.{ALWAYS_PICKED};
 ghost use Rattle.pie_params.specs.declared.elements.Picking.TheVariants.{Derandomized};

@@ -1,4 +1,4 @@
--- The verdict on an arriving packet, and the answer to its arrival.
+-- The answer to an arrival with a verdict, the names of causes, and the verdict of a cause.
 use Rattle.std.specs.Prelude.{Bool, true, false, ℕ, List, [], ◌∷◌, codes}
 use Rattle.pie_event.specs.declared.command.Answer.{Answer}
 use Rattle.pie_event.specs.declared.command.Answer.TheVariants as answer
@@ -9,6 +9,8 @@ use Rattle.pie_event.specs.declared.cause.Cause.TheVariants as cause
 use Rattle.pie_event.specs.declared.cause.Fate.TheVariants as fate
 use Rattle.pie_event.specs.declared.cause_name.CauseName.{CauseName}
 use Rattle.pie_event.specs.declared.cause_name.CauseName.TheVariants.{NoRoomInBytes, NoRoomInPackets, Inactive, BurstAllowed, LowDelay, ShortQueue, NoProbability, LittleAccumulated, PickedBySumMarked, PickedBySumNotCapable, PickedBySumNotBelow, PickedByWordMarked, PickedByWordNotCapable, PickedByWordNotBelow, WordNotBelow}
+
+-- ---- The verdict on an arriving packet, and the answer to its arrival.
 
 -- true if the packet is queued
 abbrev pub is_queued : Verdict → Bool

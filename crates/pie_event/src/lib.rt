@@ -1,8 +1,8 @@
 //! Types that rules, controller, books, links and texts share: commands, answers, causes of decisions, events and
 //! snapshots of a book, and the event that set a probability. `pie_aqm` and `pie_book` re-export their own.
 //!
-//! Definitions in `specs/`: the effect of an event (`Effect`); the verdict of a cause (`Cause`); the answer to an arrival
-//! (`Verdict`); the permitted openings of a book (`Opening`); the ranges of the types' numbers (`Ranges`).
+//! Definitions in `specs/`: the effect of an event, the permitted openings of a book and the ranges of the types' numbers
+//! (Event.antt); the verdict of a cause, and the answer to an arrival with a verdict (Cause.antt).
 #![tactic(auto)]
 
 mod cause;

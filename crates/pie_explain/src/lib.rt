@@ -3,8 +3,8 @@
 //!
 //! For every history that the core represents, `Explained::begin` returns exactly the numbers of the look-back and
 //! the first case of the decision that applies. `Explained` adds the controller's numbers after the event.
-//! `Selection::picks` selects the events to explain. A `Report` writes explanations one after another, and `Form`
-//! implements the reports in words and as CSV.
+//! `Selection::picks` selects the events to explain. A `Report` writes explanations one after another: the two of this
+//! crate as CSV, and in words.
 //!
 //! `explain` reads a history as an audit does and decides each event again. It explains the chosen events from the
 //! core before them. The definitions that the contracts cite are in `specs/`. If no reader, writer or memory

@@ -1,9 +1,12 @@
--- The time for which a burst passes (RFC 8033, section 4.4).
+-- The time for which a burst passes, the relation of the probability to the delay, and the samples of the departure
+-- rate.
 use Rattle.std.specs.Prelude.{◌≡◌, ◌≤◌, ℕ, List, All, ⊤, ◌<◌, ◌+◌, ◌*◌, ◌-◌, ◌/◌, ◌^◌, ◌++◌, ◌∷◌, [], min, zero, suc, true, false}
 use Rattle.pie_guarantees.specs.Names.{is_update, RawParams, Command, SetParams, Event, Opening, params_after, parts_after, count_of, effect_of, active_after, delay_after, is_reset, departure_inputs, opened_of, controller_events}
 use Rattle.pie_params.specs.declared.elements.Elements.{Elements}
 use Rattle.pie_control.specs.Next.{next, tuning_divisor}
 use Rattle.pie_rate.specs.Average.{samples}
+
+-- ---- The time for which a burst passes (RFC 8033, section 4.4).
 
 -- after these events the burst allowance is whole: no update has reduced it
 abbrev pub IsWhole : Opening → List Event → Type 0

@@ -1,4 +1,4 @@
--- The verdicts of arriving packets: early verdicts, and the packets that were queued, that departed, and that wait.
+-- The histories for which all laws hold, the verdicts of arriving packets, and the distance between picked packets.
 use Rattle.std.specs.Prelude.{◌≡◌, ◌<◌, ℕ, Bool, true, false, List, ◌≤◌, ◌*◌, ◌-◌, ◌^◌, ◌++◌, map, Option, Some, None, count_by, sum_by, ⊤, [], ◌∷◌, All, ◌+◌, ◌&&◌, ◌||◌, ◌==◌, not, if◌then◌else◌}
 use Rattle.pie_queue.specs.Queue.{is_capable}
 use Rattle.pie_guarantees.specs.Names.{Packet, Arrive, Answer, Event, Opening, DroppedEarly, Marked, params_after, parts_after, Effect, effect_of, departure, marked, queued, Ce, Waiting, Command, SetParams, effective_moment, waiting_after, considered_where, dropped_early, active_after, bytes_after, arriving_size, is_dropped_bytes, is_dropped_packets, is_reset}
@@ -7,6 +7,9 @@ use Rattle.pie_params.specs.Params.{first_bad}
 use Rattle.pie_event.specs.Event.{opening_refusal}
 use Rattle.pie_book.specs.Decision.{IsLegal}
 use Rattle.pie_early.specs.Decision.{effective_prob}
+
+-- ---- The verdicts of arriving packets: early verdicts, and the packets that were queued, that departed, and that
+-- wait.
 
 -- an early verdict: the packet was marked, or dropped early
 abbrev pub is_early : Answer → Bool

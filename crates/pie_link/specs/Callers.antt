@@ -1,4 +1,5 @@
--- The views of a link and of its callers in contracts.
+-- The views of a link and of its callers in contracts, and the results of a caller's command, burst, fold, reading and
+-- excerpt.
 use Rattle.std.specs.Prelude.{◌≡◌, List, Some, Result, Ok, Err, ℕ, Bool, [], ◌∷◌, ◌++◌, Option, None, Vec}
 use Rattle.pie_lock.specs.Rule.{LockView, PassView, HasAllNumbers, Extends}
 use Rattle.pie_link.specs.Names.{Opening, IsLegal, Entry, number_of, events_in, Command, Reply, entries_within, replies_within, Event, Refusal, Told, entries_by, reply_in}

@@ -1,4 +1,5 @@
--- The entries of a list whose numbers lie in a range.
+-- The rule of the lock, the entries that a put appends, the views of a lock, a pass and a held, and the facts of each
+-- step on the lock's word.
 use Rattle.std.specs.Prelude.{ℕ, List, Bool, ◌&&◌, ◌≡◌, ◌<◌, ◌≤◌, ◌⊎◌, [], Option, Some, None, length, slice_index, All, ◌∷◌, ◌++◌, ◌≢◌, ◌-◌, cond, min, max}
 use Rattle.std.specs.List.{filter}
 use Rattle.std.proofs.Math.Dec.{leb, ltb}
@@ -12,6 +13,8 @@ use Rattle.pie_lock.specs.declared.view.SeatKnowledge.TheVariants.{Spent, Idle, 
 use Rattle.std.specs.declared.snapshot.Snapshot.{Snapshot}
 use Rattle.atomic_table.specs.Seated.{TableId}
 use Rattle.atomic_table.specs.declared.shared.Seat.{Seat}
+
+-- ---- The entries of a list whose numbers lie in a range.
 
 -- the number n lies in first..limit
 abbrev pub is_within : ℕ → ℕ → ℕ → Bool

@@ -1,4 +1,4 @@
--- Optional elements of RFC 8033, as choices (section 5).
+-- The nine parameters: their names, defaults and ranges; and the optional elements of RFC 8033.
 use Rattle.std.specs.Prelude.{Bool, true, false, ℕ, List, codes, ◌*◌, ◌^◌, ◌==◌, max, min, if◌then◌else◌, ◌+◌, ◌≤◌, ◌&&◌, ◌||◌, nat_le, not, IsTrue, Option, find, [], ◌∷◌}
 use Rattle.pie_params.specs.declared.elements.Elements.{Elements}
 use Rattle.pie_params.specs.declared.elements.Decay.TheVariants.{Zero}
@@ -14,6 +14,8 @@ use Rattle.std.specs.Int.{div_ceil}
 use Rattle.pie_params.specs.declared.raw.RawParams.{RawParams}
 use Rattle.pie_fixed.specs.declared.TheConstants.{ONE}
 use Rattle.pie_params.specs.declared.checked.Params.TheInside.{Inside}
+
+-- ---- Optional elements of RFC 8033, as choices (section 5).
 
 -- the default choices
 abbrev pub usual : Elements

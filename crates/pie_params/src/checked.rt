@@ -1,3 +1,4 @@
+//! The nine parameters within their ranges.
 ghost use Rattle.std.specs.Prelude.{◌≡◌, is_some, is_none, IfSome, ◌^◌, ◌≤◌, ◌↔◌, IsTrue, IsOk, IfOk, IfErr};
 ghost use Rattle.pie_fixed.specs.declared.TheConstants.{ONE};
 

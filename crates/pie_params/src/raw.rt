@@ -1,3 +1,4 @@
+//! The nine parameters as plain numbers, and the names of their fields.
 ghost use Rattle.std.specs.Prelude.{◌≡◌, is_none};
 
 use std::fmt;

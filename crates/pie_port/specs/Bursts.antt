@@ -1,4 +1,5 @@
--- Promises of bursts at a port: several events of its caller, one after another, in one turn.
+-- Promises of bursts, excerpts and readings at a port. A burst is several events of the port's caller, one after
+-- another, in one turn.
 use Rattle.std.specs.Prelude.{ℕ, ◌≡◌, ◌==◌, ◌⊎◌, Bool, true, false, List, [], ◌∷◌, map, length, Option, Some, None, Ok, Err, if◌then◌else◌, ◌+◌, Result, slice_get, ◌-◌, ◌^◌, min}
 use Rattle.pie_port.specs.Names.{Command, Reply, AnswersWithin, CallerView, HasSameNumbers, WasBusy, PieEvent, EventCall, Update, option_map_or, Ends, ExcerptView, has_room, text_of, Tried, Busy, Refused, Opening, PieOpening, opening_refusal, after_writing, count_written, ExcerptText, Event, Refusal, Told}
 use Rattle.pie_event.specs.declared.command.Command.TheVariants as command

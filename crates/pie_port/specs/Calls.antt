@@ -1,4 +1,5 @@
--- Codes of the calls at a port, commands of a caller's events, and the fields that a call writes.
+-- Codes of the calls at a port, commands of a caller's events, the fields that a call writes, and the promises of the
+-- calls.
 use Rattle.std.specs.Prelude.{ℕ, Bool, false, nat_lt, Result, Ok, Err, ◌≡◌, ◌≢◌, ◌==◌, ◌+◌, ◌⊎◌, ◌↔◌, true, Option, Some, None, if◌then◌else◌}
 use Rattle.pie_port.specs.Names.{bits_of, Answer, Enqueued, Marked, DroppedEarly, DroppedBytes, DroppedPackets, Empty, Left, Updated, Done, Command, Refusal, Told, Tried, Busy, Refused, PieEvent, arrived_event, bare_event, EventCall, Arrive, Depart, Update, Reset, first_pass, without_highest, highest_alone, IsBeside, IsBothOf, SetParams, number_of, TriesToAnswer, CallerView, LinkView, HasSameNumbers, PieOpening, RawParams, opening_in, opening_refusal, are_in_range}
 use Rattle.pie_queue.specs.declared.packet.Packet.{Packet}

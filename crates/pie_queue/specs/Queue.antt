@@ -1,4 +1,5 @@
--- The model of a byte queue: the waiting packets, in order, and the capacity of the ring.
+-- The model of a byte queue: the waiting packets, in order, and the capacity of the ring. The codepoints of the ECN
+-- field.
 use Rattle.std.specs.Prelude.{ℕ, List, ◌≤◌, ◌^◌, length, sum_by, All, Bool, true, false}
 use Rattle.pie_queue.specs.declared.packet.Waiting.{Waiting}
 use Rattle.pie_queue.specs.declared.ecn.Ecn.{Ecn}

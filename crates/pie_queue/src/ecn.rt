@@ -1,3 +1,4 @@
+//! The ECN field of a packet.
 ghost use Rattle.std.specs.Prelude.{◌≡◌, ◌<◌};
 
 /// The ECN field of a packet's header (RFC 3168, section 5).

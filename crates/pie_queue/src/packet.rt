@@ -1,3 +1,5 @@
+//! Packets, and packets that wait.
+
 use crate::Ecn;
 use pie_fixed::Nanos;
 

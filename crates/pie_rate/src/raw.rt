@@ -1,3 +1,4 @@
+//! The departure rate over plain numbers.
 ghost use Rattle.std.specs.Prelude.{◌≡◌, ◌+◌, ◌-◌, ◌<◌, ◌≤◌, None, SomeIff, max};
 ghost use Rattle.pie_rate.specs.{with_sample, departure, after_departure};
 

@@ -1,4 +1,5 @@
--- The state of a run: the look-back over a history, or a running core, with or without a history that leads to it.
+-- The run of a text: its result and its output (`RunsText`). The state of a run is the look-back over a history, or a
+-- running core, with or without a history that leads to it.
 use Rattle.pie_trace.specs.Names.{Answer, Apply, BadParams, CoreView, Err, Fold, List, Ok, Opening, Progress, Refusal, Request, Result, Row, Show, Tally, Version, [], apply_in, code_of_fold, code_of_params, core_after, nat_lt, registers_of, rows_text, ℕ, Appends, BookRepresents, BookView, None, Option, Some, TraceFault, cond, false, is_io_or_memory, length, opening_refusal, request_of, text_of, Beginning, Event, RecordFault, Represents, and_then, beginning_of, progress_after, take}
 use Rattle.pie_book.specs.Book.{tail_length_after_fold, tail_length_with_one}
 use Rattle.pie_trace.specs.History.{before_fault, end_at, end_left, history_rows, refused_count, requests_of, text_left, first_fault, end_in, fault_in, resumed_progress, steps_of, text_in, Reply, after, clocked, fold_reply, refused, reply, reply_to_command, shown, tallied, history_row, is_refused}

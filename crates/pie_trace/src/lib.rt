@@ -3,11 +3,11 @@
 //! The definitions that the contracts cite are in `specs/`, and those of records in pie_record: a trace's first
 //! fault, and its history text.
 //!
-//! `run_trace_within` and `run_trace` run a trace with any reader and writer whose bytes are known. Unless the
-//! result is `Read`, `Write` or `Memory`, it is `Ok` exactly if the text has no fault (clause `ends`), otherwise the
-//! first fault (`faults`). An `Ok` has the numbers, registers and statistics of the run. The output is the history
-//! text (`writes`). The calls end even if the reader never ends. Take any history that leads to the state at the text's
-//! beginning: result and output are those of the whole from there on, with an empty tail.
+//! `run_trace_within` and `run_trace` run a trace with any reader and writer whose bytes are known (`RunsText`). Unless
+//! the result is `Read`, `Write` or `Memory`, it is `Ok` exactly if the text has no fault, otherwise the first fault. An
+//! `Ok` has the numbers, registers and statistics of the run. The output is the history text. The calls end even if the
+//! reader never ends. Take any history that leads to the state at the text's beginning: result and output are those of
+//! the whole from there on, with an empty tail.
 //!
 //! `history_texts_are_read_back`: the output of a run is read back as the same opening and events.
 //!

@@ -1,4 +1,4 @@
--- Sizes of packets on a link, as `tc stab` computes them.
+-- The opening of a book with `tc`'s options: sizes of packets on a link, parameters, limits and optional elements.
 use Rattle.std.specs.Prelude.{ℕ, ◌+◌, ◌-◌, ◌*◌, ◌/◌, ◌%◌, ◌==◌, ◌||◌, List, [], ◌∷◌, Result, Ok, Err, max, length, nat_lt, not, if◌then◌else◌, ◌^◌, Bool, min, ◌&&◌}
 use Rattle.std.specs.Result.{result_map_both}
 use Rattle.pie_units.specs.Number.{digit_count, number_after}
@@ -20,6 +20,8 @@ use Rattle.pie_event.specs.declared.profile.Profile.TheVariants.{One}
 use Rattle.pie_event.specs.declared.opening.Mode.TheVariants.{Rolling}
 use Rattle.pie_event.specs.declared.opening.Opening.{Opening}
 use Rattle.pie_units.specs.declared.options.TuningOptions.{TuningOptions}
+
+-- ---- Sizes of packets on a link, as `tc stab` computes them.
 
 -- the size of a packet with the overhead
 abbrev pub with_overhead : Overhead → ℕ → ℕ

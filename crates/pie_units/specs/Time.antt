@@ -1,5 +1,4 @@
--- Dates of the Gregorian calendar. Years begin on 1 March here, so that a leap day is the last of its year: 0000-03-01
--- is 719468 days before 1970-01-01.
+-- Dates, wall-clock times in UTC, moments, and bounds of moments in human-readable form.
 use Rattle.std.specs.Prelude.{ℕ, ◌+◌, ◌-◌, ◌*◌, ◌/◌, ◌%◌, ◌==◌, ◌&&◌, ◌||◌, not, nat_lt, Bool, if◌then◌else◌, ◌^◌, min, List, [], ◌++◌, length, take, drop, slice_index, replicate, Option, Some, None, Result, Ok, Err, codes, ◌≡◌}
 use Rattle.pie_units.specs.declared.date.Date.{Date}
 use Rattle.std.specs.Fmt.{decimal}
@@ -20,6 +19,9 @@ use Rattle.pie_units.specs.declared.when.When.{When}
 use Rattle.pie_units.specs.declared.when.When.TheVariants as when
 use Rattle.pie_units.specs.declared.when.WhenFault.{WhenFault}
 use Rattle.pie_units.specs.declared.when.WhenFault.TheVariants as fault
+
+-- ---- Dates of the Gregorian calendar. Years begin on 1 March here, so that a leap day is the last of its year:
+-- 0000-03-01 is 719468 days before 1970-01-01.
 
 -- ---- The date of a day
 

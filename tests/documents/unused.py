@@ -96,7 +96,8 @@ def paths(crate, above):
     re-exported item."""
     root = (ROOT / "crates" / crate / "src/lib.rt").read_text()
     for module in re.findall(r"^pub mod (\w+);", root, re.M):
-        if not any(re.search(rf"\b{crate}::{module}::", text) for text in above):
+        # (a law may have no caller)
+        if module != "law" and not any(re.search(rf"\b{crate}::{module}::", text) for text in above):
             yield f"{crate}: no other crate names the public module {module}"
         if re.search(rf"^pub use {module}::", root, re.M):
             yield f"{crate}: items of the public module {module} have a second path"

@@ -12,7 +12,7 @@ use crate::request::Request;
 use crate::setting::{push_lines, push_settings};
 use pie_event::Opening;
 use pie_params::{BadParam, Decay, Params, RawParams};
-use pie_text::{Page, Row, put_opening};
+use pie_text::{Page, RowBuffer, put_opening};
 use pie_units::{
     Layer, LinkLayer, TuningOptions, default_packets, elements_for, gain_of, opening_for,
     params_for,
@@ -78,7 +78,7 @@ fn push_front(page: &mut Page, request: &Request, opening: &Opening) -> Result<(
 fn push_record(page: &mut Page, opening: &Opening) -> Result<(), AllocError>
     ensures { OnOk result (page.new ≡ page.old ++ text_of (opening_row opening.now)) }
 {
-    let mut row = Row::new();
+    let mut row = RowBuffer::new();
     put_opening(&mut row, opening);
     page.push(row.as_bytes())
 }

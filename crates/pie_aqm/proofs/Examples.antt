@@ -1,7 +1,7 @@
 -- Examples of the definitions: each theorem computes. A row is a call and the state of a controller of profile two
 -- after it, by the rules and by the look-back. The numbers are worked out by hand.
 use Rattle.std.specs.Prelude.{◌≡◌, refl, ⊤, ℕ, ◌+◌, ◌^◌, List, [], ◌∷◌, ◌++◌, map, Bool, true, false, Some, None}
-use Rattle.pie_aqm.specs.{RawParams, Elements, Stamp, Two, ArrivingPacket, ControllerEvent, Estimate, Parts, Call, Arrive, Depart, Advance, Update, Restart, Change, after_call, event_of_call, opened, no_estimate, delay_answered, cause, with_count, count_kept_open, is_between_cycles, first_unsound, state_of, now_of, params_of, active_of, departure_inputs, update_inputs, arrival_inputs, departures_of, waited_of, waited_at_end, delay_at_end, control_of, early_of, is_active, activity_events, activity_events_after, places, greatest, last_or, verdict, accu_left}
+use Rattle.pie_aqm.specs.{RawParams, Elements, Stamp, Two, ArrivingPacket, ControllerEvent, Estimate, ControlState, Call, Arrive, Depart, Advance, Update, Restart, Change, after_call, event_of_call, opened, no_estimate, delay_answered, cause, with_count, count_kept_open, is_between_cycles, first_unsound, state_of, now_of, params_of, active_of, departure_inputs, update_inputs, arrival_inputs, departures_of, waited_of, waited_at_end, delay_at_end, control_of, early_of, is_active, activity_events, activity_events_after, places, greatest, last_or, verdict, accu_left}
 use Rattle.pie_aqm.specs.ControllerState.{ControllerState}
 use Rattle.pie_params.specs.Params.{usual, default_profile}
 use Rattle.pie_queue.specs.declared.ecn.Ecn.TheVariants.{NotEct}
@@ -34,7 +34,7 @@ abbrev measured : ℕ → ℕ → ℕ → Estimate
 measured average start count = record { average = average; begun = Some (record { start = start; count = count }) }
 
 -- a state of the control law: probability, old delay, burst allowance and moment of the last update
-abbrev parts : ℕ → ℕ → ℕ → ℕ → Parts
+abbrev parts : ℕ → ℕ → ℕ → ℕ → ControlState
 parts prob old burst last = record { prob = prob; old_delay = old; burst = burst; last = last }
 
 abbrev packet : ℕ → ℕ → Bool → ArrivingPacket
@@ -54,7 +54,7 @@ Hold elements rows = both_ways elements [] (opened Two elements small 0) rows �
 
 -- ---- Delay from the departure rate: moment, activity, estimate, and state of the control law
 
-abbrev rated : ℕ → Bool → Estimate → Parts → ControllerState
+abbrev rated : ℕ → Bool → Estimate → ControlState → ControllerState
 rated moment active rate control = record (opened Two usual small moment) { active = active; rate = rate; control = control }
 
 -- The controller is inactive at the opening and measures nothing. A queue of a third of the limit activates it; a queue
@@ -87,7 +87,7 @@ by_rate = refl
 abbrev stamps : Elements
 stamps = record usual { delay = Stamp }
 
-abbrev stamped : ℕ → Bool → ℕ → Parts → ℕ → ControllerState
+abbrev stamped : ℕ → Bool → ℕ → ControlState → ℕ → ControllerState
 stamped moment active waited control accu =
     record (opened Two stamps small moment) { active = active; waited = waited; control = control; accu = accu }
 

@@ -7,7 +7,7 @@ use Rattle.std.proofs.lemmas.List.Elements.{filter_map-append}
 use Rattle.pie_early.proofs.Laws.{after_last-push_no, after_last-push_yes, represents_arrival, represents-next}
 use Rattle.pie_aqm.specs.History.{Place, places, after, greatest, last_or}
 use Rattle.std.proofs.lemmas.Bool.Decides.{nat_tests}
-use Rattle.pie_aqm.specs.{RawParams, Departure, Profile, One, Two, ControllerEvent, Opened, moment_of, params_set, ActivityEvent, active_of, change_at, change_by, clears_rate, clears_wait, clears_wait_at, control_at, update_inputs, control_of, wait_at, wait_input, waited_at_end, waited_of, control_input, delay_at_end, departure_input, departure_inputs, departures_of, early_at, arrival_inputs, early_of, early_input, events_of, is_active, is_active_in, is_calm_at_end, now_of, activity_event, activity_events, activity_events_after, params_of, parts_of, turns_on_by, keeps_wait, measures, Enqueue, ArrivingPacket, considered_where, verdict_input, accu_left, offered, verdict, Elements, departure, Estimate, Parts, Arrive, Call, Change, Depart, HasThreshold, Advance, Restart, Update, after_call, event_of_call, RepresentsCall, Arrived, Departed, Updated, Reset, Changed, Represents, estimate_of, state_of, anew, bytes_with, capped, control_updated, delay_in, departed, is_calm, judged, no_estimate, opened, opens_active, advanced, renewed, stays_active, turns_on, updated, wait_of}
+use Rattle.pie_aqm.specs.{RawParams, Departure, Profile, One, Two, ControllerEvent, Opened, moment_of, params_set, ActivityEvent, active_of, change_at, change_by, clears_rate, clears_wait, clears_wait_at, control_at, update_inputs, control_of, wait_at, wait_input, waited_at_end, waited_of, control_input, delay_at_end, departure_input, departure_inputs, departures_of, early_at, arrival_inputs, early_of, early_input, events_of, is_active, is_active_in, is_calm_at_end, now_of, activity_event, activity_events, activity_events_after, params_of, parts_of, turns_on_by, keeps_wait, measures, Enqueue, ArrivingPacket, considered_where, verdict_input, accu_left, offered, verdict, Elements, departure, Estimate, ControlState, Arrive, Call, Change, Depart, HasThreshold, Advance, Restart, Update, after_call, event_of_call, RepresentsCall, Arrived, Departed, Updated, Reset, Changed, Represents, estimate_of, state_of, anew, bytes_with, capped, control_updated, delay_in, departed, is_calm, judged, no_estimate, opened, opens_active, advanced, renewed, stays_active, turns_on, updated, wait_of}
 use Rattle.pie_aqm.specs.ControllerState.{ControllerState}
 use Rattle.pie_aqm.proofs.Sounds.{threshold-holds}
 use Rattle.pie_params.specs.Params.{first_bad}
@@ -242,7 +242,7 @@ early-step h a events shown =
 
 -- ---- The parts' abstraction relations, as equations
 
-parts-is : (o : Opened) (events : List ControlEvent) (parts : Parts) → Control.Represents o.params o.moment events parts → parts ≡ parts_of o events
+parts-is : (o : Opened) (events : List ControlEvent) (parts : ControlState) → Control.Represents o.params o.moment events parts → parts ≡ parts_of o events
 parts-is o events parts shown = rw (← shown.prob, ← shown.old_delay, ← shown.burst, ← shown.last) refl
 
 rate-is : (threshold : ℕ) (departures : List Departure) (e : Estimate) → Rate.Represents threshold departures e → e ≡ estimate_of threshold departures

@@ -5,7 +5,7 @@ use Rattle.std.proofs.lemmas.Bool.Decides.{nat_tests}
 use Rattle.pie_params.specs.declared.raw.RawParams.{RawParams}
 use Rattle.pie_params.specs.Params.{IsInRange, first_bad}
 use Rattle.pie_fixed.specs.Fixed.{bounded_of}
-use Rattle.pie_aqm.specs.Types.{Elements, departure, Begun, Estimate, Parts, Profile, One, ArrivingPacket}
+use Rattle.pie_aqm.specs.Types.{Elements, departure, Begun, Estimate, ControlState, Profile, One, ArrivingPacket}
 use Rattle.pie_rate.specs.Average.{averaged}
 use Rattle.pie_rate.specs.Estimate.{after_departure, step_from}
 use Rattle.pie_control.specs.Delay.{delay_of}
@@ -122,7 +122,7 @@ module _ (h : ControllerState) (sound : IsSound h) (moment : ℕ) (within : mome
       λ one. let on = sound.active one in grind (arith, nat_tests) in
       search (rules, sound, advanced-moment, cycle, by h.active, always)
     where
-      by : (active : Bool) → let parts : Parts = if active then control_updated h.elements h.params h.control (delay_in h queued) (now_at h moment)
+      by : (active : Bool) → let parts : ControlState = if active then control_updated h.elements h.params h.control (delay_in h queued) (now_at h moment)
           else record h.control { last = now_at h moment } in
           (parts.prob ≤ 10 ^ 12) × (parts.old_delay ≤ 2 ^ 40) × (parts.burst ≤ 10 ^ 12) × (parts.last ≤ now_at h moment)
       by true =

@@ -2,7 +2,7 @@
 -- with all events before it.
 use Rattle.std.specs.Prelude.{ℕ, max, List, [], ◌∷◌, ◌++◌, map, ◌≡◌, Bool, true, false, ◌&&◌, Option, option_map, Some, None, if◌then◌else◌}
 use Rattle.std.specs.List.{filter_map, after_last}
-use Rattle.pie_aqm.specs.Types.{RawParams, Elements, Departure, departure, Parts, Enqueue, Mark, Drop, Profile, One, Two, Verdict, Picking}
+use Rattle.pie_aqm.specs.Types.{RawParams, Elements, Departure, departure, ControlState, Enqueue, Mark, Drop, Profile, One, Two, Verdict, Picking}
 use Rattle.pie_aqm.specs.ControllerState.{ControllerState, ControllerEvent, Opened, Arrived, Departed, Updated, Reset, Changed, moment_of, params_set}
 use Rattle.pie_rate.specs.Average.{average}
 use Rattle.pie_rate.specs.Cycles.{begun}
@@ -162,7 +162,7 @@ unfoldable pub control_of : Opened → List ActivityEvent → List ControlEvent
 control_of opened activity_events = filter_map (control_at opened) (places activity_events)
 
 -- the state of the control law after these inputs
-abbrev pub parts_of : Opened → List ControlEvent → Parts
+abbrev pub parts_of : Opened → List ControlEvent → ControlState
 parts_of opened events = record {
   prob = probability events;
   old_delay = last_delay events;
@@ -182,11 +182,11 @@ verdict_input DroppedBytes considered prob picking = cleared
 verdict_input DroppedPackets considered prob picking = cleared
 
 -- true if an arrival that is not a tail drop is considered: never while the controller is inactive
-abbrev pub considered_where : Bool → RawParams → Parts → ℕ → Bool
+abbrev pub considered_where : Bool → RawParams → ControlState → ℕ → Bool
 considered_where active params parts queued = active && is_considered params parts queued
 
 -- an arrival or a reset as an input of early drop; activation is a clear
-abbrev pub early_input : ControllerEvent → Bool → Bool → Elements → RawParams → Parts → Option EarlyEvent
+abbrev pub early_input : ControllerEvent → Bool → Bool → Elements → RawParams → ControlState → Option EarlyEvent
 early_input (Arrived verdict size before after moment) active turned_on elements params parts =
     Some (if turned_on then cleared
     else verdict_input verdict (considered_where active params parts before) (effective_prob elements.size params size parts.prob) elements.picking)

@@ -1,7 +1,7 @@
 -- The rules: the state of a controller after each call, from the state before it (RFC 8033, sections 4.1, 4.2, 4.4, 5.1
 -- to 5.5, and Appendix A for tail drop; the conditions for switching in profile two are this project's own).
 use Rattle.std.specs.Prelude.{ℕ, ◌+◌, ◌-◌, ◌*◌, ◌^◌, ◌==◌, max, ◌&&◌, not, nat_lt, nat_le, Bool, true, false, Option, Some, None, is_none, min, option_map, if◌then◌else◌}
-use Rattle.pie_aqm.specs.Types.{RawParams, Elements, Delay, Rate, Stamp, departure, Estimate, Parts, Offered, Choice, Enqueue, Profile, One, Two, ArrivingPacket, Verdict}
+use Rattle.pie_aqm.specs.Types.{RawParams, Elements, Delay, Rate, Stamp, departure, Estimate, ControlState, Offered, Choice, Enqueue, Profile, One, Two, ArrivingPacket, Verdict}
 use Rattle.pie_aqm.specs.ControllerState.{ControllerState}
 use Rattle.pie_rate.specs.Estimate.{Begun, after_departure}
 use Rattle.pie_control.specs.Delay.{delay_of}
@@ -45,7 +45,7 @@ opened profile elements params moment = record {
 }
 
 -- the control law after a reset, which keeps the moment of the last update
-abbrev pub renewed : RawParams → Parts → Parts
+abbrev pub renewed : RawParams → ControlState → ControlState
 renewed params control = record control { prob = 0; old_delay = 0; burst = params.max_burst }
 
 -- the state after a reset of the control law, the estimate, the last packet's time in the queue and the accumulated
@@ -182,7 +182,7 @@ advanced h moment = record h { moment = now_at h moment }
 -- ---- Updates
 
 -- the due moment, from which on an update is not too soon
-abbrev pub due_of : RawParams → Parts → ℕ
+abbrev pub due_of : RawParams → ControlState → ℕ
 due_of params control = control.last + params.t_update
 
 -- the moment from which the next update is not too soon
@@ -211,7 +211,7 @@ abbrev pub delay_answered : ControllerState → ℕ → ℕ
 delay_answered h queued = if h.active then delay_in h queued else 0
 
 -- the state of the control law after an update with this delay at this moment
-abbrev pub control_updated : Elements → RawParams → Parts → ℕ → ℕ → Parts
+abbrev pub control_updated : Elements → RawParams → ControlState → ℕ → ℕ → ControlState
 control_updated elements params before delay now = record {
   prob = next elements params before.prob delay before.old_delay;
   old_delay = delay;
@@ -220,7 +220,7 @@ control_updated elements params before delay now = record {
 }
 
 -- the state of the control law after an update; for an inactive controller only the moment changes
-abbrev pub control_after : ControllerState → ℕ → ℕ → Parts
+abbrev pub control_after : ControllerState → ℕ → ℕ → ControlState
 control_after h queued now =
     if h.active then control_updated h.elements h.params h.control (delay_in h queued) now else record h.control { last = now }
 

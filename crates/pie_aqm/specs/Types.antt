@@ -11,7 +11,7 @@ pub use Rattle.pie_params.specs.declared.elements.Size.TheVariants.{Unscaled, Sc
 pub use Rattle.pie_rate.specs.Departures.{Departure, departure}
 pub use Rattle.pie_rate.specs.Estimate.{Begun, Estimate}
 pub use Rattle.pie_control.specs.Events.{ControlEvent}
-pub use Rattle.pie_control.specs.Parts.{Parts}
+pub use Rattle.pie_control.specs.ControlState.{ControlState}
 pub use Rattle.pie_early.specs.Events.{EarlyEvent}
 pub use Rattle.pie_early.specs.declared.decision.Offered.{Offered}
 pub use Rattle.pie_early.specs.declared.early.Choice.{Choice}

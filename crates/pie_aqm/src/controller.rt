@@ -76,7 +76,7 @@ impl Controller {
         ensures after { self.new ≡ arrived self.old arrival moment }
         ensures represents { RepresentsCall self.old (Arrive arrival moment) self.new }
     {
-        self.raw.arrive_either_way(arrival, moment.units())
+        self.raw.arrive(arrival, moment.units())
     }
 
     /// Returns the cause that would decide on an arriving packet now: the first case of the rules that holds, with the

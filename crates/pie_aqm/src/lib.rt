@@ -11,13 +11,12 @@
 #![tactic(auto)]
 
 mod controller;
-mod law;
+pub mod law;
 mod raw;
 mod soundness;
 mod verdict;
 
 pub use controller::Controller;
-pub use law::{calls_keep_it_sound, calls_look_back};
 pub use pie_event::{Cause, CauseName, Fate, Profile};
 pub use raw::RawController;
 pub use soundness::Register;

@@ -80,7 +80,7 @@ impl RawController {
     /// Decides on an arriving packet and returns the verdict alone. Accumulation without scaled sizes has a path of its
     /// own, compiled without a test of the choices. All other choices are a call.
     #[inline(always)]
-    pub(crate) fn arrive_either_way(&mut self, arrival: ArrivingPacket, moment: u64) -> Verdict
+    pub(crate) fn arrive(&mut self, arrival: ArrivingPacket, moment: u64) -> Verdict
         requires { arrival.queued ≤ 2 ^ 30 }
         ensures verdict { result ≡ verdict self.old arrival }
         ensures fits { is_queued result ≡ true → (arrival.is_full ≡ false) × (arrival.queued + arrival.size ≤ self.old.params.limit_bytes) }

@@ -13,7 +13,7 @@
 #![tactic(auto)]
 
 mod auditor;
-mod law;
+pub mod law;
 mod opened_text;
 mod replay;
 mod replayed_text;
@@ -21,12 +21,8 @@ mod text_audit;
 mod text_lines;
 
 pub use auditor::{Auditor, Finding};
-pub use law::{
-    clean_is_legal, clean_texts_are_legal, events_are_lines, findings_look_back,
-    histories_are_found, recorded_calls_are_clean, written_excerpts_are_read,
-};
-pub use opened_text::{OpenedText, begin, beginnings_determine};
+pub use opened_text::{OpenedText, open_text};
 pub use replay::{LineKind, Replay, kind_of};
-pub use replayed_text::{ReplayedText, begin_replay};
+pub use replayed_text::{ReplayedText, replay_text};
 pub use text_audit::{audit, audit_lines, write_finding};
 pub use text_lines::TextLines;

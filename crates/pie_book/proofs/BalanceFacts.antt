@@ -209,7 +209,7 @@ queued_resumed now waiting packet since old size within newest =
     }
 
 -- ---- The cores of a book agree with the kept events, without a history: one more event, a new copy, and events that leave
--- the tail.
+-- the event log.
 
 -- ---- The core after more events
 
@@ -252,7 +252,7 @@ take-more (x ∷ xs) (suc m) n =
     let more : suc m + n ≡ suc (m + n) = omega arith in
     ap (λ (k : ℕ). take k (x ∷ xs)) more ∙ ap (λ (l : List _). x ∷ l) (take-more xs m n)
 
--- events leave the tail
+-- events leave the event log
 pub along-folded : (base : CoreView) (kept : List Event) (before_tail n : ℕ)
     → core_along base (take (before_tail + n) kept) ≡ core_along (core_along base (take before_tail kept)) (take n (drop before_tail kept))
 along-folded base kept before_tail n = grind (arith, nat_tests, take-more, along-append)
@@ -299,7 +299,7 @@ module _ (opening : Opening) (base recent running : CoreView) (recent_len : ℕ)
         to_running = parted;
       }
 
-  -- the core before the tail is the copy `recent` after the events between them, if `recent` is not beyond it
+  -- the core before the event log is the copy `recent` after the events between them, if `recent` is not beyond it
   pub along-recent : (before_tail : ℕ) → recent_len ≤ before_tail → core_along recent (take (before_tail - recent_len) (drop recent_len kept)) ≡ core_along base (take before_tail kept)
   along-recent before_tail within =
       let whole : recent_len + (before_tail - recent_len) ≡ before_tail = omega (arith, within) in
@@ -310,7 +310,7 @@ module _ (opening : Opening) (base recent running : CoreView) (recent_len : ℕ)
   pub consistent-opened : MayOpen opening running
   consistent-opened = let opened = opens-along opening base kept consistent.opened in rw consistent.to_running at opened
 
-  -- the running core is the core before the tail after the events of the tail
+  -- the running core is the core before the event log after the events of the event log
   pub tail-leads : (before_tail : ℕ) → core_along (core_along base (take before_tail kept)) (drop before_tail kept) ≡ running
   tail-leads before_tail =
       sym (along-append base (take before_tail kept) (drop before_tail kept))
@@ -332,7 +332,7 @@ pub oldest-next : (base : CoreView) (oldest : Event) (rest kept : List Event) �
 unfolding Follows
 oldest-next base oldest rest kept is follows = let all : Follows base (oldest ∷ rest) = subst (λ (l : List Event). Follows base l) is follows in all.0
 
--- the core before the tail is then unchanged
+-- the core before the event log is then unchanged
 pub along-decided : (base : CoreView) (oldest : Event) (rest kept : List Event) (before_tail : ℕ) → kept ≡ oldest ∷ rest → 1 ≤ before_tail
     → core_along (core_after base oldest.command) (take (before_tail - 1) rest) ≡ core_along base (take before_tail kept)
 unfolding core_along
@@ -343,7 +343,7 @@ pub stepped : (old new : CoreView) (event : Event) (command : Command) (result :
     → result ≡ step_in old command → OnOk result (new ≡ core_after old command) → new ≡ core_after old event.command
 stepped old new event command result same next answers after = grind (arith, nat_tests)
 
--- a tail with room keeps its events
+-- an event log with room keeps its events
 pub has-room : (mode : Mode) (most : ℕ) (tail : List Event) → length tail < most → (tail ≡ kept_of mode most tail) × (left_by_one mode most tail ≡ [])
 has-room mode most tail fewer = grind (arith, nat_tests)
 

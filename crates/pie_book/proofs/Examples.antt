@@ -113,7 +113,7 @@ by_steps : let core : CoreView = steps (first_core opening) commands in
 unfolding worked
 by_steps = (refl, refl, refl, refl)
 
--- ---- Refusals and tails
+-- ---- Refusals and event logs
 
 abbrev three : List Event
 three = event_of 1 (Arrive 10 (packet 7 1500) 0) Enqueued ∷ event_of 2 (Depart 25) (Left (packet 7 1500)) ∷ event_of 2 (Depart 30) Empty ∷ []
@@ -121,7 +121,7 @@ three = event_of 1 (Arrive 10 (packet 7 1500) 0) Enqueued ∷ event_of 2 (Depart
 abbrev sized : ℕ → Command
 sized size = Arrive 0 (packet 1 size) 0
 
--- the order of refusals, after three events in a book with a limit of three events and a tail of three
+-- the order of refusals, after three events in a book with a limit of three events and an event log of three
 order : (map (refusal_after (opened Bounded 3 3) three 3) (Arrive (2 ^ 60) (packet 1 0) 0 ∷ sized 0 ∷ sized 65536 ∷ Update 31 ∷ sized 1 ∷ [])
     ≡ Some Moment ∷ Some Size ∷ Some Size ∷ Some (TooSoon 15000000) ∷ Some Exhausted ∷ [])
     × (map (λ mode. refusal_after (opened mode 3 4) three 3 (sized 1)) (Bounded ∷ Rolling ∷ []) ≡ Some HistoryFull ∷ None ∷ [])
@@ -133,8 +133,8 @@ order = (refl, refl, refl)
 abbrev moments : List Event → List ℕ
 moments events = map (λ event. caller_moment event.command) events
 
--- the last events and the others; the oldest event leaves a full tail of a rolling book; the first events up to one
--- that sets parameters
+-- the last events and the others; the oldest event leaves a full event log of a rolling book; the first events up to
+-- one that sets parameters
 tails : (map (λ n. moments (last_events n three)) (0 ∷ 2 ∷ 3 ∷ []) ≡ [] ∷ (25 ∷ 30 ∷ []) ∷ (10 ∷ 25 ∷ 30 ∷ []) ∷ [])
     × (map (λ n. moments (without_last n three)) (0 ∷ 2 ∷ 3 ∷ []) ≡ (10 ∷ 25 ∷ 30 ∷ []) ∷ (10 ∷ []) ∷ [] ∷ [])
     × (map (λ most. moments (tail_with (opened Rolling most 4) (take 2 three) (event_of 2 (Depart 30) Empty))) (2 ∷ 3 ∷ [])
@@ -143,7 +143,7 @@ tails : (map (λ n. moments (last_events n three)) (0 ∷ 2 ∷ 3 ∷ []) ≡ []
 unfolding worked
 tails = (refl, refl, refl, refl)
 
--- the event of an entry of the tail is the recorded one, for any event; an answer that the command cannot have is
+-- the event of an entry of the event log is the recorded one, for any event; an answer that the command cannot have is
 -- stored as no effect
 entries : let recorded = λ (events : List Event). map (λ e. event_of_recorded (recorded_event_in e)) events in
     (recorded (history 14) ≡ history 14) × (recorded three ≡ three) × (recorded (event_of 3 (Depart 4) Marked ∷ []) ≡ event_of 3 (Depart 4) Empty ∷ [])
@@ -246,7 +246,8 @@ unreached_steps : (map (step_in unreached) (Depart (2 ^ 60) ∷ sized 0 ∷ size
 unfolding worked
 unreached_steps = (refl, refl, refl, refl, refl, refl, refl)
 
--- room for twice the 32 events of the tail, or twice the 4 packets; room for one packet or one event less is too little
+-- room for twice the 32 events of the event log, or twice the 4 packets; room for one packet or one event less is too
+-- little
 rooms : (excerpt : ExcerptView) → let has = λ (packets events : ℕ).
     has_room (record excerpt { packets_room = packets; events_room = events }) opening.limits in
     (map most_kept (opening.limits ∷ record opening.limits { tail = 3 } ∷ []) ≡ 64 ∷ 8 ∷ [])

@@ -9,7 +9,7 @@ use Rattle.pie_book.specs.Decision.{decision, refusal_by_rule, or_full, is_refus
 abbrev Given : Type 0
 Given = Result Answer Refusal
 
--- the result of a command if no tail is ever full
+-- the result of a command if no event log is ever full
 abbrev ruled : Opening → List Event → Command → Given
 ruled opening history command = refused_or (refusal_by_rule opening history command) (decision opening history command)
 
@@ -18,7 +18,7 @@ abbrev extended : List Event → ℕ → Command → Given → List Event
 extended history caller command (Ok answer) = history ++ event_of caller command answer ∷ []
 extended history caller command (Err why) = history
 
--- the results of a list of commands if no tail is ever full
+-- the results of a list of commands if no event log is ever full
 all_ruled : Opening → List Event → List CallerCommand → List Given
 all_ruled opening history [] = []
 all_ruled opening history (request ∷ requests) =
@@ -56,7 +56,7 @@ module _ (opening : Opening) (R : List Given → List Given → Type 0) (none : 
       (refusal_by_rule opening history command)
       (is_refused_full opening.choices.mode (tail_length == opening.limits.tail)) (decision opening history command) refl
 
--- a rolling book answers as the rules do, because its tail refuses nothing
+-- a rolling book answers as the rules do, because its event log refuses nothing
 rolling-ruled : (opening : Opening) (steps : List Step) → opening.choices.mode ≡ Rolling
     → answers_from opening (at [] 0) steps ≡ all_ruled opening [] (without_folds steps)
 rolling-ruled opening steps is =
@@ -82,7 +82,7 @@ until_full-ruled opening steps = all-applied opening SameUntilFull refl same-con
         by true = refl
         by false = rw one-add (ap (◌∷◌ first) same)
 
--- two lists of steps with the same commands have the same answers up to the first full tail
+-- two lists of steps with the same commands have the same answers up to the first full event log
 pub same_until_full : (opening : Opening) (some other : List Step) → without_folds some ≡ without_folds other
     → AreSameUntilFull (answers opening some) (answers opening other)
 same_until_full opening some other same =

@@ -1,6 +1,6 @@
 pub mod Types
 pub mod History
-pub mod Estimates
+pub mod StateAfter
 pub mod Statistics
 pub mod Decision
 pub mod Core
@@ -8,7 +8,7 @@ pub mod Book
 pub mod Snapshot
 unfoldable pub use Types.*
 unfoldable pub use History.*
-unfoldable pub use Estimates.*
+unfoldable pub use StateAfter.*
 unfoldable pub use Statistics.*
 unfoldable pub use Decision.*
 unfoldable pub use Core.*

@@ -4,7 +4,7 @@ use Rattle.std.specs.Option.{option_map_or}
 use Rattle.pie_book.specs.Types.{Packet, Waiting, Event, Opening, Stats, Place, places, up_to, greatest, Effect, effect_of, departure, is_arrival, is_update, queued, marked, dropped_early, dropped_bytes, dropped_packets, found_none, was_reset, ControllerState, Registers, bytes_of}
 use Rattle.pie_event.specs.Event.{sets_params}
 use Rattle.pie_book.specs.History.{effective_moment, waiting_after, bytes_after}
-use Rattle.pie_book.specs.Estimates.{delay_answered, state_after}
+use Rattle.pie_book.specs.StateAfter.{delay_answered, state_after}
 
 abbrev pub is_queued : Effect → Bool
 is_queued (queued packet) = true

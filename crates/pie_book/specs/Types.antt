@@ -27,5 +27,5 @@ pub use Rattle.pie_event.specs.declared.opening.Limits.{Limits}
 pub use Rattle.pie_event.specs.declared.refusal.OpenRefusal.{OpenRefusal}
 pub use Rattle.pie_aqm.specs.Calls.{Call, HasThreshold, after_call}
 pub use Rattle.pie_aqm.specs.History.{Place, up_to}
-pub use Rattle.pie_control.specs.Parts.{Parts}
+pub use Rattle.pie_control.specs.ControlState.{ControlState}
 unfoldable pub use Rattle.pie_aqm.specs.History.{greatest, places}

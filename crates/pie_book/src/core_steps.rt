@@ -37,7 +37,7 @@ impl Core {
         }
     }
 
-    /// Returns the moment of the command, or the refusal of the command without regard to the tail.
+    /// Returns the moment of the command, or the refusal of the command without regard to the event log.
     pub(crate) fn check(&self, command: &Command) -> Result<Nanos, Refusal>
         ensures refused { IfErr result (λ why. refusal_of self.now command.now ≡ Some why) }
         ensures taken { IfOk result (λ _. refusal_of self.now command.now ≡ None) }

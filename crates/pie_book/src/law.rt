@@ -3,6 +3,10 @@ ghost use Rattle.std.specs.Prelude.{◌≡◌, List, true, ◌++◌, ◌∷◌, 
 ghost use Rattle.pie_book.specs.{One, Event, Rolling, Opening, CoreView, Represents, registers_of, registers_after, active_after, answers, without_folds, AreSameUntilFull, RawParams, Command, IsLegal, decision, refusal_by_rule, event_of, stats_after, Update, first_core, core_after, state_after_calls, opened_by, call_of, refusal_of, answer_by, is_too_soon, waiting_after, first_bad, answer_in, apply_in, cause_after, cause_in, core_along, outcome, Follows, fits, opening_refusal, AnswerFits, CommandFits, ParamsFit, RegistersFit, StatsFit, after_call};
 ghost use Rattle.pie_book.specs.Book.{Step};
 ghost use Rattle.pie_aqm.specs.Steps.{due, due_of, now_at};
+ghost use Rattle.std.specs.Prelude.{◌↔◌};
+ghost use Rattle.pie_book.specs.{core_of, SnapshotRepresents};
+ghost use Rattle.pie_book.specs.declared.snapshot.CoreSnapshot.{CoreSnapshot};
+ghost use Rattle.pie_book.specs.{AreQueued, Limits, MayOpen, Waiting, begun_with, end_refusal, queue_refusal, snapshot_of};
 
 /// States that folds change no answer except `HistoryFull`. If two runs from one opening have the same commands in the
 /// same order and differ only in their folds, all commands have the same answers in both: in a rolling book always, in
@@ -39,8 +43,8 @@ pub fn registers_look_back()
 
 /// States that the result of a step on a core agrees with the look-back over every history that the core represents
 /// (this project's own). This holds for the refusal, the answer and the cause of each command, and for the result in a
-/// book with this tail. It holds for the core after one command and after a list of events. The clauses of `Core::step`
-/// and `Book::apply` state both. For a core without a history only the result of the step is stated.
+/// book with this event log. It holds for the core after one command and after a list of events. The clauses of
+/// `Core::step` and `Book::apply` state both. For a core without a history only the result of the step is stated.
 ///
 /// The body is empty: the contract is the law.
 #[tactic(auto, using(crate::proofs::CoreFacts::refusal_is, crate::proofs::CoreFacts::next_decided, crate::proofs::CoreFacts::cause_found, crate::proofs::CoreFacts::outcome_is))]
@@ -125,4 +129,37 @@ pub fn runs_decide_as_a_core()
         → refusal_by_rule opening history command ≡ None
         → answer_by (state_after_calls opening history) (waiting_after opening history) opening.limits.packets command
         ≡ decision opening history command }
+{}
+
+/// States that events which follow from a snapshot are legal after every history that the snapshot and the packets
+/// represent, and no other events are (this project's own). So an audit of an excerpt is clean exactly if, after any
+/// such history, the events of the excerpt are legal. A reader cannot check that any history leads to these numbers.
+///
+/// The body is empty: the contract is the law.
+#[tactic(auto, using(crate::proofs::CoreFacts::follows_legal))]
+pub fn excerpts_are_legal_after_any_history()
+    ensures { (opening : Opening) (snapshot : CoreSnapshot) (history : List Event) (excerpt : List Event) → SnapshotRepresents opening snapshot history
+        → first_bad snapshot.controller.params ≡ None → All (λ event. CommandFits event.command) excerpt
+        → Follows (core_of opening.limits snapshot (waiting_after opening history)) excerpt ↔ IsLegal opening (history ++ excerpt) }
+{}
+
+/// States that a core's numbers and packets can be resumed (this project's own). A core that resumes from the snapshot of
+/// a core accepts all of its waiting packets, supplied one by one (`taken`), and none is missing at the end (`ended`). Each
+/// core has the premise of `taken`, whether a history leads to its numbers or not (`queued` of [`Core::snapshot`]), and
+/// its numbers are accepted (`believed` there). So a snapshot of a core or a checkpoint is refused only for lack of memory.
+///
+/// The packets that wait after a history have the premise too (`queued`). No book refuses to continue from a core that
+/// represents a history at the history's opening (`opened`), nor from a core after more commands (`along`).
+///
+/// The body is empty: the contract is the law.
+pub fn packets_of_a_core_are_taken()
+    ensures taken { (limits : Limits) (core : CoreView) (before : List Waiting) (next : Waiting) (after : List Waiting)
+        → AreQueued core.controller.moment core.waiting → core.waiting ≡ before ++ next ∷ after
+        → queue_refusal (begun_with (core_of limits (snapshot_of core) before) (snapshot_of core)) next.packet next.since ≡ None }
+    ensures ended { (limits : Limits) (core : CoreView)
+        → end_refusal (begun_with (core_of limits (snapshot_of core) core.waiting) (snapshot_of core)) ≡ None }
+    ensures queued { (opening : Opening) (core : CoreView) (history : List Event) → first_bad opening.params ≡ None
+        → All (λ event. CommandFits event.command) history → Represents opening core history → AreQueued core.controller.moment core.waiting }
+    ensures opened { (opening : Opening) (core : CoreView) (history : List Event) → Represents opening core history → MayOpen opening core }
+    ensures along { (opening : Opening) (core : CoreView) (events : List Event) → MayOpen opening core → MayOpen opening (core_along core events) }
 {}

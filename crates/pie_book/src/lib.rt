@@ -7,12 +7,12 @@
 //! - `Core::step` and `Book::apply`, for every history that the core or the book represents: the answer is the decision
 //!   after that history, or exactly its refusal (clause `decides`). Afterwards core or book represent the history with
 //!   this event (`represents`, `recorded`). A refusal changes nothing (`refused`). Both allocate nothing.
-//! - `Book::fold` refuses exactly if the tail holds fewer events or there is no memory. It returns the oldest events,
-//!   and the book represents the same history (`too_many`, `refused`, `folded`, `represents`). `Book::fold_into` moves
-//!   events into a vector that has room (`returned`), and never refuses.
+//! - `Book::fold` refuses exactly if the event log holds fewer events or there is no memory. It returns the oldest
+//!   events, and the book represents the same history (`too_many`, `refused`, `folded`, `represents`).
+//!   `Book::fold_into` moves events into a vector that has room (`returned`), and never refuses.
 //! - `open` and `open_with` refuse only for the listed reasons, in that order, or for lack of memory.
 //! - The readers return the definitions' values: `registers`, `stats`, `count` and `waiting` of the whole history,
-//!   `checkpoint` and `checkpoint_stats` of the history without the tail.
+//!   `checkpoint` and `checkpoint_stats` of the history without the event log.
 //! - `Core::snapshot` and `Book::checkpoint_snapshot` return a snapshot of a core. `Core::resume` begins a core from a
 //!   snapshot and then takes the waiting packets one by one. `Book::resume` opens a book that continues from a core.
 //!   The core has the numbers of the snapshot (`core_of`), so it represents each history that the snapshot represents.
@@ -28,7 +28,7 @@ mod book_folds;
 mod core_state;
 mod core_steps;
 mod excerpt;
-mod law;
+pub mod law;
 mod recorded;
 mod snapshot;
 mod tally;
@@ -36,16 +36,10 @@ mod tally;
 pub use book::{Book, ContinueRefusal};
 pub use core_state::Core;
 pub use excerpt::Excerpt;
-pub use law::{
-    all_numbers_fit, folds_change_no_answer, parts_decide_as_a_core, profile_one_is_always_active,
-    registers_look_back, runs_decide_as_a_core, steps_look_back,
-};
 pub use pie_aqm::{Cause, Fate};
 pub use pie_event::{
     Answer, Choices, Command, Elements, EndRefusal, Event, FoldRefusal, Limits, Mode, OpenRefusal,
     Opening, Profile, QueueRefusal, Refusal, Registers, ResumeRefusal, Stats, TooSmall,
 };
 pub use recorded::Recorded;
-pub use snapshot::{
-    CoreSnapshot, Resuming, excerpts_are_legal_after_any_history, packets_of_a_core_are_taken,
-};
+pub use snapshot::{CoreSnapshot, Resuming};

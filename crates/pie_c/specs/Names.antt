@@ -12,7 +12,7 @@ unfoldable pub use Rattle.pie_aqm.specs.History.{Represents}
 pub use Rattle.pie_aqm.specs.Steps.{arrived, capped, delay_answered, departed, due, is_too_soon, opened, updated}
 unfoldable pub use Rattle.pie_aqm.specs.Steps.{cause, verdict}
 pub use Rattle.pie_book.specs.Decision.{cause_after}
-unfoldable pub use Rattle.pie_book.specs.Estimates.{state_after}
+unfoldable pub use Rattle.pie_book.specs.StateAfter.{state_after}
 pub use Rattle.pie_book.specs.Statistics.{wait_of}
 pub use Rattle.pie_c.specs.declared.state.PieState.{PieState}
 pub use Rattle.pie_c.specs.declared.state.PieUpdated.{PieUpdated}

@@ -15,22 +15,12 @@ use pie_abi::code::{
 };
 use pie_abi::packet::{ecn, is_bad_size};
 use pie_abi::params::are_in_range;
-use pie_aqm::{ArrivingPacket, CauseName, calls_keep_it_sound, calls_look_back};
+use pie_aqm::{ArrivingPacket, CauseName};
 use pie_fixed::MAX_NANOS;
 use pie_params::{Elements, RawParams};
 
 /// The greatest number of bytes in a queue, which is the greatest byte limit.
 const MAX_QUEUED: u64 = 1 << 30;
-
-/// States that a sound state stays sound and represents each call. The body is empty.
-#[inline(always)]
-fn laws()
-    ensures keeps { KeepsSound }
-    ensures looks { LooksBack }
-{
-    calls_keep_it_sound();
-    calls_look_back();
-}
 
 /// Decides on an arriving packet (RFC 8033, sections 4.1, 5.1 and 5.4; RFC 3168, section 5). The caller then queues the
 /// packet, marks and queues it, or drops it. `queued` is the number of bytes in the queue without the packet, and `room`
@@ -105,7 +95,7 @@ pub(crate) fn arrive(
     let mut controller = raw_with(state, elements);
     let (verdict, name) = controller.arrive_with_name(arrival, state.moment);
     state.keep_arrived(&controller);
-    laws();
+    crate::law::calls_are_lawful();
     (of_verdict(verdict), Some(name))
 }
 
@@ -137,7 +127,7 @@ pub extern "C" fn pie_depart(state: &mut PieState, size: u32, left: u64, moment:
     ensures steps { Steps state.old (Depart size left 0 moment) (departure_refusal state.old size left moment)
         (with_rate state.old (departed (capped (controller_state state.old)) size left 0 moment)) state.new }
 {
-    laws();
+    crate::law::calls_are_lawful();
     if depart_counted(state, size, left, moment) {
         return DONE;
     }
@@ -228,7 +218,7 @@ pub extern "C" fn pie_depart_waited(
     ensures answer { result ≡ waited_refusal state.old size left arrived moment }
     ensures steps { Departs state.old size left arrived moment state.new }
 {
-    laws();
+    crate::law::calls_are_lawful();
     if takes_stamps(state) {
         depart_stamped(state, size, left, arrived, moment)
     } else {
@@ -275,7 +265,7 @@ pub extern "C" fn pie_empty(state: &mut PieState, moment: u64) -> u32
         return BAD_MOMENT;
     }
     state.moment = state.moment.max(moment);
-    laws();
+    crate::law::calls_are_lawful();
     DONE
 }
 
@@ -301,7 +291,7 @@ pub extern "C" fn pie_update(state: &mut PieState, queued: u64, moment: u64) -> 
     if queued > MAX_QUEUED {
         return PieUpdated::refused(BAD_QUEUE);
     }
-    laws();
+    crate::law::calls_are_lawful();
     let mut controller = raw(state);
     if controller.is_too_soon(moment) {
         return PieUpdated::made(TOO_SOON, controller.control.old_delay, &controller);
@@ -338,7 +328,7 @@ pub extern "C" fn pie_reset(state: &mut PieState, moment: u64) -> u32
     let mut controller = raw(state);
     controller.reset(moment);
     state.keep_registers(&controller);
-    laws();
+    crate::law::calls_are_lawful();
     DONE
 }
 
@@ -365,7 +355,7 @@ pub extern "C" fn pie_set_params(state: &mut PieState, params: &RawParams, momen
     controller.set_params(*params, moment);
     state.params = *params;
     state.keep_departed(&controller);
-    laws();
+    crate::law::calls_are_lawful();
     DONE
 }
 

@@ -1,7 +1,7 @@
 //! Laws: the text that a sequence of writing calls produces is one that the laws of the readers apply to.
 ghost use Rattle.std.specs.Prelude.{◌≡◌, ◌++◌, ◌∷◌, [], ℕ, All, List, Option, Some, map, true};
 ghost use Rattle.pie_c.specs.Names.{Opening};
-ghost use Rattle.pie_c.specs.{flat_map, Event, cause_after, state_after, wait_of, effect_of, Setter, explanation, moment_of, with_after, Clock, rows_text, event_row, written_rows, resumed_rows, PieOpening, PieStats, PieState, WrittenEvent, opening_text, event_of_written, written_text, opening_in, opening_of, opening_refusal, CanWait, is_snapshot, resume_of, resume_text, set_by_of, Waiting, snapshot_in, waiting_text, controller_state, is_sound, ExplainsCall};
+ghost use Rattle.pie_c.specs.{flat_map, Event, cause_after, state_after, wait_of, effect_of, Setter, explanation, moment_of, with_after, Clock, rows_text, event_row, written_rows, resumed_rows, PieOpening, PieStats, PieState, WrittenEvent, KeepsSound, LooksBack, opening_text, event_of_written, written_text, opening_in, opening_of, opening_refusal, CanWait, is_snapshot, resume_of, resume_text, set_by_of, Waiting, snapshot_in, waiting_text, controller_state, is_sound, ExplainsCall};
 ghost use Rattle.pie_book.specs.History.{waiting_after};
 
 /// States that the writing calls produce the records of a history (this project's own).
@@ -37,3 +37,15 @@ pub fn summed_calls_are_explained()
         (wait_of (effect_of made) after.moment (waiting_after opening history))
         (with_after opening (history ++ made ∷ []) (explanation opening history number made set_by day)) }
 {}
+
+/// States that a sound state stays sound and represents each call.
+///
+/// The body has no effect: the contract is the law.
+#[inline(always)]
+pub(crate) fn calls_are_lawful()
+    ensures keeps { KeepsSound }
+    ensures looks { LooksBack }
+{
+    pie_aqm::law::calls_keep_it_sound();
+    pie_aqm::law::calls_look_back();
+}

@@ -1,6 +1,6 @@
 -- Facts about the end of a subcommand and its output, and about the files meanwhile.
 use Rattle.std.proofs.lemmas.Bool.Decides.{nat_tests}
-use Rattle.pie_commands.proofs.Names.{◌≡◌, ◌≤◌, ℕ, List, Option, Some, arith, IfSome, EndsBy, EndsRead, End, status_of, inr, inl, refl, Ok, Err, TraceFault, Row, records_of, HasLast, Fault, CutsLast, end_of_cut, last_of, None, subst, sym, Elements, EndsStorm, elements_in, numbers_in, storm_ends, Done, Failed, IsWriteOrMemory, Bool, true, false, IsSome, Text, file_of, Held, IsEmpty, Keeps, Places, Settles, NoOutputFile, ◌&&◌, if◌then◌else◌, not, after_output, EndsAt, EndsIn, is_whole}
+use Rattle.pie_commands.proofs.Names.{◌≡◌, ◌≤◌, ℕ, List, Option, Some, arith, IfSome, EndsBy, EndsRead, End, status_of, inr, inl, refl, Ok, Err, TraceFault, Row, records_of, HasLast, Fault, CutsLast, end_of_cut, last_of, None, subst, sym, Elements, EndsStorm, elements_in, numbers_in, storm_ends, Done, Failed, IsWriteOrMemory, Bool, true, false, IsSome, Text, file_of, Held, IsEmpty, Keeps, Places, Settles, NoOutputFile, ◌&&◌, if◌then◌else◌, not, after_output, EndsWithNewFile, EndsWithOutput, is_whole}
 use Rattle.pie_record.specs.Text.{Row as Fields}
 use Rattle.std.proofs.lemmas.Option.{IfSome_then}
 use Rattle.pie_cut.specs.declared.fault.CutFault.TheVariants.{Trace}
@@ -95,13 +95,13 @@ pub ends-settled : (works : Bool) (read : Option Text) (forced : Bool) (name : T
     → (IsSome (old name) → read ≡ Some name → ⊥) → (MayHave forced (old name) → MayHave forced (mid name))
     → Settles there None forced name left mid new → (is_whole end ≡ false → there ≡ false)
     → (is_whole end ≡ true → works ≡ true → MayHave forced (mid name) → there ≡ true)
-    → ends end fresh left → EndsAt works read forced name fresh old new ends (after_output end there)
+    → ends end fresh left → EndsWithNewFile works read forced name fresh old new ends (after_output end there)
 ends-settled works read forced name old mid new ends end there fresh left empty kept another free settles part whole promise =
     go (is_whole end) there refl settles part whole
   where
     go : (all placed : Bool) → all ≡ is_whole end → Settles placed None forced name left mid new → (all ≡ false → placed ≡ false)
         → (all ≡ true → works ≡ true → MayHave forced (mid name) → placed ≡ true)
-        → EndsAt works read forced name fresh old new ends (if all && not placed then NoOutputFile else end)
+        → EndsWithNewFile works read forced name fresh old new ends (if all && not placed then NoOutputFile else end)
     go true true is settles part whole =
         inr (left, empty, promise, rw (sym is) (places-since read forced name left old mid new kept another settles))
     go true false is settles part whole = inl (
@@ -118,16 +118,16 @@ settles-keeps : (read : Option Text) (forced : Bool) (name : Text) (left : Optio
 settles-keeps read forced name left old new end one settles = grind (arith, nat_tests)
 
 pub ends-keep : (works : Bool) (output read : Option Text) (forced : Bool) (fresh : Option (List ℕ)) (old new : Held) (ends : End → Option (List ℕ) → Option (List ℕ) → Type 0) (end : End)
-    (before now : Option (List ℕ)) → status_of end ≡ 1 → EndsIn works output read forced fresh old new ends end before now → Keeps old new
+    (before now : Option (List ℕ)) → status_of end ≡ 1 → EndsWithOutput works output read forced fresh old new ends end before now → Keeps old new
 ends-keep works output read forced fresh old new ends end before now one promise = grind (arith, settles-keeps)
 
 -- output to the caller's writer
 pub ends-output : (works : Bool) (output read : Option Text) (forced : Bool) (fresh : Option (List ℕ)) (held : Held) (ends : End → Option (List ℕ) → Option (List ℕ) → Type 0) (end : End)
-    (before now : Option (List ℕ)) → output ≡ None → ends end before now → EndsIn works output read forced fresh held held ends end before now
+    (before now : Option (List ℕ)) → output ≡ None → ends end before now → EndsWithOutput works output read forced fresh held held ends end before now
 ends-output works output read forced fresh held ends end before now is promise = grind (arith, keeps-same)
 
 -- the end of a subcommand whose output goes to a file
 pub ends-file : (works : Bool) (output read : Option Text) (forced : Bool) (name : Text) (fresh : Option (List ℕ)) (old new : Held)
     (ends : End → Option (List ℕ) → Option (List ℕ) → Type 0) (end : End) (before now : Option (List ℕ)) → output ≡ Some name → now ≡ before
-    → EndsAt works (file_of read) forced name fresh old new ends end → EndsIn works output read forced fresh old new ends end before now
+    → EndsWithNewFile works (file_of read) forced name fresh old new ends end → EndsWithOutput works output read forced fresh old new ends end before now
 ends-file works output read forced name fresh old new ends end before now is same promise = grind (arith, nat_tests)

@@ -1,5 +1,5 @@
 -- Worked examples: the subcommand of a command line, the values of its options, the choice of events, and an audit of files.
-use Rattle.pie_commands.proofs.Names.{◌≡◌, [], ◌∷◌, None, Some, codes, refl, true, Text, clap_on_literals, Asks, file_in, files_in, is_joined, number_or, options_in, output_in, List, Selection, selection_of, Part, Last, Every, Once, around, between, cut_request_of, Ok, Err, false, Joined, is_broken, lines_of}
+use Rattle.pie_commands.proofs.Names.{◌≡◌, [], ◌∷◌, None, Some, codes, refl, true, Text, clap_on_literals, Asks, file_in, files_in, is_joined, number_or, options_in, output_in, List, Selection, selection_of, Excerpt, Last, Every, Once, around, between, cut_request_of, Ok, Err, false, Joined, is_broken, lines_of}
 use Rattle.pie_explain.specs.declared.choice.EventChoice.{EventChoice}
 use Rattle.pie_explain.specs.declared.choice.EventChoice.TheVariants.{Number, Lost, All}
 use Rattle.pie_units.specs.declared.when.When.TheVariants.{Moment, Unix}
@@ -76,8 +76,8 @@ unfolding clap_on_literals selection_of digit_count number_after utc_in utc_with
 from_day-chosen name = refl
 
 cut : (name : Text) → let cuts = λ (words : List Text). cut_request_of (options_in (name ∷ codes "cut" ∷ words)) in
-    (cuts (codes "--event" ∷ codes "10" ∷ codes "--around=3" ∷ []) ≡ Some (Once (Part (around 10 3))))
-    × (cuts (codes "--from" ∷ codes "2s" ∷ []) ≡ Some (Once (Part (between (Some (Moment 2_000_000_000)) None))))
+    (cuts (codes "--event" ∷ codes "10" ∷ codes "--around=3" ∷ []) ≡ Some (Once (Excerpt (around 10 3))))
+    × (cuts (codes "--from" ∷ codes "2s" ∷ []) ≡ Some (Once (Excerpt (between (Some (Moment 2_000_000_000)) None))))
     × (cuts (codes "--from=2" ∷ codes "--to=1" ∷ []) ≡ None)
     × (cuts (codes "--last" ∷ codes "7" ∷ codes "a" ∷ []) ≡ Some (Last 7))
     × (cuts (codes "--every" ∷ codes "1000" ∷ []) ≡ Some (Once (Every 1000)))

@@ -4,8 +4,8 @@ use Rattle.std.proofs.lemmas.Bool.Decides.{nat_tests}
 use Rattle.pie_commands.proofs.Names.{◌≡◌, ◌∙◌, ◌+◌, ◌<◌, ℕ, List, [], ◌∷◌, ◌++◌, add-one, get_or, length, take, Bool, false, Option, None, inl}
 use Rattle.pie_commands.proofs.Names.{inr, refl, ap, subst, ◌||◌, Appends, Appends-nil, Appends-trans, append-nil, map-append, flat_map}
 use Rattle.pie_commands.proofs.Names.{flat_map-append, list_any, Text, Joined, EndView, Fault, ReadsNamed, Result, Ok, Err}
-use Rattle.pie_commands.proofs.Names.{sym, map, End, HaveOutcomes, AuditsFiles, EndsAuditing, EndsFiles, HasReadOutcome}
-use Rattle.pie_commands.specs.Ends.{EndsAudit}
+use Rattle.pie_commands.proofs.Names.{sym, map, End, HaveOutcomes, AuditsFiles, EndsAudit, EndsFileAudits, HasReadOutcome}
+use Rattle.pie_commands.specs.Ends.{EndsInputAudit}
 use Rattle.std.specs.Prelude.{◌==◌}
 use Rattle.pie_commands.proofs.Names.{HasFileOutcome, FileOutcome, is_broken, is_unfound, lines_of, outcome_lines, worst}
 use Rattle.pie_commands.proofs.FileFacts.{IsLeft, left-stays, opens-left, reads-given}
@@ -91,7 +91,7 @@ pub ends-unwritten : (works joined : Bool) (input : Option (List ℕ)) (files : 
     (unfound broken : Bool) (end after : Option EndView) (found : Joined) (before written now : Option (List ℕ)) → place < length names
     → name ≡ get_or names place [] → AuditsFiles works joined input files (take place names) unfound broken end before written
     → HasFileOutcome works joined input files (take place names) name end (Ok found) after
-    → EndsFiles works joined input files names (Fault trace_fault.Write) before now
+    → EndsFileAudits works joined input files names (Fault trace_fault.Write) before now
 ends-unwritten works joined input files names place name unfound broken end after found before written now within is audits has = inl (
   refl,
   record {
@@ -110,15 +110,15 @@ ends-unwritten works joined input files names place name unfound broken end afte
 
 -- the options name no file, so the caller's reader was audited
 pub audits-input : {A : Type 0} (text_of : A → Text) (works joined : Bool) (input : Option (List ℕ)) (files : Text → Option (List ℕ)) (names : List A)
-    (end : End) (before now : Option (List ℕ)) → (length names == 0) ≡ true → EndsAudit input end before now
-    → EndsAuditing works joined input files (map text_of names) end before now
+    (end : End) (before now : Option (List ℕ)) → (length names == 0) ≡ true → EndsInputAudit input end before now
+    → EndsAudit works joined input files (map text_of names) end before now
 audits-input text_of works joined input files [] end before now none promise = promise
 audits-input text_of works joined input files (name ∷ names) end before now none promise =
     let wrong : ⊥ = grind (arith, nat_tests, none) in absurd wrong
 
 -- the options name some files, which were audited
 pub audits-files : {A : Type 0} (text_of : A → Text) (works joined : Bool) (input : Option (List ℕ)) (files : Text → Option (List ℕ)) (names : List A)
-    (end : End) (before now : Option (List ℕ)) → (length names == 0) ≡ false → EndsFiles works joined input files (map text_of names) end before now
-    → EndsAuditing works joined input files (map text_of names) end before now
+    (end : End) (before now : Option (List ℕ)) → (length names == 0) ≡ false → EndsFileAudits works joined input files (map text_of names) end before now
+    → EndsAudit works joined input files (map text_of names) end before now
 audits-files text_of works joined input files [] end before now some promise = let wrong : true ≡ false = some in cc
 audits-files text_of works joined input files (name ∷ names) end before now some promise = promise

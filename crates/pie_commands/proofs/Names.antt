@@ -15,12 +15,12 @@ unfoldable pub use Rattle.pie_commands.specs.Explanations.{selection_of}
 pub use Rattle.pie_commands.specs.CutEnds.{CutsInto, CutsLast, around, between, cut_ends, end_of_cut, is_named, last_of}
 unfoldable pub use Rattle.pie_commands.specs.CutEnds.{cut_request_of}
 pub use Rattle.pie_commands.specs.Ends.{EndsBy, EndsRead, Migrates, end_of, status_of}
-pub use Rattle.pie_commands.specs.FileAudits.{HaveOutcomes, AuditsFiles, EndsAuditing, EndsFiles, LacksFinding, HasReadOutcome, HasFileOutcome, HasTextOutcome, FileOutcome, is_broken, is_unfound, lines_of, outcome_lines, worst}
-pub use Rattle.pie_commands.specs.Files.{Name, ReadsNamed, file_of, text_given, Held, IsEmpty, Keeps, Places, Settles, EndsAt, EndsIn, is_whole, after_output}
+pub use Rattle.pie_commands.specs.FileAudits.{HaveOutcomes, AuditsFiles, EndsAudit, EndsFileAudits, LacksFinding, HasReadOutcome, HasFileOutcome, HasTextOutcome, FileOutcome, is_broken, is_unfound, lines_of, outcome_lines, worst}
+pub use Rattle.pie_commands.specs.Files.{Name, ReadsNamed, file_of, text_given, Held, IsEmpty, Keeps, Places, Settles, EndsWithNewFile, EndsWithOutput, is_whole, after_output}
 pub use Rattle.pie_commands.specs.StormEnds.{EndsStorm, elements_in, numbers_in, storm_ends}
-pub use Rattle.pie_commands.specs.Subcommands.{Answers, BeginsNothing, EndsAs, EndsTo, FindsMatches, may_differ, output_for}
+pub use Rattle.pie_commands.specs.Subcommands.{Answers, BeginsNothing, EndsAs, EndsSubcommand, FindsMatches, may_differ, output_for}
 pub use Rattle.pie_commands.specs.Words.{file_in, files_in, is_forced, is_joined, options_in, pie_app, subcommand_in, rule_for, Wants, Asks, adds, app_for, number_of, number_or, output_in, pie_alone, with_rules, with_subcommands}
-pub use Rattle.pie_commands.specs.declared.cut.Pieces.TheVariants.{Every, Part}
+pub use Rattle.pie_commands.specs.declared.cut.Pieces.TheVariants.{Every, Excerpt}
 pub use Rattle.pie_commands.specs.declared.cut.CutRequest.TheVariants.{Last, Once}
 pub use Rattle.pie_commands.specs.declared.end.End.{End}
 pub use Rattle.pie_commands.specs.declared.end.End.TheVariants.{Done, Failed, Fault, CannotStart, NoOutputFile, Unopened}

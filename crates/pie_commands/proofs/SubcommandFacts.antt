@@ -4,7 +4,7 @@ use Rattle.std.proofs.lemmas.Bool.Decides.{nat_tests}
 use Rattle.pie_commands.proofs.Names.{◌≡◌, ◌∙◌, refl, ℕ, List, [], ◌∷◌, Option, Some, Bool, true, subst, sym, IfErr, IfOk, Result, Ok, Err, option_map, App}
 use Rattle.pie_commands.proofs.Names.{HasMatchesOf, Text, kind_of, subcommand_name_of, subcommand_rows_of, takes, End, CannotStart, Failed, Audit, file_in, get_or, inl, inr, None, take}
 use Rattle.pie_commands.proofs.Names.{files_in, is_forced, is_joined, options_in, pie_app, subcommand_in, Joined, EndView, text_given, Held, Keeps}
-use Rattle.pie_commands.proofs.Names.{AuditsFiles, HaveOutcomes, FileOutcome, HasFileOutcome, EndsAuditing, EndsFiles, LacksFinding, Answers, EndsAs, EndsTo, FindsMatches}
+use Rattle.pie_commands.proofs.Names.{AuditsFiles, HaveOutcomes, FileOutcome, HasFileOutcome, EndsAudit, EndsFileAudits, LacksFinding, Answers, EndsAs, EndsSubcommand, FindsMatches}
 use Rattle.pie_commands.proofs.Names.{may_differ, output_for, Finds, JoinsText, records_of, ◌++◌, false}
 use Rattle.pie_commands.proofs.Names.{IfSome}
 use Rattle.pie_commands.specs.Files.{Opens, opens_after}
@@ -97,13 +97,13 @@ lacks-kept works joined input old new keeps names before lacks = record {
 }
 
 files-kept : (works joined : Bool) (input : Option (List ℕ)) (old new : Held) (names : List Text) (end : End) (before now : Option (List ℕ))
-    → Keeps old new → EndsFiles works joined input new names end before now → EndsFiles works joined input old names end before now
+    → Keeps old new → EndsFileAudits works joined input new names end before now → EndsFileAudits works joined input old names end before now
 files-kept works joined input old new names end before now keeps (inl (is, lacks)) = inl (is, lacks-kept works joined input old new keeps names before lacks)
 files-kept works joined input old new names end before now keeps (inr (unfound, broken, last, is, audits)) =
     inr (unfound, broken, last, is, audits-kept works joined input old new keeps names unfound broken last before now audits)
 
 either-kept : (works joined : Bool) (input : Option (List ℕ)) (old new : Held) (names : List Text) (end : End) (before now : Option (List ℕ))
-    → Keeps old new → EndsAuditing works joined input new names end before now → EndsAuditing works joined input old names end before now
+    → Keeps old new → EndsAudit works joined input new names end before now → EndsAudit works joined input old names end before now
 either-kept works joined input old new [] end before now keeps promise = promise
 either-kept works joined input old new (name ∷ names) end before now keeps promise =
     files-kept works joined input old new (name ∷ names) end before now keeps promise
@@ -168,7 +168,7 @@ differs-as WhatIf options works input files before now promise = grind (arith, n
 differs-as Advise options works input files before now promise = advice-agrees (request_in options) before now promise
 
 differs-to : (subcommand : Subcommand) (options : List Row) (works : Bool) (input fresh : Option (List ℕ)) (old new : Held) (before now : Option (List ℕ))
-    → EndsTo subcommand options works input fresh old new Differs before now → may_differ subcommand ≡ true
+    → EndsSubcommand subcommand options works input fresh old new Differs before now → may_differ subcommand ≡ true
 differs-to subcommand options works input fresh old new before now promise = grind (arith, differs-as)
 
 -- ---- the program over words
@@ -184,7 +184,7 @@ pub answers-performed : (words : List Text) (matches : ArgMatches) (subcommand :
     (old new : Held) (end : End) (before now : Option (List ℕ)) → HasMatchesOf pie_app words matches
     → Some (word_of subcommand) ≡ subcommand_name_of matches
     → Some rows ≡ option_map (λ (found : Text × List Row). found.1) (subcommand_rows_of matches)
-    → EndsTo subcommand rows works input fresh old new end before now → Answers words works input fresh old new end before now
+    → EndsSubcommand subcommand rows works input fresh old new end before now → Answers words works input fresh old new end before now
 answers-performed words matches subcommand rows works input fresh old new end before now matched name given promise =
     let found : subcommand_in words ≡ Some (word_of subcommand) = sym (name ∙ name-found words matches matched) in
     record {
@@ -192,9 +192,9 @@ answers-performed words matches subcommand rows works input fresh old new end be
           one promise;
       differs = λ is. (subcommand, differs-to subcommand rows works input fresh old new before now (rw is at promise), found);
       ends = λ other asks.
-          inr (subst (λ (s : Subcommand). EndsTo s (options_in words) works input fresh old new end before now)
+          inr (subst (λ (s : Subcommand). EndsSubcommand s (options_in words) works input fresh old new end before now)
           (same-word subcommand other (sym found ∙ asks.found))
-          (subst (λ (options : List Row). EndsTo subcommand options works input fresh old new end before now)
+          (subst (λ (options : List Row). EndsSubcommand subcommand options works input fresh old new end before now)
           (sym (options-in words matches rows matched given)) promise));
     }
 

@@ -14,7 +14,7 @@ use Rattle.pie_commands.specs.Words.{number_given}
 use Rattle.pie_commands.specs.declared.end.End.{End}
 use Rattle.pie_commands.specs.declared.end.End.TheVariants.{Done, Differs, Fault, Failed}
 use Rattle.pie_commands.specs.declared.cut.Pieces.{Pieces}
-use Rattle.pie_commands.specs.declared.cut.Pieces.TheVariants.{Every, Part}
+use Rattle.pie_commands.specs.declared.cut.Pieces.TheVariants.{Every, Excerpt}
 use Rattle.pie_commands.specs.declared.cut.CutRequest.{CutRequest}
 use Rattle.pie_commands.specs.declared.cut.CutRequest.TheVariants.{Last, Once}
 use Rattle.pie_commands.specs.Explanations.{bound_given, in_order}
@@ -41,10 +41,10 @@ within from to = Some (between from to)
 
 -- the request, if it is stated in exactly one way: an event, with some around it or none; the last events; segments; or the events within bounds
 abbrev pub chosen : Option ℕ → Option ℕ → Option ℕ → Option ℕ → Option Span → Option CutRequest
-chosen (Some event) more None None None = Some (Once (Part (around event (unwrap_or more 0))))
+chosen (Some event) more None None None = Some (Once (Excerpt (around event (unwrap_or more 0))))
 chosen None None (Some many) None None = Some (Last many)
 chosen None None None (Some every) None = if every == 0 then None else Some (Once (Every every))
-chosen None None None None (Some span) = Some (Once (Part span))
+chosen None None None None (Some span) = Some (Once (Excerpt span))
 chosen _ _ _ _ _ = None
 
 -- the request, if both bounds are valid and in order
@@ -59,7 +59,7 @@ cut_request_of options = wanted_at (number_given (codes "event") options) (numbe
 
 -- the number of events of a segment is above 0
 abbrev pub HasSome : Pieces → Type 0
-HasSome (Part span) = ⊤
+HasSome (Excerpt span) = ⊤
 HasSome (Every every) = 0 < every
 
 abbrev pub WantsSome : CutRequest → Type 0
@@ -77,7 +77,7 @@ end_of_cut (Err fault.NoEvents) = Failed
 
 -- a cut into pieces of either kind
 abbrev pub CutsInto : Pieces → List Fields → Result ℕ CutFault → Option (List ℕ) → Option (List ℕ) → Type 0
-CutsInto (Part span) rows outcome before now = CutsText span rows outcome before now
+CutsInto (Excerpt span) rows outcome before now = CutsText span rows outcome before now
 CutsInto (Every every) rows outcome before now = HasTextResult every_answer (IsInSegments every) rows outcome before now
 
 -- a cut of the last `many` events, after a first pass found the number of the last event or a fault

@@ -83,8 +83,8 @@ WritesFinding (Ok found) end before now = (end ≡ Fault trace_fault.Write) ⊎ 
 
 -- the end of an audit of a history or an excerpt: the line of its finding is written, or the writer failed. If the
 -- text has a fault, or the reader or memory failed, nothing is written
-abbrev pub EndsAudit : Option (List ℕ) → End → Option (List ℕ) → Option (List ℕ) → Type 0
-EndsAudit known end before now =
+abbrev pub EndsInputAudit : Option (List ℕ) → End → Option (List ℕ) → Option (List ℕ) → Type 0
+EndsInputAudit known end before now =
     (found : Result Finding TraceFault) × WritesFinding found end before now × IfSome known (λ text. Finds (records_of text) found)
 
 -- ---- `pie migrate`

@@ -18,8 +18,8 @@ use Rattle.pie_explain.specs.Output.{as_records, in_words, pages}
 use Rattle.pie_json.specs.Rows.{objects_of}
 use Rattle.pie_summary.specs.ByFlow.{flows_whole}
 use Rattle.pie_summary.specs.Summary.{without_packets, summary_of}
-use Rattle.pie_summary.specs.Lines.{lines_whole}
-use Rattle.pie_summary.specs.declared.lines.LineStyle.{LineStyle}
+use Rattle.pie_summary.specs.IntervalLines.{lines_whole}
+use Rattle.pie_summary.specs.declared.interval_lines.LineStyle.{LineStyle}
 use Rattle.pie_commands.specs.declared.explain.OutputKind.{OutputKind}
 use Rattle.pie_commands.specs.declared.explain.OutputKind.TheVariants.{Digest, Flows, JsonRecords, JsonSums, Lines, Records, Sums, Words}
 use Rattle.pie_explain.specs.declared.fault.ExplainFault.{ExplainFault}

@@ -18,7 +18,7 @@ use Rattle.pie_commands.specs.declared.audit.Unaudited.{Unaudited}
 use Rattle.pie_commands.specs.declared.audit.Unaudited.TheVariants.{Unopened, Faulty}
 use Rattle.pie_commands.specs.declared.end.End.{End}
 use Rattle.pie_commands.specs.declared.end.End.TheVariants.{Done, Differs, Fault, Failed}
-use Rattle.pie_commands.specs.Ends.{EndsAudit}
+use Rattle.pie_commands.specs.Ends.{EndsInputAudit}
 
 -- ---- the lines
 
@@ -136,13 +136,13 @@ pub record LacksFinding (works joined : Bool) (input : Option (List ℕ)) (files
   pub finding : HasFileOutcome works joined input files (take place names) (get_or names place []) end (Ok found) after
 
 -- the end of an audit of files: the worst end; or the lines of a finding could not be written
-abbrev pub EndsFiles : Bool → Bool → Option (List ℕ) → (Text → Option (List ℕ)) → List Text → End → Option (List ℕ) → Option (List ℕ) → Type 0
-EndsFiles works joined input files names end before now =
+abbrev pub EndsFileAudits : Bool → Bool → Option (List ℕ) → (Text → Option (List ℕ)) → List Text → End → Option (List ℕ) → Option (List ℕ) → Type 0
+EndsFileAudits works joined input files names end before now =
     ((end ≡ Fault trace_fault.Write) × LacksFinding works joined input files names before)
     ⊎ ((unfound : Bool) × (broken : Bool) × (last : Option EndView) × (end ≡ worst unfound broken)
     × AuditsFiles works joined input files names unfound broken last before now)
 
 -- without a file: an audit of the caller's reader, which has no joint
-abbrev pub EndsAuditing : Bool → Bool → Option (List ℕ) → (Text → Option (List ℕ)) → List Text → End → Option (List ℕ) → Option (List ℕ) → Type 0
-EndsAuditing works joined input files [] = EndsAudit input
-EndsAuditing works joined input files (name ∷ names) = EndsFiles works joined input files (name ∷ names)
+abbrev pub EndsAudit : Bool → Bool → Option (List ℕ) → (Text → Option (List ℕ)) → List Text → End → Option (List ℕ) → Option (List ℕ) → Type 0
+EndsAudit works joined input files [] = EndsInputAudit input
+EndsAudit works joined input files (name ∷ names) = EndsFileAudits works joined input files (name ∷ names)

@@ -120,14 +120,14 @@ after_output end there = if is_whole end && not there then NoOutputFile else end
 -- the end of a subcommand that writes to a new file with the known contents `fresh`: empty, or unknown. If the
 -- output is complete, the file has the name; otherwise it has not. The end is `NoOutputFile` only if something hinders the
 -- file from having the name; every file is then unchanged
-abbrev pub EndsAt : Bool → Option Text → Bool → Text → Option (List ℕ) → Held → Held → (End → Option (List ℕ) → Option (List ℕ) → Type 0) → End → Type 0
-EndsAt works read forced name fresh old new ends end = ((end ≡ NoOutputFile) × Keeps old new × IsHindered works read forced name old)
+abbrev pub EndsWithNewFile : Bool → Option Text → Bool → Text → Option (List ℕ) → Held → Held → (End → Option (List ℕ) → Option (List ℕ) → Type 0) → End → Type 0
+EndsWithNewFile works read forced name fresh old new ends end = ((end ≡ NoOutputFile) × Keeps old new × IsHindered works read forced name old)
     ⊎ ((left : Option (List ℕ)) × IsEmpty fresh × ends end fresh left × Settles (is_whole end) read forced name left old new)
 
 -- the end of a subcommand that writes to the caller's writer, with every file unchanged; or, if the options name an
 -- output file, to that file, with nothing written to the caller's writer
-abbrev pub EndsIn : Bool → Option Text → Option Text → Bool → Option (List ℕ) → Held → Held → (End → Option (List ℕ) → Option (List ℕ) → Type 0)
+abbrev pub EndsWithOutput : Bool → Option Text → Option Text → Bool → Option (List ℕ) → Held → Held → (End → Option (List ℕ) → Option (List ℕ) → Type 0)
     → End → Option (List ℕ) → Option (List ℕ) → Type 0
-EndsIn works None read forced fresh old new ends end before now = Keeps old new × ends end before now
-EndsIn works (Some name) read forced fresh old new ends end before now =
-    (now ≡ before) × EndsAt works (file_of read) forced name fresh old new ends end
+EndsWithOutput works None read forced fresh old new ends end before now = Keeps old new × ends end before now
+EndsWithOutput works (Some name) read forced fresh old new ends end before now =
+    (now ≡ before) × EndsWithNewFile works (file_of read) forced name fresh old new ends end

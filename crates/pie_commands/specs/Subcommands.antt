@@ -16,8 +16,8 @@ use Rattle.pie_commands.specs.declared.end.End.TheVariants.{CannotStart, Differs
 use Rattle.pie_commands.specs.CutEnds.{EndsCut}
 use Rattle.pie_commands.specs.Ends.{EndsMigrate, EndsRead, EndsRun, status_of}
 use Rattle.pie_commands.specs.Explanations.{EndsExplain}
-use Rattle.pie_commands.specs.FileAudits.{EndsAuditing}
-use Rattle.pie_commands.specs.Files.{EndsIn}
+use Rattle.pie_commands.specs.FileAudits.{EndsAudit}
+use Rattle.pie_commands.specs.Files.{EndsWithOutput}
 use Rattle.pie_commands.specs.StormEnds.{EndsStorm}
 use Rattle.pie_commands.specs.Tuning.{EndsParams}
 use Rattle.pie_commands.specs.WhatIfEnds.{EndsWhatIf}
@@ -28,7 +28,7 @@ use Rattle.pie_commands.specs.Advising.{EndsAdvise}
 -- memory, or a storm a thread, before they write anything
 abbrev pub EndsAs : Subcommand → List Row → Bool → Option (List ℕ) → Held → End → Option (List ℕ) → Option (List ℕ) → Type 0
 EndsAs Run options works input files = EndsRead (Opens works files (file_in options)) (EndsRun (text_given input files (file_in options)))
-EndsAs Audit options works input files = EndsAuditing works (is_joined options) input files (files_in options)
+EndsAs Audit options works input files = EndsAudit works (is_joined options) input files (files_in options)
 EndsAs Explain options works input files =
     EndsRead (Opens works files (file_in options)) (EndsExplain options (text_given input files (file_in options)))
 EndsAs Cut options works input files =
@@ -50,9 +50,9 @@ output_for _ options = output_in options
 
 -- the end of a subcommand that writes to the caller's writer, or to a new file for the name in the options; with
 -- the files before and after
-abbrev pub EndsTo : Subcommand → List Row → Bool → Option (List ℕ) → Option (List ℕ) → Held → Held → End → Option (List ℕ) → Option (List ℕ) → Type 0
-EndsTo subcommand options works input fresh old new =
-    EndsIn works (output_for subcommand options) (file_in options) (is_forced options) fresh old new (EndsAs subcommand options works input old)
+abbrev pub EndsSubcommand : Subcommand → List Row → Bool → Option (List ℕ) → Option (List ℕ) → Held → Held → End → Option (List ℕ) → Option (List ℕ) → Type 0
+EndsSubcommand subcommand options works input fresh old new =
+    EndsWithOutput works (output_for subcommand options) (file_in options) (is_forced options) fresh old new (EndsAs subcommand options works input old)
 
 -- true if the text that a subcommand reads can have an event that differs
 abbrev pub may_differ : Subcommand → Bool
@@ -80,4 +80,4 @@ pub record Answers (words : List Text) (works : Bool) (input fresh : Option (Lis
   pub keeps : status_of end ≡ 1 → Keeps old new
   pub differs : end ≡ Differs → (subcommand : Subcommand) × (may_differ subcommand ≡ true) × (subcommand_in words ≡ Some (word_of subcommand))
   pub ends : (subcommand : Subcommand) → Asks (word_of subcommand) words → BeginsNothing old new end before now
-      ⊎ EndsTo subcommand (options_in words) works input fresh old new end before now
+      ⊎ EndsSubcommand subcommand (options_in words) works input fresh old new end before now

@@ -3,8 +3,8 @@ ghost use Rattle.std.specs.Prelude.{◌≡◌, ◌<◌, ◌||◌, [], Err, IfErr
 ghost use Rattle.std.specs.Io.KnownBytes.{Appends};
 ghost use Rattle.clap.specs.Words.{found_of, rows_of};
 ghost use Rattle.pie_audit.specs.Text.{Finds};
-ghost use Rattle.pie_commands.specs.Ends.{EndsAudit, WritesFinding, end_found};
-ghost use Rattle.pie_commands.specs.FileAudits.{EndsFiles, HasReadOutcome, HasTextOutcome, is_broken, line_of_joint, lines_of, named_line, worst};
+ghost use Rattle.pie_commands.specs.Ends.{EndsInputAudit, WritesFinding, end_found};
+ghost use Rattle.pie_commands.specs.FileAudits.{EndsFileAudits, HasReadOutcome, HasTextOutcome, is_broken, line_of_joint, lines_of, named_line, worst};
 ghost use Rattle.pie_commands.specs.Files.{CanOpen, ReadsNamed, left_for};
 ghost use Rattle.pie_commands.specs.Subcommands.{EndsAs};
 ghost use Rattle.pie_commands.specs.declared.options.subcommand.Subcommand.{Subcommand};
@@ -13,7 +13,7 @@ ghost use Rattle.pie_record.specs.Text.{records_of};
 
 use crate::difference::report_difference;
 use crate::end::{End, end_with_fault, named_fault};
-use crate::fault_cause::{AUDIT, describe};
+use crate::fault_report::{AUDIT, report_cause};
 use crate::files::{NamedFiles, reader_named};
 use crate::options::flag;
 use crate::progress::{ProgressReader, Screen, shows_progress};
@@ -114,7 +114,7 @@ fn audit_named<H: NamedFiles + Clock, R: Read + Drop, E: Write>(
         Err(why) => {
             named_fault(errors, name, why);
             if name != "-" {
-                describe(rt, alloc, AUDIT, why, name, errors);
+                report_cause(rt, alloc, AUDIT, why, name, errors);
             }
             Err(Unaudited::Faulty(why))
         }
@@ -231,7 +231,7 @@ fn audit_files<H: NamedFiles + Clock, R: Read + Drop, W: Write, E: Write>(
     output: &mut W,
     errors: &mut E,
 ) -> End
-    ensures { EndsFiles H.works are_joined (R.remaining input) (H.holds rt.now) (map (λ name. name.now) names.now) result (W.contents output.old)
+    ensures { EndsFileAudits H.works are_joined (R.remaining input) (H.holds rt.now) (map (λ name. name.now) names.now) result (W.contents output.old)
         (W.contents output.new) }
 {
     let mut stdin = Some(input);
@@ -267,7 +267,7 @@ fn audit_input<H: NamedFiles + Clock, R: Read + Drop, W: Write, E: Write>(
     output: &mut W,
     errors: &mut E,
 ) -> End
-    ensures { EndsAudit (R.remaining input) result (W.contents output.old) (W.contents output.new) }
+    ensures { EndsInputAudit (R.remaining input) result (W.contents output.old) (W.contents output.new) }
 {
     // The type equals the type of a file's reader, so an audit is compiled once.
     let reader: Either<R, H::File> = Left(input);

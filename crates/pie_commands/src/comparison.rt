@@ -1,7 +1,7 @@
 //! The comparison of a history with the other history of `pie what-if`, by the numbers of their summaries.
 
 use pie_explain::{EventChoice, ExplainFault, Form, Selection, explain};
-use pie_summary::Summaries;
+use pie_summary::Digest;
 use pie_trace::TraceFault;
 use pie_units::When;
 use std::alloc::{AllocError, Global};
@@ -46,7 +46,7 @@ fn summary_of(alloc: Global, text: &[u8], from: u64) -> Result<Vec<u8>, ExplainF
         csv: true,
         by_wall: false,
     };
-    let sums = Summaries {
+    let sums = Digest {
         form,
         every: None,
         packets: false,

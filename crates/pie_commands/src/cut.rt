@@ -11,7 +11,7 @@ ghost use Rattle.pie_commands.specs.Subcommands.{EndsAs};
 ghost use Rattle.pie_commands.specs.declared.options.subcommand.Subcommand.{Subcommand};
 
 use crate::end::{End, end_failed, fault};
-use crate::fault_cause::{CUT, end_with_fault_in};
+use crate::fault_report::{CUT, end_with_fault_in};
 use crate::files::{NamedFiles, open_input, reader_named};
 use crate::options::{NO_ORDER, bound, file, in_order, number, parsed, report_two};
 use crate::progress::{ProgressReader, Screen, shows_progress};
@@ -25,7 +25,7 @@ use std::io::{Read, Write};
 #[derive(Clone, Copy)]
 pub(crate) enum Pieces {
     /// One part, of these events.
-    Part(Span),
+    Excerpt(Span),
     /// All events, in segments of this number of events.
     Every(u64),
 }
@@ -70,13 +70,13 @@ fn chosen(
     match (event, around, last, every, span) {
         (Some(event), more, None, None, None) => {
             let span = Span::around(event, more.unwrap_or(0));
-            Some(CutRequest::Once(Pieces::Part(span)))
+            Some(CutRequest::Once(Pieces::Excerpt(span)))
         }
         (None, None, Some(many), None, None) => Some(CutRequest::Last(many)),
         (None, None, None, Some(every), None) if every != 0 => {
             Some(CutRequest::Once(Pieces::Every(every)))
         }
-        (None, None, None, None, Some(span)) => Some(CutRequest::Once(Pieces::Part(span))),
+        (None, None, None, None, Some(span)) => Some(CutRequest::Once(Pieces::Excerpt(span))),
         _ => None,
     }
 }
@@ -156,7 +156,7 @@ fn cut_out<R: Read + Drop, W: Write>(
     ensures { IfSome (R.remaining reader) (λ text. CutsInto pieces (records_of text) result (W.contents output.old) (W.contents output.new)) }
 {
     match pieces {
-        Pieces::Part(span) => pie_cut::cut(alloc, reader, output, span),
+        Pieces::Excerpt(span) => pie_cut::cut(alloc, reader, output, span),
         Pieces::Every(every) => cut_every(alloc, reader, output, every),
     }
 }
@@ -207,7 +207,7 @@ fn cut_last<H: NamedFiles + Screen, R: Read + Drop, W: Write, E: Write>(
     let watched = ProgressReader::new(reader, &mut *errors, rt, shows_progress(rt, options, true));
     match last_number(alloc, watched) {
         Ok(number) => {
-            let pieces = Pieces::Part(Span::last(number, many));
+            let pieces = Pieces::Excerpt(Span::last(number, many));
             cut_pieces(rt, alloc, options, pieces, input, output, errors)
         }
         Err(why) => end_with_fault_in(rt, alloc, CUT, errors, Some(name), why),

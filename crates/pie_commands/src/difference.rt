@@ -4,14 +4,14 @@ use crate::files::NamedFiles;
 use pie_book::Event;
 use pie_explain::{EventDecision, decide_event, push_words};
 use pie_record::Line;
-use pie_text::{Page, Row, put_event};
+use pie_text::{Page, RowBuffer, put_event};
 use std::alloc::Global;
 use std::io;
 use std::io::Write;
 
 /// Writes the record of an event.
 fn write_event<E: Write>(errors: &mut E, event: &Event) -> io::Result<()> {
-    let mut row = Row::new();
+    let mut row = RowBuffer::new();
     put_event(&mut row, event.caller, event.command, event.answer);
     errors.write_all(row.as_bytes())
 }

@@ -1,7 +1,7 @@
 //! The call of a subcommand's function, whose output goes to the caller's writer or to a new file.
 ghost use Rattle.std.specs.Prelude.{◌≡◌, option_map};
 ghost use Rattle.clap.specs.Words.{found_of, rows_of};
-ghost use Rattle.pie_commands.specs.Files.{EndsAt, file_of};
+ghost use Rattle.pie_commands.specs.Files.{EndsWithNewFile, file_of};
 ghost use Rattle.pie_commands.specs.Words.{file_in, is_forced};
 ghost use Rattle.pie_commands.specs.Subcommands.{EndsAs, output_for};
 
@@ -71,7 +71,7 @@ pub(crate) fn dispatch_to_file<
     input: R,
     errors: &mut E,
 ) -> End
-    ensures { EndsAt H.works (file_of (file_in (rows_of (found_of options.now)))) (is_forced (rows_of (found_of options.now))) name.now H.fresh
+    ensures { EndsWithNewFile H.works (file_of (file_in (rows_of (found_of options.now)))) (is_forced (rows_of (found_of options.now))) name.now H.fresh
         (H.holds rt.old) (H.holds rt.new) (EndsAs subcommand (rows_of (found_of options.now)) H.works (R.remaining input) (H.holds rt.old)) result }
 {
     let is_forced = flag(options, "force");

@@ -10,14 +10,14 @@ ghost use Rattle.pie_commands.specs.Explanations.{EndsExplainBy, end_of_explain}
 
 use crate::difference::report_difference;
 use crate::end::{End, end_failed, fault};
-use crate::fault_cause::{EXPLAIN, end_with_fault_in};
+use crate::fault_report::{EXPLAIN, end_with_fault_in};
 use crate::files::{NamedFiles, open_input};
 use crate::options::{NO_ORDER, bound, file, flag, in_order, moment, number, parsed, report_two};
 use crate::progress::{ProgressReader, Screen, shows_progress, writes_to_terminal};
 use clap::ArgMatches;
-use pie_explain::{EventChoice, ExplainFault, Form, Records, Selection, Words};
+use pie_explain::{EventChoice, EventRecords, ExplainFault, Form, Selection, Words};
 use pie_json::AsJson;
-use pie_summary::{ByFlow, IntervalLines, LineStyle, Summaries, SummariesOnly};
+use pie_summary::{ByFlow, Digest, IntervalLines, LineStyle, SummariesOnly};
 use std::alloc::Global;
 use std::io::{Read, Write};
 
@@ -141,7 +141,7 @@ fn selection_of<E: Write>(options: &ArgMatches<'_>, errors: &mut E) -> Option<Se
 /// The kind of output about the chosen events.
 pub(crate) enum OutputKind {
     /// A CSV record for each event.
-    Records(Records),
+    Records(EventRecords),
     /// Each event in words.
     Words(Words),
     /// Summaries, of all events or of each interval.
@@ -149,11 +149,11 @@ pub(crate) enum OutputKind {
     /// A line for each interval.
     Lines(IntervalLines),
     /// Summaries, and between them the words for lost and marked packets.
-    Digest(Summaries),
+    Digest(Digest),
     /// Sums by flow, with rows for a limited number of flows.
     Flows(ByFlow),
-    /// `Records` as objects of JSON.
-    JsonRecords(Records),
+    /// `EventRecords` as objects of JSON.
+    JsonRecords(EventRecords),
     /// `Sums` in CSV as objects of JSON.
     JsonSums(SummariesOnly),
 }
@@ -200,7 +200,7 @@ fn plain_kind_of(options: &ArgMatches<'_>, style: LineStyle, csv: bool) -> Outpu
     let (every, form) = (every_of(options), Form { csv, by_wall });
     match (is_summary(options), packets, flows) {
         (true, _, Some(most)) => OutputKind::Flows(ByFlow { form, every, most }),
-        (true, true, None) => OutputKind::Digest(Summaries {
+        (true, true, None) => OutputKind::Digest(Digest {
             form,
             every,
             packets: true,
@@ -208,7 +208,7 @@ fn plain_kind_of(options: &ArgMatches<'_>, style: LineStyle, csv: bool) -> Outpu
         (true, false, None) => sums_kind(flag(options, "full"), style, every, form),
         (false, _, _) => {
             if csv {
-                OutputKind::Records(Records { by_wall })
+                OutputKind::Records(EventRecords { by_wall })
             } else {
                 OutputKind::Words(Words { by_wall })
             }

@@ -24,7 +24,7 @@ mod difference;
 mod dispatch;
 mod end;
 mod explain;
-mod fault_cause;
+mod fault_report;
 mod files;
 mod migrate;
 mod options;

@@ -4,7 +4,7 @@ ghost use Rattle.pie_commands.specs.Subcommands.{EndsAs};
 ghost use Rattle.pie_commands.specs.declared.options.subcommand.Subcommand.{Subcommand};
 
 use crate::end::End;
-use crate::fault_cause::{MIGRATE, report_end};
+use crate::fault_report::{MIGRATE, end_with_result};
 use crate::files::{NamedFiles, open_input};
 use crate::options::file;
 use crate::progress::{ProgressReader, Screen, shows_progress};
@@ -30,5 +30,5 @@ pub(crate) fn migrate<H: NamedFiles + Screen, R: Read + Drop, W: Write, E: Write
     };
     let watched = ProgressReader::new(reader, &mut *errors, rt, shows_progress(rt, options, true));
     let outcome = pie_trace::migrate(alloc, watched, output);
-    report_end(rt, alloc, MIGRATE, errors, file(options), outcome)
+    end_with_result(rt, alloc, MIGRATE, errors, file(options), outcome)
 }

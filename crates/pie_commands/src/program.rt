@@ -8,7 +8,7 @@ ghost use Rattle.pie_commands.specs.declared.options.subcommand.Subcommand.{Subc
 ghost use Rattle.pie_commands.specs.Files.{Keeps};
 ghost use Rattle.pie_commands.specs.declared.end.End.{End};
 ghost use Rattle.pie_commands.specs.Ends.{status_of};
-ghost use Rattle.pie_commands.specs.Subcommands.{Answers, BeginsNothing, EndsTo, FindsMatches, may_differ};
+ghost use Rattle.pie_commands.specs.Subcommands.{Answers, BeginsNothing, EndsSubcommand, FindsMatches, may_differ};
 
 use crate::dispatch::{dispatch, dispatch_to_file, output_for};
 use crate::end::{End, end_failed, end_unable, end_with_fault};
@@ -62,7 +62,7 @@ pub fn command<H: Threads + Wait + Sync + NamedFiles + Screen, R: Read + Drop, W
         × (subcommand_in (map string_bytes words.now) ≡ Some (word_of subcommand)) }
     ensures performs { (subcommand : Subcommand) → Asks (word_of subcommand) (map string_bytes words.now)
         → BeginsNothing (H.holds rt.old) (H.holds rt.new) result (W.contents output.old) (W.contents output.new)
-        ⊎ EndsTo subcommand (options_in (map string_bytes words.now)) H.works (R.remaining input) H.fresh (H.holds rt.old) (H.holds rt.new) result
+        ⊎ EndsSubcommand subcommand (options_in (map string_bytes words.now)) H.works (R.remaining input) H.fresh (H.holds rt.old) (H.holds rt.new) result
         (W.contents output.old) (W.contents output.new) }
 {
     let found = matches_of(alloc, words);

@@ -7,7 +7,7 @@ ghost use Rattle.pie_commands.specs.Subcommands.{EndsAs};
 ghost use Rattle.pie_commands.specs.declared.options.subcommand.Subcommand.{Subcommand};
 
 use crate::end::End;
-use crate::fault_cause::{RUN, report_end};
+use crate::fault_report::{RUN, end_with_result};
 use crate::files::{NamedFiles, open_input};
 use crate::options::{file, flag};
 use crate::progress::{ProgressReader, Screen, shows_progress};
@@ -58,5 +58,5 @@ pub(crate) fn run<H: NamedFiles + Screen, R: Read + Drop, W: Write, E: Write>(
     let watched = ProgressReader::new(reader, &mut *errors, rt, shows_progress(rt, options, true));
     let outcome = run_trace(alloc, watched, output);
     report_counts(options, &outcome, errors);
-    report_end(rt, alloc, RUN, errors, file(options), outcome)
+    end_with_result(rt, alloc, RUN, errors, file(options), outcome)
 }

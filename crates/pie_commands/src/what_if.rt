@@ -14,7 +14,7 @@ ghost use Rattle.pie_commands.specs.declared.options.subcommand.Subcommand.{Subc
 use crate::comparison::{NO_REACTION, comparison};
 use crate::difference::report_difference;
 use crate::end::{End, end_failed, end_with_fault, fault};
-use crate::fault_cause::{WHAT_IF, end_with_fault_in};
+use crate::fault_report::{WHAT_IF, end_with_fault_in};
 use crate::files::{NamedFiles, open_input};
 use crate::options::{file, flag, moment, number, parsed, text};
 use crate::progress::{ProgressReader, Screen, shows_progress};

@@ -5,7 +5,7 @@ use Rattle.pie_params.specs.declared.raw.RawParams.{RawParams}
 use Rattle.pie_params.specs.declared.elements.Elements.{Elements}
 use Rattle.pie_control.specs.Events.{ControlEvent, updated, idled, reset, Update, all_moments, updates_after_reset}
 use Rattle.pie_control.specs.Next.{are_below_half, next}
-use Rattle.pie_control.specs.Parts.{Parts}
+use Rattle.pie_control.specs.ControlState.{ControlState}
 
 -- the delay of the newest update; 0 without an update
 abbrev pub newest_delay : List Update → ℕ
@@ -76,14 +76,14 @@ is_calm_after events params elements delay =
 
 -- the abstraction relation: the state of a controller that was opened with these parameters at the moment `start` and
 -- then received these events
-pub record Represents (opening : RawParams) (start : ℕ) (events : List ControlEvent) (parts : Parts) : Type 0 where
+pub record Represents (opening : RawParams) (start : ℕ) (events : List ControlEvent) (parts : ControlState) : Type 0 where
   pub prob : parts.prob ≡ probability events
   pub old_delay : parts.old_delay ≡ last_delay events
   pub burst : parts.burst ≡ burst_allowance opening events
   pub last : parts.last ≡ last_moment start events
 
 -- the burst allowance after an update, from the state before it
-abbrev pub burst_after : Elements → RawParams → Parts → ℕ → ℕ
+abbrev pub burst_after : Elements → RawParams → ControlState → ℕ → ℕ
 burst_after elements params before delay =
     if ends_calm params (next elements params before.prob delay before.old_delay) delay before.old_delay
     then params.max_burst

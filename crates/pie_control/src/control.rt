@@ -16,9 +16,9 @@ pub struct Control {
 }
 
 impl Model for Control {
-    ghost use Rattle.pie_control.specs.Parts.{IsWithin, Parts};
+    ghost use Rattle.pie_control.specs.ControlState.{IsWithin, ControlState};
 
-    ghost Value = { Parts };
+    ghost Value = { ControlState };
 
     ghost view = { λ c. c.raw };
 

@@ -6,8 +6,8 @@ ghost use Rattle.pie_diagnosis.specs.{accepts, find, is_some, is_word, keywords_
 use pie_event::{Mode, Profile};
 use pie_params::{Decay, Delay, Picking, Size, Step};
 use pie_queue::Ecn;
+use pie_record::Record;
 use pie_record::field::{has_word, long_number_at};
-use pie_record::record::Record;
 use pie_record::words::{
     AnswerKeyword, decay_word, delay_word, ecn_text, mode_word, picking_word, profile_number,
     size_word, step_word,

@@ -13,9 +13,7 @@ use crate::refused::{RefusedField, form_of, is_correct, refused_field, refused_i
 use crate::text::TextKind;
 use pie_record::field::{has_word, long_number_at};
 use pie_record::first_record::version_of;
-use pie_record::record::Record;
-use pie_record::records::Records;
-use pie_record::{ExcerptFault, TraceFault, Version};
+use pie_record::{ExcerptFault, Record, Records, TraceFault, Version};
 use std::alloc::Global;
 use std::io::Read;
 

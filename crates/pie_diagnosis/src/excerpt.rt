@@ -9,8 +9,8 @@ use crate::queue::{QueueRead, number_in};
 use crate::statistics::statistics_cause;
 use pie_event::{EndRefusal, QueueRefusal, Register, ResumeRefusal};
 use pie_params::Params;
+use pie_record::Record;
 use pie_record::field::params_at;
-use pie_record::record::Record;
 
 /// The numbers of a `resume` record that bound the packets after it.
 #[derive(Clone, Copy)]

@@ -8,10 +8,9 @@ use crate::permitted::Permitted;
 use crate::queue::number_in;
 use crate::refused::refused_in;
 use pie_params::Field as Parameter;
-use pie_record::OpenFault;
 use pie_record::field::{has_word, is_kind};
-use pie_record::record::Record;
 use pie_record::words::Kind;
+use pie_record::{OpenFault, Record};
 
 /// The greatest moment, in nanoseconds.
 pub(crate) const MAX_MOMENT: u64 = (1 << 60) - 1;

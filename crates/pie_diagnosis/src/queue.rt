@@ -1,7 +1,7 @@
 //! The queue of an excerpt's preamble, as far as its records were read.
 
+use pie_record::Record;
 use pie_record::field::number_at;
-use pie_record::record::Record;
 
 /// The sums of the `queued` records that were read.
 #[derive(Clone, Copy)]

@@ -1,6 +1,6 @@
 //! The beginning of a field's text.
 use crate::line_reader::line_ends;
-use pie_record::record::Record;
+use pie_record::Record;
 use std::io;
 use std::io::Write;
 

@@ -7,8 +7,8 @@ use crate::field::{Field, Number, Statistic};
 use crate::first_record::moment_place;
 use crate::permitted::Permitted;
 use crate::queue::number_in;
+use pie_record::Record;
 use pie_record::field::{has_word, long_number_at};
-use pie_record::record::Record;
 
 /// The statistics in their order.
 const STATISTICS: [Statistic; 15] = [

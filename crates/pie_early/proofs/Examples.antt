@@ -1,6 +1,6 @@
 -- Examples of the definitions: each theorem computes. bindings/c/rows.c has rows for the bounds of considered, picked
 -- and marked arrivals.
-use Rattle.pie_early.proofs.Names.{Elements, Random, Parts, Ecn, Offered, Enqueue, Drop, a_fifth, accu_after, always_picked, choice_of, is_considered, is_picked, no_pick_below, arrival, accumulated}
+use Rattle.pie_early.proofs.Names.{Elements, Random, ControlState, Ecn, Offered, Enqueue, Drop, a_fifth, accu_after, always_picked, choice_of, is_considered, is_picked, no_pick_below, arrival, accumulated}
 use Rattle.std.specs.Prelude.{◌≡◌, ℕ, ◌^◌, ◌*◌, ◌-◌, true, [], ◌∷◌, map, refl}
 use Rattle.pie_fixed.specs.declared.TheConstants.{ALWAYS_PICKED, ONE}
 use Rattle.pie_params.specs.Params.{default_profile, usual}
@@ -23,7 +23,7 @@ always : (always_picked * 10 ≡ 85 * ONE) × (ALWAYS_PICKED ≡ always_picked)
 always = (refl, refl)
 
 -- a controller with no burst allowance
-abbrev control : ℕ → ℕ → Parts
+abbrev control : ℕ → ℕ → ControlState
 control prob old = record { prob = prob; old_delay = old; burst = 0; last = 0 }
 
 -- a packet of `size` bytes at a queue of `bytes` bytes, with its random word

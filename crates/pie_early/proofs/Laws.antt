@@ -1,7 +1,7 @@
 -- The change of the accumulated probability when an event is added at the end of the list.
 use Rattle.pie_early.proofs.Names.{◌≡◌, ℕ, ◌+◌, ◌*◌, ◌<◌, Bool, true, false, cond, List, [], ◌∷◌, ◌++◌, refl, sym, ap, ◌∙◌, arith, if◌then◌else◌}
 use Rattle.pie_early.proofs.Names.{ne_eqb, Derandomized, Enqueue, EarlyEvent, arrival, accumulated, Represents, ◌≤◌, nat_tests, RawParams, Picking}
-use Rattle.pie_early.proofs.Names.{accumulates, cleared, Parts, Ecn, Choice, always_picked, is_considered, is_picked, picked_choice, accu_at}
+use Rattle.pie_early.proofs.Names.{accumulates, cleared, ControlState, Ecn, Choice, always_picked, is_considered, is_picked, picked_choice, accu_at}
 use Rattle.pie_early.proofs.Names.{choice_at, choice_of, Elements, Offered, fate_of, effective_prob_of}
 use Rattle.std.proofs.Common.{zero, suc, ◌-◌, not, length, drop, filter, replicate, add-one, append_assoc, ◌↔◌, ◌&&◌, ◌/◌}
 use Rattle.std.specs.Prelude.{sum_by, IsTrue}
@@ -80,7 +80,7 @@ represents-next events held event shown = by (is_clearing event) refl
 
 -- ---- The tests of the decision as facts
 
-picked_facts : (picking : Picking) (params : RawParams) (control : Parts) (prob bytes word accu : ℕ)
+picked_facts : (picking : Picking) (params : RawParams) (control : ControlState) (prob bytes word accu : ℕ)
     → (is_considered params control bytes && is_picked picking prob (accu + prob) word) ≡ true
     → IsPicked picking params control prob bytes word accu
 unfolding is_considered is_picked
@@ -93,7 +93,7 @@ picked_facts picking params control prob bytes word accu e = record {
   by_sum_or_word = grind (arith, nat_tests);
 }
 
-picked_from : (picking : Picking) (params : RawParams) (control : Parts) (prob bytes word accu : ℕ)
+picked_from : (picking : Picking) (params : RawParams) (control : ControlState) (prob bytes word accu : ℕ)
     → IsPicked picking params control prob bytes word accu
     → (is_considered params control bytes && is_picked picking prob (accu + prob) word) ≡ true
 unfolding is_considered is_picked
@@ -104,7 +104,7 @@ picked_from picking params control prob bytes word accu p =
 pub is_pick-at : (params : RawParams) (prob : ℕ) (ecn : Ecn) (b : Bool) → is_pick (cond b (picked_choice params prob ecn) Enqueue) ≡ b
 is_pick-at params prob ecn b = grind (arith, nat_tests)
 
-module _ (picking : Picking) (params : RawParams) (control : Parts) (prob bytes : ℕ) (ecn : Ecn) (word accu : ℕ) where
+module _ (picking : Picking) (params : RawParams) (control : ControlState) (prob bytes : ℕ) (ecn : Ecn) (word accu : ℕ) where
   -- a packet is marked or dropped exactly if it is picked
   pub picked : (choice : Choice) → choice ≡ choice_at picking params control prob bytes ecn word accu
       → IsTrue (is_pick choice) ↔ IsPicked picking params control prob bytes word accu
@@ -116,7 +116,7 @@ module _ (picking : Picking) (params : RawParams) (control : Parts) (prob bytes 
       )
 
 -- if probabilities accumulate, the sum grows by the probability of a considered arrival that is not picked
-pub grown : (picking : Picking) (params : RawParams) (control : Parts) (prob bytes : ℕ) (ecn : Ecn) (word accu after : ℕ) (choice : Choice)
+pub grown : (picking : Picking) (params : RawParams) (control : ControlState) (prob bytes : ℕ) (ecn : Ecn) (word accu after : ℕ) (choice : Choice)
     → picking ≡ Derandomized → is_considered params control bytes ≡ true → 0 < prob → choice ≡ Enqueue
     → choice ≡ choice_at picking params control prob bytes ecn word accu → after ≡ accu_at picking params control prob bytes word accu
     → after ≡ accu + prob
@@ -125,20 +125,20 @@ grown picking params control prob bytes ecn word accu after choice accumulates c
 -- ---- The accumulated probability after an arrival, and the events that it represents
 
 -- the accumulated probability stays below 8.5
-pub accu_below : (picking : Picking) (params : RawParams) (control : Parts) (prob bytes word held : ℕ) → held < always_picked
+pub accu_below : (picking : Picking) (params : RawParams) (control : ControlState) (prob bytes word held : ℕ) → held < always_picked
     → accu_at picking params control prob bytes word held < always_picked
 unfolding is_picked
 accu_below picking params control prob bytes word held h = grind (arith, nat_tests)
 
 -- the accumulated probability is the look-back's after the arrival
-arrival-is : (picking : Picking) (params : RawParams) (control : Parts) (prob bytes word held : ℕ) (ecn : Ecn)
+arrival-is : (picking : Picking) (params : RawParams) (control : ControlState) (prob bytes word held : ℕ) (ecn : Ecn)
     → accu_at picking params control prob bytes word held
     ≡ accu_next held (arrival (is_considered params control bytes) prob picking (choice_at picking params control prob bytes ecn word held))
 arrival-is picking params control prob bytes word held ecn =
     rw (is_pick-at params control.prob ecn (is_considered params control bytes && is_picked picking prob (held + prob) word))
     (grind (arith, nat_tests))
 
-pub represents_arrival : (picking : Picking) (params : RawParams) (control : Parts) (prob bytes word held : ℕ) (events : List EarlyEvent) (ecn : Ecn)
+pub represents_arrival : (picking : Picking) (params : RawParams) (control : ControlState) (prob bytes word held : ℕ) (events : List EarlyEvent) (ecn : Ecn)
     → Represents events held
     → Represents (events ++ arrival (is_considered params control bytes) prob picking (choice_at picking params control prob bytes ecn word held) ∷ [])
     (accu_at picking params control prob bytes word held)
@@ -153,7 +153,7 @@ represents_cleared events held is = is ∙ sym (accumulated-clearing events clea
 
 -- ---- The name of the cause, and its verdict
 
-module _ (elements : Elements) (params : RawParams) (parts : Parts) (offered : Offered) (accu : ℕ) where
+module _ (elements : Elements) (params : RawParams) (parts : ControlState) (offered : Offered) (accu : ℕ) where
   -- the cause of a considered arrival
   pub cause_considered : is_considered params parts offered.bytes ≡ true → early_cause elements params parts offered accu
       ≡ considered_cause elements.picking (effective_prob_of elements params parts offered) accu (fate_of params parts.prob offered.ecn) offered.word

@@ -3,7 +3,7 @@ pub use Rattle.std.proofs.Common.{Bool, List, [], ap, arith, cond, false, refl, 
 pub use Rattle.std.proofs.lemmas.Bool.{ne_eqb}
 pub use Rattle.std.proofs.lemmas.Bool.Decides.{nat_tests}
 pub use Rattle.std.specs.Prelude.{if◌then◌else◌}
-pub use Rattle.pie_control.specs.Parts.{Parts}
+pub use Rattle.pie_control.specs.ControlState.{ControlState}
 pub use Rattle.pie_early.specs.Cause.{fate_of}
 pub use Rattle.pie_early.specs.Decision.{a_fifth, accu_after, accu_at, always_picked, choice_at, choice_of, effective_prob_of, no_pick_below, picked_choice}
 unfoldable pub use Rattle.pie_early.specs.Decision.{is_considered, is_picked}

@@ -6,7 +6,7 @@ use Rattle.pie_params.specs.declared.raw.RawParams.{RawParams}
 use Rattle.pie_params.specs.declared.elements.Elements.{Elements}
 use Rattle.pie_params.specs.declared.elements.Picking.{Picking}
 use Rattle.pie_params.specs.Params.{accumulates}
-use Rattle.pie_control.specs.Parts.{Parts}
+use Rattle.pie_control.specs.ControlState.{ControlState}
 use Rattle.pie_queue.specs.declared.ecn.Ecn.{Ecn}
 use Rattle.pie_queue.specs.Queue.{is_capable}
 use Rattle.pie_event.specs.declared.cause.Cause.{Cause}
@@ -36,7 +36,7 @@ considered_cause picking prob accu fate word =
 
 -- the cause of the decision on an arrival that fits into the queue: three cases that are not considered, then the
 -- considered ones
-unfoldable pub early_cause : Elements → RawParams → Parts → Offered → ℕ → Cause
+unfoldable pub early_cause : Elements → RawParams → ControlState → Offered → ℕ → Cause
 early_cause elements params parts offered accu =
     if nat_lt 0 parts.burst then BurstAllowed parts.burst
     else if nat_lt (2 * parts.old_delay) params.target && nat_lt parts.prob a_fifth then LowDelay parts.old_delay params.target parts.prob

@@ -10,7 +10,7 @@ use Rattle.pie_params.specs.declared.elements.Picking.TheVariants.{Derandomized,
 use Rattle.pie_params.specs.declared.elements.Size.{Size}
 use Rattle.pie_params.specs.declared.elements.Size.TheVariants.{Unscaled, Scaled}
 use Rattle.pie_params.specs.Params.{accumulates}
-use Rattle.pie_control.specs.Parts.{Parts}
+use Rattle.pie_control.specs.ControlState.{ControlState}
 use Rattle.pie_queue.specs.declared.ecn.Ecn.{Ecn}
 use Rattle.pie_queue.specs.Queue.{is_capable}
 use Rattle.pie_early.specs.declared.decision.Offered.{Offered}
@@ -31,7 +31,7 @@ always_picked = 8_500_000_000_000
 
 -- true if an arrival is considered: the burst allowance is 0, the queue holds more than two packets of the mean size,
 -- and the old delay is at least half the target or the probability at least 0.2
-unfoldable pub is_considered : RawParams → Parts → ℕ → Bool
+unfoldable pub is_considered : RawParams → ControlState → ℕ → Bool
 is_considered params control bytes =
     (control.burst == 0) && nat_lt (2 * params.mean_pkt) bytes
     && not (nat_lt (2 * control.old_delay) params.target && nat_lt control.prob a_fifth)
@@ -66,7 +66,7 @@ picked_choice params prob ecn = if is_capable ecn && nat_lt prob params.mark_ecn
 
 -- the choice for an arrival that fits into the queue, at the effective probability `prob`. Whether a picked packet is
 -- marked depends on the probability itself
-abbrev pub choice_at : Picking → RawParams → Parts → ℕ → ℕ → Ecn → ℕ → ℕ → Choice
+abbrev pub choice_at : Picking → RawParams → ControlState → ℕ → ℕ → Ecn → ℕ → ℕ → Choice
 choice_at picking params control prob bytes ecn word accu =
     if is_considered params control bytes && is_picked picking prob (accu + prob) word
     then picked_choice params control.prob ecn
@@ -74,28 +74,28 @@ choice_at picking params control prob bytes ecn word accu =
 
 -- the accumulated probability after such an arrival: unchanged if it is not considered; 0 if it is considered at
 -- probability 0 or picked; otherwise it grows by the probability
-abbrev pub accu_at : Picking → RawParams → Parts → ℕ → ℕ → ℕ → ℕ → ℕ
+abbrev pub accu_at : Picking → RawParams → ControlState → ℕ → ℕ → ℕ → ℕ → ℕ
 accu_at picking params control prob bytes word accu =
     if not (is_considered params control bytes) then accu
     else if (prob == 0) || is_picked picking prob (accu + prob) word then 0
     else joined picking accu prob
 
 -- the effective probability for this arrival
-abbrev pub effective_prob_of : Elements → RawParams → Parts → Offered → ℕ
+abbrev pub effective_prob_of : Elements → RawParams → ControlState → Offered → ℕ
 effective_prob_of elements params control offered = effective_prob elements.size params offered.size control.prob
 
 -- the choice for this arrival, and the accumulated probability after it
-abbrev pub choice_of : Elements → RawParams → Parts → Offered → ℕ → Choice
+abbrev pub choice_of : Elements → RawParams → ControlState → Offered → ℕ → Choice
 choice_of elements params control offered accu =
     choice_at elements.picking params control (effective_prob_of elements params control offered) offered.bytes offered.ecn offered.word accu
 
 -- the accumulated probability after one more arrival (5.4)
-abbrev pub accu_after : Elements → RawParams → Parts → Offered → ℕ → ℕ
+abbrev pub accu_after : Elements → RawParams → ControlState → Offered → ℕ → ℕ
 accu_after elements params control offered accu =
     accu_at elements.picking params control (effective_prob_of elements params control offered) offered.bytes offered.word accu
 
 -- the conditions for a pick as facts: the arrival is considered and picked, at the effective probability `prob`
-pub record IsPicked (picking : Picking) (params : RawParams) (control : Parts) (prob bytes word accu : ℕ) : Type 0 where
+pub record IsPicked (picking : Picking) (params : RawParams) (control : ControlState) (prob bytes word accu : ℕ) : Type 0 where
   pub no_burst : control.burst ≡ 0
   pub above_two_packets : 2 * params.mean_pkt < bytes
   pub not_low_delay : (params.target ≤ 2 * control.old_delay) ⊎ (a_fifth ≤ control.prob)

@@ -14,7 +14,7 @@ use pie_params::Params;
 pub struct Limits {
     /// The greatest number of packets in the ring: 1 to `2^20`.
     pub packets: u32,
-    /// The greatest number of events in the tail: 1 to 1048576.
+    /// The greatest number of events in the event log: 1 to 1048576.
     pub tail: u32,
     /// The greatest number of events in all: 1 to `2^47`.
     pub events: u64,
@@ -23,7 +23,7 @@ pub struct Limits {
 impl Limits {
     /// The greatest ring, in packets.
     pub const MAX_PACKETS: u32 = 1_048_576;
-    /// The longest tail, in events.
+    /// The longest event log, in events.
     pub const MAX_TAIL: u32 = 1_048_576;
     /// The greatest number of events: about 55 days of the smallest frames at 10 Gbit/s, each with its
     /// departure.
@@ -47,19 +47,19 @@ impl Limits {
     }
 }
 
-/// The behaviour of a full tail (this project's own).
+/// The behaviour of a full event log (this project's own).
 #[derive(Clone, Copy, Debug, PartialEq, Eq)]
 pub enum Mode {
-    /// A command that would add an event to a full tail is refused. Only folds remove events from the tail.
+    /// A command that would add an event to a full event log is refused. Only folds remove events from the event log.
     Bounded,
-    /// The oldest event of a full tail moves into the checkpoint. The caller does not receive it.
+    /// The oldest event of a full event log moves into the checkpoint. The caller does not receive it.
     Rolling,
 }
 
 /// Further choices of an opening, fixed for the life of the book (this project's own).
 #[derive(Clone, Copy, Debug, PartialEq, Eq)]
 pub struct Choices {
-    /// The behaviour of a full tail.
+    /// The behaviour of a full event log.
     pub mode: Mode,
     /// The times at which the controller is active.
     pub profile: Profile,
@@ -76,12 +76,12 @@ pub struct Opening {
     pub limits: Limits,
     /// The parameters.
     pub params: Params,
-    /// The behaviour of a full tail, the times at which the controller is active, and its optional elements.
+    /// The behaviour of a full event log, the times at which the controller is active, and its optional elements.
     pub choices: Choices,
 }
 
 impl Opening {
-    /// Returns an opening with the default choices: a bounded tail, profile one, and the default elements.
+    /// Returns an opening with the default choices: a bounded event log, profile one, and the default elements.
     pub fn usual(limits: Limits, params: Params, moment: u64) -> Opening
         ensures { result ≡ record { moment = moment; limits = limits; params = params; choices = record { mode = Bounded; profile = One; elements = usual } } }
     {

@@ -11,7 +11,7 @@ pub enum OpenRefusal {
     /// The opening moment is above `2^60 - 1`.
     #[error("moment out of range")]
     Moment,
-    /// There is no memory for the queue and the tail.
+    /// There is no memory for the queue and the event log.
     #[error("out of memory")]
     Memory,
 }
@@ -35,7 +35,7 @@ pub enum Refusal {
     /// The book has recorded the greatest number of events that its limits allow.
     #[error("no more events")]
     Exhausted,
-    /// The tail of a bounded book holds the greatest number of events that its limits allow.
+    /// The event log of a bounded book holds the greatest number of events that its limits allow.
     #[error("the tail is full")]
     HistoryFull,
 }
@@ -43,10 +43,10 @@ pub enum Refusal {
 /// The reason why a fold is refused (this project's own). The book is unchanged. The reasons are tested in this order.
 #[derive(Clone, Copy, Debug, PartialEq, Eq, Error)]
 pub enum FoldRefusal {
-    /// The tail holds fewer events than requested.
+    /// The event log holds fewer events than requested.
     #[error("the tail holds {held} events")]
     TooMany {
-        /// The number of events in the tail.
+        /// The number of events in the event log.
         held: u64,
     },
     /// There is no memory for the list of folded events.

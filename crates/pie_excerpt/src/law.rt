@@ -6,9 +6,6 @@ ghost use Rattle.pie_excerpt.specs.{version_of, ℕ};
 ghost use Rattle.std.specs.Prelude.{◌++◌, ◌∷◌, ◌≡◌};
 ghost use Rattle.pie_record.specs.declared.fault.RecordFault.TheVariants as flaw;
 
-use pie_book::{packets_of_a_core_are_taken, parts_decide_as_a_core};
-use pie_record::openings_are_checked;
-
 /// The law of records, for all numbers of their types (this project's own). The state of a core, with each register
 /// and statistic, and each waiting packet are read back from their records as they were written.
 ///
@@ -34,7 +31,7 @@ pub fn beginnings_are_written_again()
         → records_of (rows_text (take begun.records_read rows ++ more)) ≡ take begun.records_read rows ++ more }
     ensures opens { (rows : List Row) (begun : Beginning) → beginning_of rows ≡ Ok begun → IsWellBegun begun }
 {
-    openings_are_checked();
+    pie_record::law::openings_are_checked();
 }
 
 /// The law of whole histories. A text whose first record is an opening begins with the state of that opening (`begins`).
@@ -50,7 +47,7 @@ pub fn histories_begin_at_openings()
     ensures earlier { (row : Row) (rows : List Row) (begun : Beginning) → beginning_of (row ∷ rows) ≡ Ok begun → (begun.version ≡ Three → ⊥)
         → (opening_of row ≡ Ok begun.opening) × (begun ≡ opened_at (version_of row) begun.opening rows) }
 {
-    parts_decide_as_a_core();
+    pie_book::law::parts_decide_as_a_core();
 }
 
 /// The law of preambles. A text begins with the records of a core's numbers, and of the packets that wait in it. Then it
@@ -67,5 +64,5 @@ pub fn preambles_are_resumed()
     ensures continues { (opening : Opening) (core : CoreView) (past : List Event) (set_by : Option ℕ) (more : List Row) → IsWritten opening core set_by
         → Represents opening core past → Continues (rows_from opening core set_by more) opening past }
 {
-    packets_of_a_core_are_taken();
+    pie_book::law::packets_of_a_core_are_taken();
 }

@@ -6,22 +6,18 @@
 #![tactic(auto)]
 
 mod beginning;
-mod law;
+mod excerpt_text;
+pub mod law;
 mod number_ranges;
 mod preamble;
 mod reading;
 mod resume;
-mod round_trip;
 mod writing;
 
 pub use beginning::{TextBeginning, begin};
-pub use law::{
-    beginnings_are_written_again, histories_begin_at_openings, preambles_are_resumed,
-    records_are_read_back,
-};
+pub use excerpt_text::{add_queue, add_resume, resume_of_excerpt, write_excerpt};
 pub use number_ranges::{params_are_good, resume_fits};
 pub use preamble::fault_within;
 pub use reading::read_resume;
 pub use resume::Resume;
-pub use round_trip::{add_queue, add_resume, resume_of_excerpt, write_excerpt};
 pub use writing::{make_resume, put_queued};

@@ -10,7 +10,7 @@ use Rattle.pie_audit.specs.Text.{BeginsAtCore, remaining_of, text_fault}
 use Rattle.pie_audit.specs.declared.auditor.Finding.TheVariants.{Differs}
 use Rattle.pie_book.specs.Core.{CoreView, Represents, answer_in, core_after, refusal_of, registers_of}
 use Rattle.pie_book.specs.Decision.{decision, refusal_by_rule}
-use Rattle.pie_book.specs.Estimates.{delay_after}
+use Rattle.pie_book.specs.StateAfter.{delay_after}
 use Rattle.pie_book.specs.Statistics.{registers_after, wait_of}
 use Rattle.pie_book.specs.Book.{refused_or}
 use Rattle.pie_book.specs.Snapshot.{step_in}

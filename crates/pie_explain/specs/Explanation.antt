@@ -8,7 +8,7 @@ use Rattle.pie_event.specs.declared.command.Event.{Event}
 use Rattle.pie_event.specs.declared.opening.Opening.{Opening}
 use Rattle.pie_event.specs.Event.{effect_of, caller_moment, is_update}
 use Rattle.pie_book.specs.History.{effective_moment, waiting_after}
-use Rattle.pie_book.specs.Estimates.{delay_after}
+use Rattle.pie_book.specs.StateAfter.{delay_after}
 use Rattle.pie_book.specs.Statistics.{registers_after, count_of, wait_of}
 use Rattle.pie_book.specs.Decision.{cause_after}
 use Rattle.pie_record.specs.declared.clock.Clock.{Clock}

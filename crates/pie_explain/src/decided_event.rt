@@ -12,7 +12,7 @@ ghost use Rattle.pie_audit.specs.Replay.{AuditsFrom, difference_from, Origin, Re
 ghost use Rattle.pie_explain.specs.DecidedEvent.{DecidesAfter, DecidesEvent, ReadsTo, decision_at, decision_by, result_after, wait_if_decided};
 
 use crate::explanation::Explained;
-use pie_audit::{Replay, TextLines, begin_replay};
+use pie_audit::{Replay, TextLines, replay_text};
 use pie_book::{Command, Core, Event, Refusal};
 use pie_event::Setter;
 use pie_record::{Clock, Line, TraceFault};
@@ -187,7 +187,7 @@ pub fn decide_event<R: Read + Drop>(
 ) -> Result<Option<DecidedEvent>, TraceFault>
     ensures decides { IfSome (R.remaining reader) (λ text. DecidesEvent (records_of text) number result) }
 {
-    match begin_replay(alloc, reader) {
+    match replay_text(alloc, reader) {
         Ok(begun) => decide_after(begun.lines, begun.replay, number),
         Err(why) => Err(why),
     }

@@ -98,7 +98,7 @@ pub fn push_words(
 
 /// The report of explanations as CSV: a header row, and one record for each event.
 #[derive(Clone, Copy)]
-pub struct Records {
+pub struct EventRecords {
     /// With wall-clock times: each record has that of the effective moment as an additional last field.
     pub by_wall: bool,
 }
@@ -110,7 +110,7 @@ pub struct Words {
     pub by_wall: bool,
 }
 
-impl Report for Records {
+impl Report for EventRecords {
     type State = RecordWriter;
 
     ghost use Rattle.std.specs.Prelude.{⊤};

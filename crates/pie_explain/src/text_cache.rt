@@ -4,7 +4,7 @@ ghost use Rattle.pie_explain.specs.Record.{register_fields, onto, steady_fields}
 ghost use Rattle.std.specs.Prelude.{true};
 
 use pie_book::Registers;
-use pie_text::Row;
+use pie_text::RowBuffer;
 use std::marker::Model;
 
 /// The probabilities and the burst allowance that were put last, and the length of their text as fields of a row, each with a comma after it.
@@ -19,7 +19,7 @@ struct Steady {
 /// Leaves in `text` only the probabilities and the burst allowance of `numbers`. The text ends with those of `steady`, which stay where they did not
 /// change.
 #[inline(always)]
-fn begin(text: &mut Row, steady: &mut Steady, numbers: &Registers)
+fn begin(text: &mut RowBuffer, steady: &mut Steady, numbers: &Registers)
     requires ends { drop (length text.old - steady.old.len) text.old ≡ onto (steady_fields steady.old.prob steady.old.accu steady.old.burst) [] }
     requires within { steady.old.len ≤ length text.old }
     requires few { steady.old.len ≤ 63 }
@@ -51,7 +51,7 @@ pub(crate) struct Held {
     packets: u64,
     delay: u64,
     steady: Steady,
-    text: Row,
+    text: RowBuffer,
 }
 
 impl Model for Held {
@@ -72,7 +72,7 @@ impl Model for Held {
 impl Held {
     /// Returns the text of zeros.
     pub(crate) fn new() -> Held {
-        let mut text = Row::new();
+        let mut text = RowBuffer::new();
         text.prepend_number(0);
         text.prepend_number(0);
         text.prepend_number(0);

@@ -20,8 +20,8 @@ pub use Rattle.pie_book.proofs.CoreFacts.{at_place, departed-of-legal, first_sho
 unfoldable pub use Rattle.pie_book.proofs.Examples.{worked}
 pub use Rattle.pie_book.specs.Decision.{arrival_of, call_of, IsLegal, IsLegalAt, answer_by, decision, has_bad_size, is_too_soon, refusal_by_rule, refusal_with}
 pub use Rattle.pie_guarantees.specs.{active_after, delay_after, params_after, parts_after, bytes_after, effective_moment, waiting_after, count_of, is_dropped_bytes, is_dropped_packets, is_reset, Answer, Arrive, Command, Depart, DroppedEarly, Event, Marked, Opening, Packet, SetParams, Update, Waiting, Effect, effect_of, departure, is_update, AllAllow, Allows, IsAllowed, IsWhole, KeepsParams, SetsAllow, burst_left, updates_in, IsLawful, SetsInRange, IsActiveUpdate, IsSteady, least_rise, old_delay_after, probability_after, untuned_fall, untuned_rise, updates_from, updates_to_a_tenth, IsArrivalOf, IsEarly, MarksOnlyCapable, OnlyMarks, SparesCapable, is_early, RawParams, burst_begins, burst_continues, burst_opening, first_drop, lowered, lowered_opening, IsBetween, samples_after, flows_in_turn, flows_opening, half_is_reached, last_update}
-pub use Rattle.pie_book.specs.Estimates.{average_after, due_after}
-unfoldable pub use Rattle.pie_book.specs.Estimates.{state_after}
+pub use Rattle.pie_book.specs.StateAfter.{average_after, due_after}
+unfoldable pub use Rattle.pie_book.specs.StateAfter.{state_after}
 pub use Rattle.pie_book.specs.Statistics.{is_dropped_early, is_marked, is_queued}
 pub use Rattle.pie_book.specs.Core.{after_command, call_in, first_core, waiting_next}
 pub use Rattle.pie_book.specs.Types.{ArrivingPacket, Empty, Reset, Verdict}

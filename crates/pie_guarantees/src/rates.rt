@@ -2,7 +2,7 @@
 ghost use Rattle.std.specs.Prelude.{◌≡◌, ◌≤◌, ◌<◌, ◌*◌, ◌/◌, ◌^◌, min, All, List, ℕ, length};
 ghost use Rattle.pie_params.specs.declared.elements.Delay.TheVariants.{Rate};
 ghost use Rattle.pie_guarantees.specs.{Event, Opening, AtEachHistory, IsBetween, samples_after, bytes_after, delay_after, params_after};
-ghost use Rattle.pie_book.specs.Estimates.{average_after};
+ghost use Rattle.pie_book.specs.StateAfter.{average_after};
 
 /// The estimated time in which `dq_threshold` bytes depart lies between the shortest and the longest sample since
 /// the estimate was cleared, if there is a sample (`between`, RFC 8033, section 5.2). Without a sample it is 0

@@ -8,11 +8,10 @@
 //! and any other field a string. Fields have no quotes, so a comma always ends a field.
 #![tactic(auto)]
 
-mod law;
+pub mod law;
 mod object;
 mod report;
 mod rows;
 mod value;
 
-pub use law::rows_are_written_as_objects;
 pub use report::AsJson;

@@ -89,7 +89,7 @@ fn fold_one(alloc: Global, book: &mut Book) -> Seen {
     }
 }
 
-/// Folds one event from a full tail of a thousand, which requests memory for one.
+/// Folds one event from a full event log of a thousand, which requests memory for one.
 pub(crate) fn fold(rt: &impl Print, alloc: Global, name: &str) -> Seen {
     match full(alloc, 1000) {
         Some(mut book) => {
@@ -117,7 +117,7 @@ fn take_out(alloc: Global, book: &Book) -> Seen {
     }
 }
 
-/// Writes the text of an excerpt of a full tail of eight.
+/// Writes the text of an excerpt of a full event log of eight.
 pub(crate) fn excerpt(rt: &impl Print, alloc: Global, name: &str) -> Seen {
     match full(alloc, 8) {
         Some(book) => {

@@ -6,7 +6,8 @@ use std::alloc::Global;
 use std::io;
 use std::io::{Read, Write};
 
-/// Gives a first record with the default parameters, a ring of four packets and a tail of 16 events, and then one record without end.
+/// Gives a first record with the default parameters, a ring of four packets and an event log of 16 events, and then one record
+/// without end.
 #[derive(Drop)]
 pub(crate) struct Endless {
     /// The bytes that are left of the record that it gives now.
@@ -70,7 +71,7 @@ impl Write for Compared<'_> {
     }
 }
 
-/// Returns the history of 999 departures in a book whose tail has room for 16.
+/// Returns the history of 999 departures in a book whose event log has room for 16.
 pub(crate) fn departures(alloc: Global) -> io::Result<String> {
     let mut history = String::from_str(alloc, "open,0,4,16,100\n")?;
     for _ in 0..16 {

@@ -84,7 +84,7 @@ impl Decides for Core {
     }
 }
 
-/// Decides and records. The book is folded whenever its tail is full, unless it is rolling.
+/// Decides and records. The book is folded whenever its event log is full, unless it is rolling.
 impl Decides for Book {
     fn decide(&mut self, alloc: Global, command: Command) -> Option<Answer> {
         if self.tail_len() >= TAIL as usize && self.opening().choices.mode != Mode::Rolling {
@@ -165,7 +165,7 @@ fn time_book<R: Clock + Print>(to: &mut Report<R>, alloc: Global, name: &'static
 }
 
 /// Prints the time of one event that is decided only (`Core::step`), and of one that is decided and recorded (`Book::apply`): in a bounded book that
-/// is folded whenever its tail is full, and in a rolling one.
+/// is folded whenever its event log is full, and in a rolling one.
 pub fn measure<R: Clock + Print>(report: &mut Report<R>, alloc: Global) {
     if let Ok(mut core) = Core::open(alloc, LIMITS, Params::default_profile(), 0) {
         time(report, alloc, "decided", &mut core);

@@ -3,7 +3,7 @@
 
 use pie_audit::{Finding, write_finding};
 use pie_book::{Answer, Command, Event, Opening};
-use pie_explain::{EventChoice, ExplainFault, Explained, Records, Report, Selection, explain};
+use pie_explain::{EventChoice, EventRecords, ExplainFault, Explained, Report, Selection, explain};
 use pie_params::{Elements, Params};
 use pie_text::Page;
 use pie_trace::{TraceFault, migrate, run_trace, run_trace_within, write_history};
@@ -46,7 +46,8 @@ pub(crate) const HISTORY: &[u8] =
 
 const FAULT: &[u8] = b"open,0,4,16,100\ndep\n";
 
-/// Returns the opening of a rolling book with the default parameters and the usual elements, whose ring and tail hold four.
+/// Returns the opening of a rolling book with the default parameters and the usual elements, whose ring and event log hold
+/// four.
 fn opening() -> Opening {
     opening_for(4, Elements::usual(), Params::default_profile())
 }
@@ -80,7 +81,7 @@ fn is_write(fault: Option<TraceFault>) -> bool {
 }
 
 fn explained(alloc: Global, text: &[u8], writer: &mut Sink) -> bool {
-    let report = Records { by_wall: false };
+    let report = EventRecords { by_wall: false };
     let answer = explain(alloc, text, writer, Selection::of(EventChoice::All), report);
     matches!(answer, Err(ExplainFault::Trace(TraceFault::Write)))
 }

@@ -1,5 +1,5 @@
 //! Calls at a link, beside the same book behind `std::sync::Mutex` in the same run: both make the same `Book::apply` of the same commands. Both books
-//! are rolling, so that no tail is ever too full for an event. (Bursts at a link: bench/pie_link_c.sh.)
+//! are rolling, so that no event log is ever too full for an event. (Bursts at a link: bench/pie_link_c.sh.)
 ghost use Rattle.std.specs.Prelude.{◌≡◌};
 
 use crate::books::packet;

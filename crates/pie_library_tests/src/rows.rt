@@ -6,8 +6,7 @@ use crate::endless::{Compared, Endless, departures};
 use pie_book::{Answer, Book, Core, Event, Opening, Profile, Registers, Stats};
 use pie_fixed::Nanos;
 use pie_queue::ByteQueue;
-use pie_record::record::Record;
-use pie_record::records::Records;
+use pie_record::{Record, Records};
 use pie_trace::{HistoryLines, Line, RunEnd, TraceFault, run_trace, run_trace_within};
 use std::alloc::Global;
 use std::io;
@@ -99,7 +98,7 @@ impl Decides for Core {
     }
 }
 
-/// Folds the tail after each event, and tests that the checkpoint is the state of the book.
+/// Folds the event log after each event, and tests that the checkpoint is the state of the book.
 impl Decides for Book {
     fn open(alloc: Global, opening: &Opening) -> Option<Book> {
         Book::open_with(alloc, *opening).ok()

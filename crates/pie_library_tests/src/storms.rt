@@ -314,7 +314,7 @@ fn has_five_events<R: Threads + Wait + Sync>(
 }
 
 /// Returns true if the usual plan of two packets has five events, and six commands if an update is too soon. A plan whose ring has no room is not
-/// opened, and one whose tail has too little room is not sound, also with other faults.
+/// opened, and one whose event log has too little room is not sound, also with other faults.
 fn is_checked<R: Threads + Wait + Sync>(rt: &R, alloc: Global, mut plan: Plan) -> bool {
     let is_made = has_five_events(rt, alloc, &plan, 0);
     plan.limits.packets = 0;

@@ -11,7 +11,7 @@ use crate::entry::Entry;
 use crate::kept_book::KeptBook;
 use crate::refusal::LinkRefusal;
 use atomic_table::TableRule;
-use pie_book::{Book, Limits, OpenRefusal, Opening, registers_look_back};
+use pie_book::{Book, Limits, OpenRefusal, Opening};
 use pie_lock::{LockOpening, LockRule, OneNumber, Pass, RuledLock, SeatKnowledge, StillHeld};
 use pie_params::Params;
 use std::alloc::Global;
@@ -93,7 +93,7 @@ impl Link {
         if callers == 0 {
             return Err(LinkRefusal::NoCallers);
         }
-        registers_look_back();
+        pie_book::law::registers_look_back();
         match Link::lock_over(alloc, book, callers) {
             Some((lock, pass)) => Ok((Link { lock, alloc }, Caller { pass })),
             None => Err(LinkRefusal::Memory),

@@ -4,8 +4,7 @@ use crate::step::{Kind, QueueName, Step};
 use pie_linux::{LinuxParams, LinuxState, LinuxStats, MarkLimit};
 use pie_record::field::has_word;
 use pie_record::number::number;
-use pie_record::record::Record;
-use pie_record::{RecordFault, TraceFault};
+use pie_record::{Record, RecordFault, TraceFault};
 
 /// The number of columns that are read.
 const COUNT: usize = 52;

@@ -5,8 +5,7 @@ use crate::explained::{DecidedPacket, Decision, Explained};
 use crate::fault::StepsFault;
 use crate::queue::Queue;
 use crate::step::{Kind, QueueName, Step};
-use pie_record::RecordFault;
-use pie_record::record::Record;
+use pie_record::{Record, RecordFault};
 use std::alloc::Global;
 
 /// The numbers of a text.

@@ -8,7 +8,7 @@
 //! `Records` reads one record after another from any reader, and `HistoryLines` the opening and the lines of a history. Both use
 //! memory for one record and one page. A reader never returns `Write` (clause `input`).
 //!
-//! Crates above use these definitions through laws: `answers_are_read_back`, `requests_are_written_again`, `texts_are_read_back`,
+//! Crates above use these definitions through the laws in `law`: `answers_are_read_back`, `requests_are_written_again`, `texts_are_read_back`,
 //! `openings_are_checked`.
 #![tactic(auto)]
 
@@ -22,13 +22,13 @@ pub mod first_record;
 mod history_reader;
 mod history_record;
 mod input;
-mod law;
+pub mod law;
 mod long;
 pub mod number;
-pub mod record;
-pub mod records;
+mod record;
+mod records;
 mod scan;
-pub mod trace_record;
+mod trace_record;
 mod version;
 pub mod words;
 
@@ -37,8 +37,8 @@ pub use command::BadChange;
 pub use fault::{ExcerptFault, OpenFault, RecordFault, TraceFault, after_flush};
 pub use history_reader::HistoryLines;
 pub use history_record::{Line, line_of};
-pub use law::{
-    answers_are_read_back, lines_are_written_again, openings_are_checked,
-    requests_are_written_again, texts_are_read_back,
-};
+pub use record::Record;
+pub use records::{MAX_RECORDS, Records};
+pub use rows::{CHUNK, Rows, flushed};
+pub use trace_record::{Request, request_of};
 pub use version::Version;

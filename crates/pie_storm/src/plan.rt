@@ -105,7 +105,7 @@ impl Plan {
         count
     }
 
-    // Returns true if tail and events have room for all commands.
+    // Returns true if the limits of the event log and of events have room for all commands.
     fn has_room(&self) -> bool
         requires { senders self.now ≤ 8 }
         ensures { IsTrue result ↔ (planned self.now ≤ self.now.limits.tail) × (planned self.now ≤ self.now.limits.events) }

@@ -14,8 +14,8 @@ use crate::plan_numbers::StormNumbers;
 use crate::planning::plan_of;
 use crate::run::storm;
 use crate::storm_end::{StormEnd, StormFault};
-use pie_audit::{Auditor, Finding, clean_is_legal, clean_texts_are_legal, events_are_lines};
-use pie_book::{Event, OpenRefusal, Opening, all_numbers_fit};
+use pie_audit::{Auditor, Finding};
+use pie_book::{Event, OpenRefusal, Opening};
 use pie_record::{Line, TraceFault};
 use pie_text::write_history;
 use std::alloc::Global;
@@ -101,10 +101,10 @@ pub fn write_storm<W: Write>(
     ensures written { OnOk result (WritesHistory plan.now events.now (W.contents output.old) (W.contents output.new)) }
     ensures io { IfErr result IsWriteOrMemory }
 {
-    all_numbers_fit();
-    events_are_lines();
-    clean_is_legal();
-    clean_texts_are_legal();
+    pie_book::law::all_numbers_fit();
+    pie_audit::law::events_are_lines();
+    pie_audit::law::clean_is_legal();
+    pie_audit::law::clean_texts_are_legal();
     let opening = plan.opening();
     let auditor = match auditor_of(alloc, &opening, events) {
         Ok(auditor) => auditor,

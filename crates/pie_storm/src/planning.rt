@@ -217,7 +217,7 @@ fn folds_of(alloc: Global, senders: u64, packets: u64, folds: u64) -> Result<Vec
 ///   hundredths of it.
 /// - There is an update at each due moment while packets arrive.
 /// - The changes are spread evenly over that time, to a target of 5 ms and back in turn.
-/// - The total of the folds is about the number of packets. The tail has room for all events, so that no fold is
+/// - The total of the folds is about the number of packets. The event log has room for all events, so that no fold is
 ///   needed.
 ///
 /// # Errors

@@ -16,7 +16,7 @@ use crate::plan::Plan;
 use crate::storm_end::{StormEnd, StormFault};
 use crate::worker::{Folding, Work, make_calls};
 use pie_book::{Book, Event, Recorded};
-use pie_link::{Caller, Link, LinkRefusal, entries_look_back};
+use pie_link::{Caller, Link, LinkRefusal};
 use std::alloc::Global;
 use std::sync::Wait;
 use std::thread;
@@ -167,7 +167,7 @@ fn both(link: &Link, plan: &Plan, work: Work, last: Work) -> Work
     requires beside { last.caller.first ≡ work.caller.limit }
     ensures { (n : ℕ) → IsWorkBelow link.now plan.now n work → IsWorkOf link.now plan.now n last → IsWorkBelow link.now plan.now (n + 1) result }
 {
-    entries_look_back();
+    pie_link::law::entries_look_back();
     let number = last.caller.first();
     let too_soon = too_soon(plan, number, last.passed, work.too_soon);
     let mut folding = last.folding;

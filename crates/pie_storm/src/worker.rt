@@ -7,7 +7,7 @@ ghost use Rattle.pie_storm.specs.Storms.{AddedByAll, Begins, IsAt, IsFor, IsWell
 use crate::gate::Gate;
 use crate::plan::{Call, Plan};
 use pie_book::{Answer, Command, FoldRefusal, Recorded, Refusal};
-use pie_link::{Caller, Link, Told, entries_look_back};
+use pie_link::{Caller, Link, Told};
 use std::alloc::Global;
 use std::sync::Wait;
 
@@ -146,7 +146,7 @@ fn send_next<R: Wait>(
     requires there { k + count ≤ length (calls_of plan.now number) }
     ensures { TakesTurn link.now plan.now number k count caller.old caller.new folding.old folding.new result }
 {
-    entries_look_back();
+    pie_link::law::entries_look_back();
     let burst = plan.burst(number, k, count);
     folding.replies.clear();
     let Ok(()) = link.arrive_all(rt, caller, burst, &mut folding.replies) else {
@@ -178,7 +178,7 @@ fn make_turn<R: Wait>(
     if plan.turn(number) > 1 {
         return send_next(rt, link, plan, number, caller, folding, k, count);
     }
-    entries_look_back();
+    pie_link::law::entries_look_back();
     match plan.call(number, k) {
         Some(Call::Apply(command)) => added_by(&apply(rt, link, caller, &command)),
         Some(Call::Fold(n)) => folding.take_in(link.fold(rt, caller, n)),

@@ -6,8 +6,8 @@ use Rattle.std.specs.Fmt.{char_count, decimal, format_spec, padded_integral}
 use Rattle.std.specs.List.{repeat}
 use Rattle.pie_summary.proofs.SumsFacts.{sum-push, place_of, places-push}
 use Rattle.pie_summary.specs.Interval.{ends_at}
-use Rattle.pie_summary.specs.Lines.{lines_of, number_cell}
-use Rattle.pie_summary.specs.declared.lines.IntervalLines.{IntervalLines}
+use Rattle.pie_summary.specs.IntervalLines.{lines_of, number_cell}
+use Rattle.pie_summary.specs.declared.interval_lines.IntervalLines.{IntervalLines}
 
 -- copies of one byte
 pub copies : (n byte : ℕ) → repeat n (byte ∷ []) ≡ replicate n byte

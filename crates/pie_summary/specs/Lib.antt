@@ -7,7 +7,7 @@ pub mod Words
 pub mod Record
 pub mod LiveInterval
 pub mod Summary
-pub mod Lines
+pub mod IntervalLines
 pub mod FlowSums
 pub mod Flows
 pub mod FlowWords

@@ -9,7 +9,7 @@ use Rattle.pie_explain.specs.Output.{clock_for, header_of}
 use Rattle.pie_explain.specs.Choice.{chooses}
 use Rattle.pie_explain.specs.Words.{words_by}
 use Rattle.pie_summary.specs.declared.interval.Interval.{Interval}
-use Rattle.pie_summary.specs.declared.summary.Summaries.{Summaries}
+use Rattle.pie_summary.specs.declared.summary.Digest.{Digest}
 use Rattle.pie_summary.specs.declared.summaries_only.SummariesOnly.{SummariesOnly}
 use Rattle.pie_summary.specs.declared.interval.Sums.{Sums}
 use Rattle.pie_summary.specs.Interval.{Keeps, at_end, at_last}
@@ -37,23 +37,23 @@ abbrev pub is_lost_or_marked : Explained → Bool
 is_lost_or_marked one = chooses Lost one.explanation.number one.explanation.event || chooses Marked one.explanation.number one.explanation.event
 
 -- the words for an event by itself, if packets are explained and the event lost or marked one
-unfoldable pub event_words : Summaries → Explained → List ℕ
+unfoldable pub event_words : Digest → Explained → List ℕ
 event_words summary one = if summary.packets && is_lost_or_marked one then words_by (clock_for summary.form one.explanation.clock) one else []
 
 -- the output at an event: the summary of the interval before, if the event begins another, and then the words for the event by itself
-abbrev pub written_at : Summaries → Place Explained → List ℕ
+abbrev pub written_at : Digest → Place Explained → List ℕ
 written_at summary place = at_end summary.every (summary_text_of summary.form) place ++ event_words summary place.event
 
 -- the output before the end: the header, and the output at each of these events
-abbrev pub summaries : Summaries → List Explained → List ℕ
+abbrev pub summaries : Digest → List Explained → List ℕ
 summaries summary all = header summary.form ++ flat_map (written_at summary) (places all)
 
 -- the whole output: the output before the end, and a summary of the last interval
-abbrev pub summary_of : Summaries → List Explained → List ℕ
+abbrev pub summary_of : Digest → List Explained → List ℕ
 summary_of summary all = summaries summary all ++ at_last summary.every (summary_text_of summary.form) all
 
--- the `Summaries` with the same text
-abbrev pub without_packets : SummariesOnly → Summaries
+-- the `Digest` with the same text
+abbrev pub without_packets : SummariesOnly → Digest
 without_packets it = record { form = it.form; every = it.every; packets = false }
 
 -- the state of an interval after these events: their numbers, and their waiting times
@@ -61,5 +61,5 @@ pub record HoldsSums (interval : Interval) (all : List Explained) : Type 0 where
   pub sums : interval.sums ≡ sums_of all
   pub waits : interval.waits.value ≡ waits_of all
 
-abbrev pub keeps : Summaries → Interval → List Explained → Type 0
+abbrev pub keeps : Digest → Interval → List Explained → Type 0
 keeps summary interval all = Keeps (HoldsSums interval) summary.every interval.number all

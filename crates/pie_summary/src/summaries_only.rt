@@ -2,27 +2,27 @@
 ghost use Rattle.std.specs.Prelude.{◌≡◌, false};
 
 use crate::interval::{Interval, interval_of};
-use crate::summary::{Summaries, enter};
+use crate::summary::{Digest, enter};
 use crate::words::Written;
 use pie_explain::{Explained, Form, Report};
 use pie_text::Page;
 use std::alloc::AllocError;
 
-/// `Summaries` without packets. They read a few numbers of each event, and the compiler omits the others.
+/// `Digest` without packets. They read a few numbers of each event, and the compiler omits the others.
 #[derive(Clone, Copy)]
 pub struct SummariesOnly {
     /// The form of the summaries.
     pub form: Form,
-    /// The length of an interval, as in `Summaries`.
+    /// The length of an interval, as in `Digest`.
     pub every: Option<u64>,
 }
 
 impl SummariesOnly {
-    /// Returns the `Summaries` with the same text.
-    fn summary(self) -> Summaries
+    /// Returns the `Digest` with the same text.
+    fn digest(self) -> Digest
         ensures { result ≡ record { form = self.form; every = self.every; packets = false } }
     {
-        Summaries {
+        Digest {
             form: self.form,
             every: self.every,
             packets: false,
@@ -47,7 +47,7 @@ impl Report for SummariesOnly {
     }
 
     fn begin(&self, page: &mut Page) -> Result<Interval, AllocError> {
-        self.summary().begin(page)
+        self.digest().begin(page)
     }
 
     #[inline(always)]
@@ -60,6 +60,6 @@ impl Report for SummariesOnly {
     }
 
     fn end(&self, state: &Interval, page: &mut Page) -> Written {
-        self.summary().end(state, page)
+        self.digest().end(state, page)
     }
 }

@@ -18,7 +18,7 @@ use std::alloc::AllocError;
 /// of the controller's activity. There is one of all events, also if there is none, or one of each interval that has some; each is written when its
 /// last event is known.
 #[derive(Clone, Copy)]
-pub struct Summaries {
+pub struct Digest {
     /// In words, or as CSV: a header row, and one record for each summary. With wall-clock times a line of words
     /// has those of the first and the last event that has one, and a record has that of the first as its last
     /// field.
@@ -109,13 +109,13 @@ fn is_lost_or_marked(explained: &Explained) -> bool
 
 /// Writes the words for an event that lost or marked a packet, if packets are explained.
 #[tactic(auto, unfolding(crate::specs::Summary::event_words))]
-fn push_event_words(page: &mut Page, summary: &Summaries, explained: &Explained) -> Written
-    ensures { OnOk result (page.new ≡ page.old ++ event_words summary.now explained.now) }
+fn push_event_words(page: &mut Page, digest: &Digest, explained: &Explained) -> Written
+    ensures { OnOk result (page.new ≡ page.old ++ event_words digest.now explained.now) }
 {
-    if summary.packets && is_lost_or_marked(explained) {
+    if digest.packets && is_lost_or_marked(explained) {
         pie_explain::push_words(
             page,
-            summary.form.clock(explained.explanation.clock),
+            digest.form.clock(explained.explanation.clock),
             explained,
         )
     } else {
@@ -123,7 +123,7 @@ fn push_event_words(page: &mut Page, summary: &Summaries, explained: &Explained)
     }
 }
 
-impl Report for Summaries {
+impl Report for Digest {
     type State = Interval;
 
     ghost use Rattle.pie_summary.specs.Summary.{keeps, summaries, summary_of};

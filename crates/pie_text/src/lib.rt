@@ -1,8 +1,8 @@
 //! Records of a history as plain bytes: the opening, an event, a refusal, a fold, the registers, the statistics and
-//! the clock, each built in a `Row`. The bytes are the text that pie_record's definitions give. A program that
+//! the clock, each built in a `RowBuffer`. The bytes are the text that pie_record's definitions give. A program that
 //! makes records calls this crate; pie_record copies records that were read.
 //!
-//! A `Row` is filled from its last field to its first, a `LongRow` from its first to its last. Neither allocates
+//! A `RowBuffer` is filled from its last field to its first, a `LongRow` from its first to its last. Neither allocates
 //! memory. A `Page` contains the bytes and words that were added to it, in their order, until they are written out.
 //!
 //! `write_history`: the output is the opening's record and a record for each event (clause `written`), and it is
@@ -11,25 +11,24 @@
 
 mod event;
 mod event_end;
-mod law;
+pub mod law;
 mod long_row;
 mod note;
 mod number_ranges;
 mod opening;
 mod page;
 mod params;
-mod row;
+mod row_buffer;
 mod words;
 mod write;
 
 pub use event::{put_arrival, put_empty, put_event, put_left, put_reset, put_update};
 pub use event_end::put_event_end;
-pub use law::lost_records_are_faults;
 pub use long_row::{LongRow, push_numbers};
 pub use note::{put_clock, put_folded, put_lost, put_refused, put_shown, put_tallied};
 pub use opening::put_opening;
 pub use page::Page;
 pub use params::put_params;
-pub use row::Row;
+pub use row_buffer::RowBuffer;
 pub use words::{put_ecn, put_last, put_number};
 pub use write::write_history;

@@ -5,8 +5,7 @@ ghost use Rattle.pie_record.specs.Field.{IsWriteOrMemory};
 ghost use Rattle.pie_record.specs.Text.{text_of};
 ghost use Rattle.pie_record.specs.declared.fault.TraceFault.{TraceFault};
 
-use pie_record::TraceFault;
-use pie_record::record::Record;
+use pie_record::{Record, TraceFault};
 use std::alloc::{AllocError, Global};
 use std::io::Write;
 use std::marker::Model;

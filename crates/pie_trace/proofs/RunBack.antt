@@ -14,7 +14,7 @@ use Rattle.pie_event.specs.declared.refusal.Refusal.TheVariants as refusal
 use Rattle.pie_record.specs.declared.trace_record.Request.TheVariants as request
 use Rattle.pie_record.specs.declared.history_record.Line.TheVariants as line
 
--- the state of a run: its history is legal, fits its types, and contains the events of the tail
+-- the state of a run: its history is legal, fits its types, and contains the events of the event log
 pub record Sound (opening : Opening) (progress : Progress) : Type 0 where
   pub legal : IsLegal opening progress.history
   pub fit : All (λ event. CommandFits event.command) progress.history

@@ -1,5 +1,5 @@
 pub mod Names
-pub mod History
+pub mod HistoryText
 pub mod Runs
 pub mod Migrate
-unfoldable pub use Rattle.pie_trace.specs.{Names.*, History.*, Runs.*, Migrate.*}
+unfoldable pub use Rattle.pie_trace.specs.{Names.*, HistoryText.*, Runs.*, Migrate.*}

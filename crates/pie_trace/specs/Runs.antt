@@ -2,7 +2,7 @@
 -- running core, with or without a history that leads to it.
 use Rattle.pie_trace.specs.Names.{Answer, Apply, BadParams, CoreView, Err, Fold, List, Ok, Opening, Progress, Refusal, Request, Result, Row, Show, Tally, Version, [], apply_in, code_of_fold, code_of_params, core_after, nat_lt, registers_of, rows_text, ℕ, Appends, BookRepresents, BookView, None, Option, Some, TraceFault, cond, false, is_io_or_memory, length, opening_refusal, request_of, text_of, Beginning, Event, RecordFault, Represents, and_then, beginning_of, progress_after, take}
 use Rattle.pie_book.specs.Book.{tail_length_after_fold, tail_length_with_one}
-use Rattle.pie_trace.specs.History.{before_fault, end_at, end_left, history_rows, refused_count, requests_of, text_left, first_fault, end_in, fault_in, resumed_progress, steps_of, text_in, Reply, after, clocked, fold_reply, refused, reply, reply_to_command, shown, tallied, history_row, is_refused}
+use Rattle.pie_trace.specs.HistoryText.{before_fault, end_at, end_left, history_rows, refused_count, requests_of, text_left, first_fault, end_in, fault_in, resumed_progress, steps_of, text_in, Reply, after, clocked, fold_reply, refused, reply, reply_to_command, shown, tallied, history_row, is_refused}
 use Rattle.pie_trace.specs.declared.run.RunEnd.{RunEnd}
 use Rattle.std.specs.Prelude.{if◌then◌else◌, ◌+◌, ◌∷◌, ◌≡◌, ◌++◌, ◌==◌}
 use Rattle.pie_record.specs.declared.trace_record.Request.TheVariants as request
@@ -14,7 +14,7 @@ use Rattle.pie_record.specs.declared.fault.TraceFault.TheVariants as fault
 
 -- ---- a running core
 
--- the core that decides the next command, and the number of events in the tail
+-- the core that decides the next command, and the number of events in the event log
 pub record Running : Type 0 where
   pub core : CoreView
   pub tail_length : ℕ
@@ -131,7 +131,7 @@ pub record IsAt (book : BookView) (opening : Opening) (progress : Progress) : Ty
   pub book_represents : BookRepresents book progress.history
   pub tail_length : length book.tail ≡ progress.tail_length
 
--- a book runs with this core from this opening, and its tail has this number of events
+-- a book runs with this core from this opening, and its event log has this number of events
 pub record IsRunning (book : BookView) (opening : Opening) (it : Running) : Type 0 where
   pub opened : book.opening ≡ opening
   pub accepted : opening_refusal opening.limits opening.moment ≡ None
@@ -216,7 +216,7 @@ progress_resumed max_records past begun =
 -- ---- the run of a text
 
 -- the possible states of a run before the records after the beginning, if the beginning has no fault: at its core,
--- whatever its numbers are; and after every history that leads to this core, with an empty tail
+-- whatever its numbers are; and after every history that leads to this core, with an empty event log
 abbrev pub CanPrecede : ℕ → List Row → RunState → Type 0
 CanPrecede max_records rows (looking_back progress) = (past : List Event) × (progress ≡ resumed_progress past)
     × ((begun : Beginning) → beginning_within max_records rows ≡ Ok begun → Represents begun.opening begun.core past)

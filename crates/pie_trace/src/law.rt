@@ -5,26 +5,17 @@ ghost use Rattle.pie_text.specs.Plain.{lost_row};
 ghost use Rattle.pie_trace.specs.{All, Clean, Event, HaveSameLines, IsHistoryText, List, None, Ok, Opening, Beginning, Continues, Promises, Request, Row, Some, before_fault, end_of, fault_of, first_in_two, fold_reply, history_fault, history_lines, history_opening, history_text, history_version, length, migrated_text, migrated_version, opening_of, progress_after, progress_at_end, progress_resumed, records_of, replies, requests_of, end_of_run, fault_of_run, resumed_progress, text_of_run, beginning_within, run_lines, start, steps_of, text_finding, version_of, whole_begun, ℕ, declared.run.RunEnd.RunEnd};
 ghost use Rattle.std.specs.Prelude.{◌++◌, ◌<◌, ◌^◌, ◌∷◌, ◌≡◌, ◌≢◌, ◌≤◌};
 
-use pie_audit::{
-    clean_is_legal, clean_texts_are_legal, events_are_lines, written_excerpts_are_read,
-};
-use pie_book::{all_numbers_fit, profile_one_is_always_active};
-use pie_excerpt::{beginnings_are_written_again, histories_begin_at_openings};
-use pie_record::{
-    answers_are_read_back, openings_are_checked, requests_are_written_again, texts_are_read_back,
-};
-
 /// The promises of the lower crates about all histories and all records.
 ///
 /// The function does nothing: its contract is the law.
 pub(crate) fn promises_hold()
     ensures { Promises }
 {
-    all_numbers_fit();
-    answers_are_read_back();
-    openings_are_checked();
-    requests_are_written_again();
-    texts_are_read_back();
+    pie_book::law::all_numbers_fit();
+    pie_record::law::answers_are_read_back();
+    pie_record::law::openings_are_checked();
+    pie_record::law::requests_are_written_again();
+    pie_record::law::texts_are_read_back();
 }
 
 /// The law of reading back. `HistoryLines` reads the output of `run_trace`. Let the first record of a trace open a
@@ -41,7 +32,7 @@ pub fn history_texts_are_read_back()
 }
 
 /// The law of excerpts: the run of an excerpt gives the answers of the whole from there on. Let a whole trace have
-/// some requests, then a fold of all events of its tail, and then further requests. The further requests have the
+/// some requests, then a fold of all events of its event log, and then further requests. The further requests have the
 /// answers of the run that continues after the history so far, and both runs end in the same state (this project's
 /// own).
 ///
@@ -63,7 +54,7 @@ pub fn whole_traces_begin_at_openings()
     ensures { (max_records : ℕ) (row : Row) (rows : List Row) (opening : Opening) → opening_of row ≡ Ok opening
         → beginning_within max_records (row ∷ rows) ≡ whole_begun max_records (row ∷ rows) }
 {
-    histories_begin_at_openings();
+    pie_excerpt::law::histories_begin_at_openings();
 }
 
 /// The law of clean runs. The finding of a trace's history text is `Clean`, with the number of events that the run
@@ -79,7 +70,7 @@ pub fn runs_are_clean()
         ≡ Ok (Clean (length (progress_at_end opening (requests_of (version_of row) (before_fault (version_of row) max_records 2 rows))).history)) }
 {
     promises_hold();
-    clean_is_legal();
+    pie_audit::law::clean_is_legal();
     history_texts_are_read_back();
 }
 
@@ -98,10 +89,10 @@ pub fn continued_runs_are_clean()
         → IsFound (text_of_run max_records past rows) opening past (Clean (length (progress_resumed max_records past begun).history)) }
 {
     promises_hold();
-    beginnings_are_written_again();
-    clean_texts_are_legal();
-    events_are_lines();
-    written_excerpts_are_read();
+    pie_excerpt::law::beginnings_are_written_again();
+    pie_audit::law::clean_texts_are_legal();
+    pie_audit::law::events_are_lines();
+    pie_audit::law::written_excerpts_are_read();
 }
 
 /// The law of lost events in texts. If a text has a record of lost events, every reader of the text finds a fault. So no
@@ -111,7 +102,7 @@ pub fn continued_runs_are_clean()
 pub fn lost_records_are_faults_of_texts()
     ensures { (count : ℕ) (before after : List Row) → text_fault (before ++ lost_row count ∷ after) ≢ None }
 {
-    beginnings_are_written_again();
+    pie_excerpt::law::beginnings_are_written_again();
 }
 
 /// The law of migrated histories. `HistoryLines` reads the output of `migrate`. The migrated text of every history
@@ -127,7 +118,7 @@ pub fn migrated_histories_are_read_back()
         → history_version (records_of (migrated_text (2 ^ 32) rows)) ≡ migrated_version (history_version rows) }
     ensures same { (text : List ℕ) → history_fault (2 ^ 32) (records_of text) ≡ None → HaveSameLines text (migrated_text (2 ^ 32) (records_of text)) }
 {
-    texts_are_read_back();
+    pie_record::law::texts_are_read_back();
 }
 
 /// The law of a second migration: a migrated history is migrated to itself.
@@ -137,7 +128,7 @@ pub fn migrated_histories_are_read_back()
 pub fn migrating_again_changes_nothing()
     ensures { (rows : List Row) → migrated_text (2 ^ 32) (records_of (migrated_text (2 ^ 32) rows)) ≡ migrated_text (2 ^ 32) rows }
 {
-    texts_are_read_back();
+    pie_record::law::texts_are_read_back();
 }
 
 /// The history text of a run, migrated, is that of the run of the same trace with its first record in version two. For a trace of version one, that
@@ -150,7 +141,7 @@ pub fn migrated_runs_are_runs_of_version_two()
         → migrated_text (2 ^ 32) (records_of (history_text max_records (row ∷ rows))) ≡ history_text max_records (first_in_two row ∷ rows) }
 {
     promises_hold();
-    profile_one_is_always_active();
+    pie_book::law::profile_one_is_always_active();
 }
 
 /// The finding of a history without a fault is that of its migrated text, in each version.

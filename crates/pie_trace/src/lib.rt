@@ -7,7 +7,7 @@
 //! the result is `Read`, `Write` or `Memory`, it is `Ok` exactly if the text has no fault, otherwise the first fault. An
 //! `Ok` has the numbers, registers and statistics of the run. The output is the history text. The calls end even if the
 //! reader never ends. Take any history that leads to the state at the text's beginning: result and output are those of
-//! the whole from there on, with an empty tail.
+//! the whole from there on, with an empty event log.
 //!
 //! `history_texts_are_read_back`: the output of a run is read back as the same opening and events.
 //!
@@ -20,18 +20,12 @@
 //! The output of a run of an excerpt is clean, with the events before it (`continued_runs_are_clean`).
 #![tactic(auto)]
 
-mod law;
+pub mod law;
 mod migration;
 mod run;
 mod run_start;
 mod session;
 
-pub use law::{
-    continued_runs_are_clean, history_texts_are_read_back, lost_records_are_faults_of_texts,
-    migrated_histories_are_read_back, migrated_runs_are_runs_of_version_two,
-    migrating_again_changes_nothing, migration_keeps_the_finding, resumed_runs_continue_the_whole,
-    runs_are_clean,
-};
 pub use migration::migrate;
 pub use pie_book::Opening;
 pub use pie_record::{HistoryLines, Line, OpenFault, RecordFault, TraceFault, Version};

@@ -121,8 +121,8 @@ can_stall tuning params =
 
 -- ---- The opening
 
--- a rolling book of profile one at moment 0 with these parameters and elements; its ring and its tail hold `packets`
--- packets and events, and the number of events has the greatest limit
+-- a rolling book of profile one at moment 0 with these parameters and elements; its ring and its event log hold
+-- `packets` packets and events, and the number of events has the greatest limit
 abbrev pub opening_for : ℕ → Elements → RawParams → Opening
 opening_for packets elements params = record {
   moment = 0;

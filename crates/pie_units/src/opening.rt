@@ -7,12 +7,12 @@ ghost use Rattle.pie_units.specs.Opening.{opening_for};
 
 use pie_event::{Choices, Limits, Mode, Opening, Profile};
 use pie_params::{Elements, Params};
-use pie_text::{Row, put_opening};
+use pie_text::{RowBuffer, put_opening};
 use std::io;
 use std::io::Write;
 
 /// Returns the opening of a rolling book of profile one at moment 0 with these parameters and elements. Its ring and
-/// its tail hold `packets` packets and events. The number of events is limited only by the greatest limit.
+/// its event log hold `packets` packets and events. The number of events is limited only by the greatest limit.
 pub fn opening_for(packets: u32, elements: Elements, params: Params) -> Opening
     ensures { result ≡ opening_for packets elements params }
 {
@@ -42,7 +42,7 @@ pub fn opening_for(packets: u32, elements: Elements, params: Params) -> Opening
 pub fn write_opening<W: Write>(opening: &Opening, output: &mut W) -> io::Result<()>
     ensures { OnOk result (Appends (W.contents output.old) (W.contents output.new) (text_of (opening_row opening.now))) }
 {
-    let mut row = Row::new();
+    let mut row = RowBuffer::new();
     put_opening(&mut row, opening);
     output.write_all(row.as_bytes())?;
     output.flush()

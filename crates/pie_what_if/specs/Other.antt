@@ -10,7 +10,7 @@ use Rattle.std.specs.Prelude.{if◌then◌else◌, ◌&&◌, ◌||◌, ◌++◌,
 
 -- ---- one command
 
--- the refusal of a command after these events, without regard to a tail
+-- the refusal of a command after these events, without regard to an event log
 abbrev pub refusal_at : Origin → List Event → Command → Option Refusal
 refusal_at (at_opening opening) before command = refusal_by_rule opening before command
 refusal_at (at_core opening first set_by) before command = refusal_of (core_along first before) command

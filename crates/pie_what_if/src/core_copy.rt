@@ -2,7 +2,7 @@
 ghost use Rattle.std.specs.Prelude.{◌≡◌, IfErr, IfOk};
 ghost use Rattle.pie_record.specs.declared.fault.TraceFault.{TraceFault};
 
-use pie_book::{Core, Limits, packets_of_a_core_are_taken};
+use pie_book::{Core, Limits};
 use pie_record::TraceFault;
 use std::alloc::Global;
 

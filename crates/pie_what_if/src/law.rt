@@ -12,10 +12,6 @@ ghost use Rattle.pie_what_if.specs.Result.{other_text};
 ghost use Rattle.pie_what_if.specs.declared.alteration.Alteration.{Alteration};
 ghost use Rattle.std.specs.Prelude.{All, List, None, Ok, [], false, take, ◌++◌, ◌∷◌, ◌≡◌};
 
-use pie_book::all_numbers_fit;
-use pie_excerpt::histories_begin_at_openings;
-use pie_record::lines_are_written_again;
-
 /// The law of other histories. If the events before a text are legal, all events of the other history are legal, whatever
 /// the alteration and the lines of the text are.
 ///
@@ -24,7 +20,7 @@ pub fn other_histories_are_legal()
     ensures { (alteration : Alteration) (opening : Opening) (past : List Event) (lines : List ReadLine) → IsLegal opening past
         → IsLegal opening (point_at_end alteration (first_point opening past) lines).events }
 {
-    all_numbers_fit();
+    pie_book::law::all_numbers_fit();
 }
 
 /// The law of unaltered histories. If no parameter changes, the other history of a legal text without a fault has the
@@ -41,6 +37,6 @@ pub fn unaltered_histories_are_written_again()
         → IsLegal opening (events_of (text_lines (row ∷ rows)))
         → other_text alteration (first_point opening []) (row ∷ rows) ≡ rows_text (row ∷ rows) }
 {
-    histories_begin_at_openings();
-    lines_are_written_again();
+    pie_excerpt::law::histories_begin_at_openings();
+    pie_record::law::lines_are_written_again();
 }

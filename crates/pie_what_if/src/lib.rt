@@ -10,13 +10,12 @@ mod core_copy;
 mod decider;
 mod decision;
 mod fault;
-mod law;
+pub mod law;
 mod other_params;
 mod pass;
 
 pub use alteration::Alteration;
 pub use decider::WhatIfEnd;
 pub use fault::WhatIfFault;
-pub use law::{other_histories_are_legal, unaltered_histories_are_written_again};
 pub use other_params::OtherParams;
 pub use pass::what_if;

@@ -1,9 +1,9 @@
 //! The page of `pie advise`: its arguments and its help.
 
-use crate::options::argument::{Argument, Page, ValueKind, row};
+use crate::options::argument::{Argument, HelpPage, ValueKind, row};
 
 /// The page of `pie advise`.
-pub(crate) const ADVISE: Page<'static> = Page {
+pub(crate) const ADVISE: HelpPage<'static> = HelpPage {
     word: "advise",
     about: "Advises on the parameters of a queue for a link",
     help: "RATE is written as for pie params, such as 20mbit. RANGE is a value, or the least and the greatest one

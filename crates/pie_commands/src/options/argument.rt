@@ -36,7 +36,7 @@ pub(crate) struct Argument {
 
 /// The page of a subcommand: its name, help and arguments.
 #[derive(Clone, Copy)]
-pub(crate) struct Page<'a> {
+pub(crate) struct HelpPage<'a> {
     /// Its name on the command line.
     pub(crate) word: &'a str,
     /// Its purpose, in one line.

@@ -4,7 +4,7 @@ ghost use Rattle.clap.specs.Words.{App, Rule, app_of, new_app, new_rule, with_ru
 ghost use Rattle.pie_commands.specs.Words.{rule_for, Wants, word_of, adds, app_for, pie_alone, pie_app, rules_for, with_rules, with_subcommands};
 
 use crate::options::advise_page::ADVISE;
-use crate::options::argument::{Argument, Page, arg_of};
+use crate::options::argument::{Argument, HelpPage, arg_of};
 use crate::options::history_pages::{AUDIT, CUT, EXPLAIN, MIGRATE};
 use crate::options::subcommand::Subcommand;
 use crate::options::trace_pages::{PARAMS, RUN, STORM};
@@ -64,7 +64,7 @@ fn command_of<'a>(
 }
 
 /// Returns the page of a subcommand.
-fn page_of<'a>(subcommand: Subcommand) -> Page<'a>
+fn page_of<'a>(subcommand: Subcommand) -> HelpPage<'a>
     ensures word { result.word.now ≡ word_of subcommand }
     ensures arguments { map rule_for result.arguments.now ≡ rules_for subcommand }
 {

@@ -1,9 +1,9 @@
 //! The pages of `pie audit`, `pie explain`, `pie cut` and `pie migrate`: their arguments and their help.
 
-use crate::options::argument::{Argument, FILE, FORCE, OUTPUT, PROGRESS, Page, ValueKind, row};
+use crate::options::argument::{Argument, FILE, FORCE, HelpPage, OUTPUT, PROGRESS, ValueKind, row};
 
 /// The page of `pie audit`.
-pub(crate) const AUDIT: Page<'static> = Page {
+pub(crate) const AUDIT: HelpPage<'static> = HelpPage {
     word: "audit",
     about: "Decides each event of histories again, and reports the first that differs",
     help: "A history is the output of pie run: the first record of a trace, and then each record with its
@@ -62,7 +62,7 @@ The audit finds a changed verdict, and the line is differs,1:
 };
 
 /// The page of `pie explain`.
-pub(crate) const EXPLAIN: Page<'static> = Page {
+pub(crate) const EXPLAIN: HelpPage<'static> = HelpPage {
     word: "explain",
     about: "Explains why the events of a history were decided as they were",
     help: "At most one of --event, --tag, --lost, --marked and --all selects events. Each event of the history
@@ -169,7 +169,7 @@ The output is why the last packet of that trace was dropped:
 };
 
 /// The page of `pie cut`.
-pub(crate) const CUT: Page<'static> = Page {
+pub(crate) const CUT: HelpPage<'static> = HelpPage {
     word: "cut",
     about: "Writes some events of a history as an excerpt",
     help: "The output is an excerpt. It begins with the state of the controller before the first selected event
@@ -223,7 +223,7 @@ Files of a million events each, day.0000 and so on, and their audit:
 };
 
 /// The page of `pie migrate`.
-pub(crate) const MIGRATE: Page<'static> = Page {
+pub(crate) const MIGRATE: HelpPage<'static> = HelpPage {
     word: "migrate",
     about: "Rewrites a history of version one in version two",
     help: "A history of version one begins with open or rolling. In version two it begins with open2,1,bounded

@@ -1,9 +1,9 @@
 //! The pages of `pie run`, `pie storm` and `pie params`: their arguments and their help.
 
-use crate::options::argument::{Argument, FILE, FORCE, OUTPUT, PROGRESS, Page, ValueKind, row};
+use crate::options::argument::{Argument, FILE, FORCE, HelpPage, OUTPUT, PROGRESS, ValueKind, row};
 
 /// The page of `pie run`.
-pub(crate) const RUN: Page<'static> = Page {
+pub(crate) const RUN: HelpPage<'static> = HelpPage {
     word: "run",
     about: "Runs a trace and writes its history",
     help: "A trace is a CSV text with one record on each line. pie run writes each record again, followed by
@@ -133,7 +133,7 @@ The last lines of the output are
 };
 
 /// The page of `pie storm`.
-pub(crate) const STORM: Page<'static> = Page {
+pub(crate) const STORM: HelpPage<'static> = HelpPage {
     word: "storm",
     about: "Runs one controller under many threads at once and writes its history",
     help: "Each sender sends a packet each millisecond, in a thread of its own. A thread makes as many
@@ -181,7 +181,7 @@ Example: three senders with ten packets each, and the audit of the history:
 };
 
 /// The page of `pie params`.
-pub(crate) const PARAMS: Page<'static> = Page {
+pub(crate) const PARAMS: HelpPage<'static> = HelpPage {
     word: "params",
     about: "Converts options of tc to the first record of a trace",
     help: "The record opens a rolling book of version three with at most 2^47 events:

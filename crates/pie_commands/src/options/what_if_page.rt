@@ -1,9 +1,9 @@
 //! The page of `pie what-if`: its arguments and its help.
 
-use crate::options::argument::{Argument, FILE, FORCE, PROGRESS, Page, ValueKind, row};
+use crate::options::argument::{Argument, FILE, FORCE, HelpPage, PROGRESS, ValueKind, row};
 
 /// The page of `pie what-if`.
-pub(crate) const WHAT_IF: Page<'static> = Page {
+pub(crate) const WHAT_IF: HelpPage<'static> = HelpPage {
     word: "what-if",
     about: "Decides a history again with other parameters from a moment on",
     help: "The input is a history or an excerpt. pie what-if audits it and decides its commands again, with other

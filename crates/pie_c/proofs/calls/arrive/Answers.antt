@@ -33,7 +33,7 @@ unfolding arrival_refusal
 returns-clause-arrives c = let a = c.args in record {
   answer = rw (taken c) (c.of_verdict.ensures ∙ ap verdict_number (decided c));
   fields = rw (taken c) (left c);
-  if_sound = λ sound. makes c.laws.ensures.keeps c.laws.ensures.looks a.state.now _ (Arrive (arrival c) a.moment) _ sound
+  if_sound = λ sound. makes c.calls_are_lawful.ensures.keeps c.calls_are_lawful.ensures.looks a.state.now _ (Arrive (arrival c) a.moment) _ sound
       (rw (taken c) (left c ∙ arrived-state (state c) (arrival c) a.moment sound)) (given_calls a.moment _);
 }
 

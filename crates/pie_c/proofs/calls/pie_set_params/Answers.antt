@@ -8,6 +8,6 @@ pub returns-clause-made : goal.returns-clause-made
 unfolding params_refusal
 returns-clause-made c =
     let a = c.args in
-    changes c.laws.ensures.keeps c.laws.ensures.looks a.state.now _ a.params.now a.moment (search rules)
+    changes c.calls_are_lawful.ensures.keeps c.calls_are_lawful.ensures.looks a.state.now _ a.params.now a.moment (search rules)
     (c.keep_departed.ensures ∙ ap (with_rate (record a.state.now { params = a.params.now })) c.set_params.ensures
     ∙ ap (λ (h : ControllerState). with_rate (record a.state.now { params = a.params.now }) (changed h a.params.now a.moment)) c.raw-controller.ensures)

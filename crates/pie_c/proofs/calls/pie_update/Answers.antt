@@ -29,7 +29,7 @@ pub made-requires-2 : goal.made-requires-2
 made-requires-2 c =
     let a = c.args in
     subst IsSound (sym (c.update-delay.ensures.after ∙ ap (λ (h : ControllerState). updated h a.queued a.moment) c.raw-controller.ensures))
-    (c.laws.ensures.keeps (controller_state a.state.now) (controller-sound a.state.now (sym c.is_sound.ensures ∙ c.if-not-is_sound.false)) (Update a.queued a.moment)
+    (c.calls_are_lawful.ensures.keeps (controller_state a.state.now) (controller-sound a.state.now (sym c.is_sound.ensures ∙ c.if-not-is_sound.false)) (Update a.queued a.moment)
     (omega arith))
 
 taken : (c : After-made-2) → update_refusal c.args.state.now c.args.queued c.args.moment ≡ 0
@@ -43,5 +43,5 @@ pub returns-clause-made : goal.returns-clause-made
 returns-clause-made c =
     let a = c.args in
     let sound : is_sound a.state.now ≡ true = sym c.is_sound.ensures ∙ c.if-not-is_sound.false in
-    makes c.laws.ensures.keeps c.laws.ensures.looks a.state.now _ (Update a.queued a.moment) (update_refusal a.state.now a.queued a.moment) sound
+    makes c.calls_are_lawful.ensures.keeps c.calls_are_lawful.ensures.looks a.state.now _ (Update a.queued a.moment) (update_refusal a.state.now a.queued a.moment) sound
     (rw (taken c) (c.keep_updated.ensures ∙ ap state_of (after c))) (λ free. omega arith)

@@ -39,6 +39,5 @@ pub use history_reader::HistoryLines;
 pub use history_record::{Line, line_of};
 pub use record::Record;
 pub use records::{MAX_RECORDS, Records};
-pub use rows::{CHUNK, Rows, flushed};
 pub use trace_record::{Request, request_of};
 pub use version::Version;

@@ -2,7 +2,7 @@
 //! refuse an unsound state. Each call refuses arguments out of range, executes the step of the controller, and writes
 //! the changed numbers back.
 ghost use Rattle.std.specs.Prelude.{◌≡◌, ◌<◌, ◌+◌, ◌-◌, ◌^◌, ◌≤◌, ℕ, if◌then◌else◌, min, true, Some};
-ghost use Rattle.pie_c.specs.{Change, Depart, Restart, arrived, capped, cause, departed, verdict, elements_of, controller_state, is_sound, takes_stamps, with_departure, with_rate, KeepsSound, LooksBack, Arrives, Departs, Makes, Advances, Steps, Takes, arrival_of, arrival_refusal, departure_refusal, moment_refusal, params_refusal, reset_refusal, state_refusal, update_refusal, updated_by, waited_refusal};
+ghost use Rattle.pie_c.specs.{Change, Depart, Restart, arrived, capped, cause, departed, verdict, elements_of, controller_state, is_sound, takes_stamps, with_departure, with_rate, Arrives, Departs, Makes, Advances, Steps, Takes, arrival_of, arrival_refusal, departure_refusal, moment_refusal, params_refusal, reset_refusal, state_refusal, update_refusal, updated_by, waited_refusal};
 ghost use Rattle.pie_aqm.specs.Calls.{Update};
 ghost use Rattle.pie_event.specs.Cause.{name_of};
 

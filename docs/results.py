@@ -356,7 +356,7 @@ def versions():
     """Returns the number of runs, and the version of network.py and traffic.c that made them, in words. The table of limits may have another."""
     network, traffic = version_of(ROWS, 2)
     made = {(row["scenario"], row["queue"], row["block"]) for row in ROWS}
-    but = ", without those of [Limits](#limits)," if LIMIT_ROWS else ""
+    but = ", without those of [Limits](../../docs/RESULTS.md#limits)," if LIMIT_ROWS else ""
     return f"All {len(made)} runs{but} have one version of network.py ({network}) and traffic.c ({traffic})."
 
 
@@ -431,7 +431,7 @@ def coverage():
         greater, less, found = excluding(which)
         parts.append(f"of {len(found)} {words} {len(greater)} are greater here and {len(less)} are less")
     return (f"{len(above) + len(below)} of {len(every)} intervals of 90 % exclude 0. About {0.1 * len(every):.0f} would if the queues were equal: "
-            f"{'; '.join(parts)}. So the queues differ; `same` says that the difference is within the margin.")
+            f"{'; '.join(parts)}. So the queues differ.")
 
 
 def longer():

@@ -1,5 +1,5 @@
 #!/usr/bin/env python3
-"""Checks the size and the form of the pages: all pages together have fewer than 50,000 words, not counting the bars and marks of tables; a line of
+"""Checks the size and the form of the pages: all pages together have fewer than 46,000 words, not counting the bars and marks of tables; a line of
 prose has at most 100 characters (tables, fences, pictures and indented lines may be longer); and no page contains a sentence of another page.
 
 usage: tests/documents/words.py [--all]      --all: prints the number of words of each page
@@ -13,7 +13,7 @@ import sys
 sys.path.insert(0, f"{os.path.dirname(os.path.abspath(__file__))}/../shared")
 from checks import ROOT, check, finish  # noqa: E402
 
-MOST_WORDS = 50000
+MOST_WORDS = 46000
 LONGEST = 100
 # a sentence of fewer words may occur on two pages, for example "`--help` lists all options."
 REPEATED = 9

@@ -2,15 +2,17 @@
 """Writes a trace of a link that is in turn idle, lightly loaded, overloaded, flooded and idle again: small and full
 packets, with and without ECN, and an update every 15 ms. The same arguments give the same bytes.
 
-usage: bench/steps/trace.py SEED DELAY MARK_ECNTH [TURNS [DECAY]]      DELAY: stamp or rate; MARK_ECNTH: in units of 10^-12; DECAY: zero or half"""
+usage: bench/steps/trace.py SEED DELAY MARK_ECNTH [TURNS [DECAY [LIMIT]]]      DELAY: stamp or rate; MARK_ECNTH: in
+       units of 10^-12; DECAY: zero or half; LIMIT: in bytes, by default 700000"""
 import random
 import sys
 
 seed, delay, mark = sys.argv[1:4]
 turns = int(sys.argv[4]) if len(sys.argv) > 4 else 40
 decay = f"{sys.argv[5]}," if len(sys.argv) > 5 else ""       # told where it is said: the opening has one field more
+limit = sys.argv[6] if len(sys.argv) > 6 else "700000"
 random.seed(int(seed))
-params = f"15000000,15000000,150000000,125,1250,1024,700000,{mark},16384"
+params = f"15000000,15000000,150000000,125,1250,1024,{limit},{mark},16384"
 print(f"open3,1,{delay},derandomized,capped,unscaled,{decay}rolling,0,1000,1024,1000000000,{params}")
 moment, tag, events = 0, 0, []
 SLOT = 1_200_000                        # a full packet at 10 Mbit/s

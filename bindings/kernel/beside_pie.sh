@@ -1,10 +1,11 @@
 #!/usr/bin/env bash
 # Compares the module's decisions with those of Linux's sch_pie.c, decision by decision. In a booted kernel, eight CUBIC flows pass through pie_recorded at
 # RATE, and DATAGRAMS a second of the kernel's packet generator beside them. pie-tap writes the history to a disk, and bench/steps/run.sh gives each step of
-# it, with its random word, to the code of sch_pie.c. Each difference must be one that docs/PARAMETERS.md names. In simulated time, an arrival of TCP takes
-# a millisecond of the processor. With CPUS, the kernel has CPUS processors and runs in real time. A million arrivals in some minutes:
+# it, with its random word, to the code of sch_pie.c. Each difference must be one that docs/PARAMETERS.md names, and the proved rules of Linux must decide
+# each step of sch_pie.c alike. In simulated time, an arrival of TCP takes a millisecond of the processor. With CPUS, the kernel has CPUS processors and runs
+# in real time. Two million arrivals in some minutes:
 #     CPUS=2 RATE=20mbit DATAGRAMS=4000 SECONDS_OF_TRAFFIC=420 bindings/kernel/beside_pie.sh
-# needs: a request, program
+# needs: a request, program, pie_linux_steps
 #
 # usage: [PIE=program] [HEADERS=folder] [KEEP=folder for all files] [CPUS=n] [RATE=100mbit] [SECONDS_OF_TRAFFIC=10] [DATAGRAMS=0]
 #        bindings/kernel/beside_pie.sh [ROOT]

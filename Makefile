@@ -12,11 +12,10 @@
 #   make archive         build/juniperbowls-VERSION.tar.gz for any Debian 12 or later; it can be unpacked anywhere
 #   make clean           removes build/
 #   make shared, make program, make libraries     build a part
-#   make watch-check     build/pie-watch-check, which decides the steps of Linux's own pie again, if dist/ has its assembly
 #
 # Variables: CC, CPPFLAGS, CFLAGS, LDFLAGS, AR; DESTDIR, PREFIX, BINDIR, LIBDIR, INCLUDEDIR,
 # DATADIR, MANDIR, DOCDIR; BUILD, the folder of all built files; PROCESSOR, a folder of dist/; PIE_C_S,
-# PIE_LINK_C_S, PIE_S and PIE_LINUX_STEPS_S, other assembly, for example crates/pie_c/out/pie_c.S, which bindings/c/library.py writes.
+# PIE_LINK_C_S and PIE_S, other assembly, for example crates/pie_c/out/pie_c.S, which bindings/c/library.py writes.
 
 VERSION := $(shell sed -n 's/^.define PIE_VERSION "\(.*\)"$$/\1/p' include/pie.h)
 MAJOR := $(firstword $(subst ., ,$(VERSION)))
@@ -34,7 +33,6 @@ endif
 PIE_C_S ?= dist/$(PROCESSOR)/pie_c.S
 PIE_LINK_C_S ?= $(wildcard dist/$(PROCESSOR)/pie_link_c.S)
 PIE_S ?= $(wildcard dist/$(PROCESSOR)/pie.S.xz)
-PIE_LINUX_STEPS_S ?= $(wildcard dist/$(PROCESSOR)/pie_linux_steps.S.xz)
 
 # (the archiver that belongs to a cross compiler; musl-gcc has none)
 ifeq ($(origin AR),default)
@@ -59,7 +57,6 @@ all: libraries $(if $(PIE_S),program)
 libraries: $(LIBRARIES)
 shared: $(BUILD)/libpie.so $(BUILD)/$(SONAME)
 program: $(BUILD)/pie
-watch-check: $(if $(PIE_LINUX_STEPS_S),$(BUILD)/pie-watch-check)
 ifeq ($(PIE_S),)
 $(BUILD)/pie.S: no-program
 no-program:
@@ -80,11 +77,9 @@ $(BUILD)/pie_c.o: $(PIE_C_S) | $(BUILD)
 	$(assemble) $<
 $(BUILD)/pie_link_c.o: $(PIE_LINK_C_S) | $(BUILD)
 	$(assemble) $<
-$(BUILD)/pie.o $(BUILD)/pie_linux_steps.o: $(BUILD)/%.o: $(BUILD)/%.S
+$(BUILD)/pie.o: $(BUILD)/pie.S
 	$(assemble) $<
-$(BUILD)/pie.S: $(PIE_S)
-$(BUILD)/pie_linux_steps.S: $(PIE_LINUX_STEPS_S)
-$(BUILD)/pie.S $(BUILD)/pie_linux_steps.S: | $(BUILD)
+$(BUILD)/pie.S: $(PIE_S) | $(BUILD)
 	case $< in \
 	*.xz) if command -v xz > /dev/null; then xz -dc $<; else python3 -c 'import lzma, sys; sys.stdout.buffer.write(lzma.open(sys.argv[1]).read())' $<; fi ;; \
 	*) cat $< ;; \
@@ -113,9 +108,7 @@ $(BUILD)/$(SHARED): $(addprefix $(BUILD)/,pie_c.o $(if $(PIE_LINK_C_S),pie_link_
 $(BUILD)/$(SONAME) $(BUILD)/libpie.so: $(BUILD)/$(SHARED)
 	ln -sf $(SHARED) $@
 
-$(BUILD)/pie: $(BUILD)/pie.o
-$(BUILD)/pie-watch-check: $(BUILD)/pie_linux_steps.o
-$(BUILD)/pie $(BUILD)/pie-watch-check: $(addprefix $(BUILD)/,heap.o process.o)
+$(BUILD)/pie: $(addprefix $(BUILD)/,pie.o heap.o process.o)
 	$(CC) $(CFLAGS) $(HARDENING) $(LDFLAGS) -pie -Wl,--wrap=main -Wl,--wrap=open -o $@ $^ -pthread -lm
 
 check: all

@@ -1,8 +1,8 @@
 # Completion of pie for fish. Install it in a folder of fish_complete_path.
 complete -c pie -n 'not __fish_seen_subcommand_from run audit explain cut migrate what-if' -f
 complete -c pie -n __fish_use_subcommand -a run -d 'run a trace and write its history'
-complete -c pie -n __fish_use_subcommand -a audit -d 'decide the events of histories again'
-complete -c pie -n __fish_use_subcommand -a explain -d 'explain the decisions of a history'
+complete -c pie -n __fish_use_subcommand -a audit -d 'decide the events of histories, or the steps of pie-watch, again'
+complete -c pie -n __fish_use_subcommand -a explain -d 'explain the decisions of a history, or of a text of pie-watch'
 complete -c pie -n __fish_use_subcommand -a cut -d 'write some events of a history as an excerpt'
 complete -c pie -n __fish_use_subcommand -a migrate -d 'rewrite a history in version two'
 complete -c pie -n __fish_use_subcommand -a storm -d 'run one controller under many threads at once'

@@ -1,7 +1,7 @@
 #!/usr/bin/env bash
-# Makes dist/ anew from the committed crates: the assembly of pie_c, pie_link_c, pie and pie_linux_steps for
-# each processor, MANIFEST, and new lines of abi.txt. It needs the toolchain (rt), and Debian's clang-19 for
-# mipsel. Proofs that `rt ci`, `rt lib` or `rt check` left are used. The four crates themselves are
+# Makes dist/ anew from the committed crates: the assembly of pie_c, pie_link_c and pie for each
+# processor, MANIFEST, and new lines of abi.txt. It needs the toolchain (rt), and Debian's clang-19 for
+# mipsel. Proofs that `rt ci`, `rt lib` or `rt check` left are used. The three crates themselves are
 # proved again, unless bindings/c/library.py has just proved them. lower.py lowers the module of each
 # crate for the other processors. Links and the program need 64-bit words (docs/DECISIONS.md).
 #
@@ -27,7 +27,7 @@ assembly() {
         fi
     done
 }
-assembly pie_c pie_link_c pie_linux_steps &
+assembly pie_c pie_link_c &
 libraries=$!
 assembly pie
 wait "$libraries"
@@ -41,14 +41,14 @@ lowered() {
         dist/lower.py "$target" "crates/$crate/out/$crate.bc" "$work/$target/$crate.S"
     done
 }
-lowered aarch64 pie_c pie_link_c pie pie_linux_steps &
+lowered aarch64 pie_c pie_link_c pie &
 first=$!
-lowered riscv64 pie_c pie_link_c pie pie_linux_steps
+lowered riscv64 pie_c pie_link_c pie
 lowered armv7 pie_c
 lowered mipsel pie_c
 wait "$first"
 mkdir -p "$work/x86_64"
-for crate in pie_c pie_link_c pie pie_linux_steps; do
+for crate in pie_c pie_link_c pie; do
     cp "crates/$crate/out/$crate.S" "$work/x86_64/"
 done
 
@@ -56,10 +56,8 @@ for target in x86_64 aarch64 riscv64 armv7 mipsel; do
     echo "dist/make.sh: $target"
     tests/libraries/dist.py --read "$target" "$work/$target"/*.S
     mkdir -p "dist/$target"
-    for program in pie pie_linux_steps; do
-        [ ! -e "$work/$target/$program.S" ] || xz --stdout -9 --extreme "$work/$target/$program.S" > "dist/$target/$program.S.xz"
-        rm -f "$work/$target/$program.S"
-    done
+    [ ! -e "$work/$target/pie.S" ] || xz --stdout -9 --extreme "$work/$target/pie.S" > "dist/$target/pie.S.xz"
+    rm -f "$work/$target/pie.S"
     cp "$work/$target"/*.S "dist/$target/"
 done
 {

@@ -1,21 +1,21 @@
 #!/usr/bin/env bash
 # Boots a kernel of Debian under qemu with two processors, and sends TCP and UDP through its own pie and fq_pie, whose steps pie-watch records
 # (boot_init.sh): a queue that exists before pie-watch, a created one with the rate estimator beside another device's, one with flows, and one with a ring
-# buffer that is too small. pie_linux_steps decides each of at least ENQUEUES enqueues again. sums.py compares the steps with the counters of tc: no number
+# buffer that is too small. pie decides each of at least ENQUEUES enqueues again. sums.py compares the steps with the counters of tc: no number
 # may be missing, and each lost step must be counted. Segments are decided alone. Then pie-watch must refuse what it does not know. It takes 3.4 minutes of a
 # processor.
 #
 # --kernel 6.12
 #           boots the kernel of Debian 12's backports. If ROOT (build/debian-6.12 by default) does not exist, bindings/kernel/packages.sh makes it
-# STEPS     the program that decides the steps of standard input again; the status is 0 if none differs
+# PIE       the program that decides the steps again, crates/pie/out/pie by default
 # BYTES     the bytes of TCP, and of UDP, of one phase
 # PACKETS   the packets of the kernel's packet generator that one flood queues; it sends a packet that was dropped again
 # ENQUEUES  the least number of recorded enqueues, and a quarter of it of fq_pie
 # ROOT      has a kernel's boot/ and lib/modules/, of an installed package (/, the default) or an unpacked one
 # HEADERS   the folder above the kernel's headers, /usr/src by default
-# needs: pie_linux_steps, a request
+# needs: program, a request
 #
-# usage: [STEPS=program] [BYTES=1M] [PACKETS=10000] [ENQUEUES=200000] [HEADERS=folder] [KEEP=folder for all files] bindings/linux/boot.sh [--kernel 6.12] [ROOT]
+# usage: [PIE=program] [BYTES=1M] [PACKETS=10000] [ENQUEUES=200000] [HEADERS=folder] [KEEP=folder for all files] bindings/linux/boot.sh [--kernel 6.12] [ROOT]
 set -eu
 cd "$(dirname "$0")/../.."
 me=bindings/linux/boot.sh
@@ -26,8 +26,8 @@ if [ "${1-}" = --kernel ]; then
     [ -e "$1" ] || bindings/kernel/packages.sh "$version" "$1"
     HEADERS=${HEADERS:-$1/usr/src}
 fi
-steps=${STEPS:-$PWD/crates/pie_linux_steps/out/pie_linux_steps}
-[ -x "$steps" ] || { echo "NOT RUN: $me: no program $steps"; exit 0; }
+pie=${PIE:-$PWD/crates/pie/out/pie}
+[ -x "$pie" ] || { echo "NOT RUN: $me: no program $pie"; exit 0; }
 for program in clang bpftool; do
     PATH=$PATH:/usr/sbin command -v $program > /dev/null || { echo "NOT RUN: $me: no $program here (bindings/linux/install.sh)"; exit 0; }
 done
@@ -48,12 +48,12 @@ tar -C "$work/steps" -xf "$work/disk"
 grep -E '^TOLD' "$work/console" | tr -d '\r' | sed 's/^TOLD/ /'
 echo "bindings/linux: Linux $release"
 for compact in "$work"/steps/*.steps; do
-    text=${compact%.steps}.csv status=0 found=0
+    text=${compact%.steps}.csv status=0
     bindings/linux/out/pie-watch text -o "$text" "$compact" || status=$?
     [ $status = "$([ "${compact##*/}" = small.steps ] && echo 2 || echo 0)" ] || { echo "$me: $compact: status $status" >&2; exit 1; }
-    "$steps" --lost < "$text" > "$work/lost" || found=$?
-    echo "  $(basename "$text"): $(tail -n 1 "$work/lost")"
-    [ $found = 0 ] || exit 1
+    "$pie" audit "$text" > "$work/decided" 2>&1 || { echo "$me: $(cat "$work/decided")" >&2; exit 1; }
+    echo "  $(sed "s|$work/steps/||; s|^pie: |; |" "$work/decided" | tr -d '\n')"
+    "$pie" explain --lost "$text" > "$work/lost" 2> "$work/explained" || { echo "$me: $text: $(cat "$work/explained")" >&2; exit 1; }
     # each refused enqueue has a cause
     refused=$(awk -F, '$3 == "enq" && $17 != "0"' "$text" | wc -l)
     [ "$refused" = "$(grep -c -E 'DROPPED (early|over)' "$work/lost")" ] || { echo "$me: $text: $refused enqueues were refused, with other causes" >&2; exit 1; }
@@ -63,7 +63,7 @@ mkdir "$work/segments"
 number=1
 while [ -e "$work/steps/segments.$number" ]; do
     bindings/linux/out/pie-watch text -o "$work/segments/$number.csv" "$work/steps/segments.$number" || { echo "$me: segment $number: status $?" >&2; exit 1; }
-    "$steps" < "$work/segments/$number.csv" > "$work/decided" || { echo "$me: segment $number: $(cat "$work/decided")" >&2; exit 1; }
+    "$pie" audit < "$work/segments/$number.csv" > "$work/decided" 2>&1 || { echo "$me: segment $number: $(cat "$work/decided")" >&2; exit 1; }
     number=$((number + 1))
 done
 find "$work/segments" -name '*.csv' | sort -V | xargs awk -F, '

@@ -1,18 +1,18 @@
 #!/usr/bin/env bash
 # Boots Debian's kernel with a sch_pie that is built from its source with the faults of mutants.txt. pie-watch records the traffic of each fault twice,
-# without the fault and with it. pie_linux_steps must decide the first as the kernel did, and name a step of the second. pahole makes the module's
+# without the fault and with it. pie must decide the first as the kernel did, and name a step of the second. pahole makes the module's
 # types. Prints the step of each fault. Faults that need minutes of rest are tried in simulated time.
 #
-# STEPS, ROOT and HEADERS are those of boot.sh. SOURCE is Debian's linux-source of this kernel.
-# needs: pie_linux_steps, a request
+# PIE, ROOT and HEADERS are those of boot.sh. SOURCE is Debian's linux-source of this kernel.
+# needs: program, a request
 #
-# usage: [STEPS=program] [HEADERS=folder] [SOURCE=/usr/src/linux-source-6.1.tar.xz] [KEEP=folder for all files] bindings/linux/mutants.sh [ROOT]
+# usage: [PIE=program] [HEADERS=folder] [SOURCE=/usr/src/linux-source-6.1.tar.xz] [KEEP=folder for all files] bindings/linux/mutants.sh [ROOT]
 set -eu
 cd "$(dirname "$0")/../.."
 me=bindings/linux/mutants.sh
-steps=${STEPS:-$PWD/crates/pie_linux_steps/out/pie_linux_steps}
+pie=${PIE:-$PWD/crates/pie/out/pie}
 source=${SOURCE:-/usr/src/linux-source-6.1.tar.xz}
-[ -x "$steps" ] || { echo "NOT RUN: $me: no program $steps"; exit 0; }
+[ -x "$pie" ] || { echo "NOT RUN: $me: no program $pie"; exit 0; }
 [ -e "$source" ] || { echo "NOT RUN: $me: no $source (bindings/linux/install.sh)"; exit 0; }
 for program in clang bpftool pahole; do
     PATH=$PATH:/usr/sbin command -v $program > /dev/null || { echo "NOT RUN: $me: no $program here (bindings/linux/install.sh)"; exit 0; }
@@ -122,11 +122,11 @@ tries() {
     awk -F, -v folder="$work/$kind" 'NR == 1 { names = $0; next } { n = $1; sub(".*/", "", n); file = folder "/" n ".csv" }
         !(n in begun) { begun[n]; print names > file } { print > file }' "$work/$kind/faults.csv"
     while IFS=$'\t' read -r fault _; do
-        right=$("$steps" < "$work/$kind/$number.csv" | tail -n 1) || true
-        found=$("$steps" < "$work/$kind/$((number + 1)).csv" | tail -n 1) || true
+        right=$("$pie" audit < "$work/$kind/$number.csv" 2>&1) || true
+        found=$("$pie" audit < "$work/$kind/$((number + 1)).csv" 2>&1 > /dev/null) || true
         echo "  $fault: $found (without it: $right)"
         case "$found, $right" in
-            *" is recorded as "*", clean: "*) ;;
+            *" is recorded as "*", clean,"*) ;;
             *)
                 echo "$me: the fault $fault is not found" >&2
                 failed=1

@@ -1,16 +1,16 @@
 #!/usr/bin/env bash
-# Boots an unmodified Debian 12 under qemu with two processors, installs the package juniperbowls-watch there by `apt install`, and records the traffic of
-# eth0 through the kernel's own pie and fq_pie (package_init.sh). The installed pie-watch-check must find each step clean and name the cause of each drop.
-# sums.py compares the steps with the counters of tc. mmdebstrap makes the system; it has iproute2, and so the library that the package needs.
+# Boots an unmodified Debian 12 under qemu with two processors, installs the packages juniperbowls and juniperbowls-watch there by `apt install`, and records
+# the traffic of eth0 through the kernel's own pie and fq_pie (package_init.sh). The installed pie must find each step clean and name the cause of each drop.
+# sums.py compares the steps with the counters of tc. mmdebstrap makes the system; it has iproute2, and so the library that pie-watch needs, and perl and python3, which the package juniperbowls needs.
 #
 # --kernel 6.12
 #           boots the kernel of Debian 12's backports, as boot.sh does
-# PACKAGE   juniperbowls-watch_*.deb. By default dpkg-buildpackage makes it from the files of this repository
+# PACKAGES  the folder with juniperbowls_*.deb and juniperbowls-watch_*.deb. By default dpkg-buildpackage makes them from the files of this repository
 # PACKETS   the packets of the kernel's packet generator for pie, and a quarter of it for fq_pie
 # ENQUEUES  the least number of recorded enqueues, and a quarter of it of fq_pie
 # needs: a request
 #
-# usage: [PACKAGE=file] [BYTES=4M] [PACKETS=200000] [ENQUEUES=200000] [HEADERS=folder] [KEEP=folder for all files] bindings/linux/package.sh [--kernel 6.12] [ROOT]
+# usage: [PACKAGES=folder] [BYTES=4M] [PACKETS=200000] [ENQUEUES=200000] [HEADERS=folder] [KEEP=folder for all files] bindings/linux/package.sh [--kernel 6.12] [ROOT]
 set -eu
 cd "$(dirname "$0")/../.."
 me=bindings/linux/package.sh
@@ -26,19 +26,19 @@ for program in mmdebstrap mke2fs dpkg-buildpackage dh; do
 done
 # shellcheck source=../kernel/guest.sh
 . bindings/kernel/guest.sh
-package=${PACKAGE-}
-if [ -z "$package" ]; then
+packages=${PACKAGES-}
+if [ -z "$packages" ]; then
     mkdir -p "$work/package/source"
     git ls-files -z | tar --create --null --files-from=- | tar --extract -C "$work/package/source"
     (cd "$work/package/source" && DEB_BUILD_OPTIONS='nocheck noautodbgsym' dpkg-buildpackage -us -uc -b > "$work/package/log" 2>&1) ||
         { cat "$work/package/log" >&2; exit 1; }
-    package=$(echo "$work"/package/juniperbowls-watch_*.deb)
+    packages=$work/package
 fi
 mirror=http://deb.debian.org/debian
-mmdebstrap --quiet --mode=root --variant=minbase --include="linux-image-$release,iproute2,iperf3,kmod" \
+mmdebstrap --quiet --mode=root --variant=minbase --include="linux-image-$release,iproute2,iperf3,kmod,perl,python3" \
     bookworm "$work/system" "deb $mirror bookworm main" "deb $mirror bookworm-updates main" "deb $mirror-security bookworm-security main" \
     "deb $mirror bookworm-backports main" > "$work/system.log" 2>&1 || { cat "$work/system.log" >&2; exit 1; }
-cp "$package" "$work/system/root/juniperbowls-watch.deb"
+cp "$packages"/juniperbowls_*_amd64.deb "$packages"/juniperbowls-watch_*_amd64.deb "$work/system/root/"
 cp bindings/linux/guest_watch.sh "$work/system/watch.sh"
 install -m 755 bindings/linux/package_init.sh "$work/system/package_init.sh"
 cp -L "$work/system/boot/initrd.img-$release" "$work/initrd"
@@ -52,7 +52,7 @@ boot "root=/dev/vda rw net.ifnames=0 init=/package_init.sh bytes=${BYTES:-4M} pa
 mkdir "$work/steps"
 tar -C "$work/steps" -xf "$work/records"
 grep -E '^TOLD' "$work/console" | tr -d '\r' | sed 's/^TOLD/ /'
-echo "bindings/linux: Linux $release, $(basename "$package")"
+echo "bindings/linux: Linux $release, $(basename "$packages"/juniperbowls-watch_*_amd64.deb)"
 for text in "$work"/steps/*.csv; do
     # each refused enqueue has a cause
     refused=$(awk -F, '$3 == "enq" && $17 != "0"' "$text" | wc -l)

@@ -1,5 +1,5 @@
 #!/bin/sh
-# The first process of the Debian 12 that package.sh boots, after the system's initrd has mounted its file systems: installs the package as an operator
+# The first process of the Debian 12 that package.sh boots, after the system's initrd has mounted its file systems: installs the packages as an operator
 # does, and records pie and fq_pie of eth0. The other end of eth0 is eth1, in the namespace b.
 export PATH=/usr/sbin:/usr/bin:/sbin:/bin HOME=/root DEBIAN_FRONTEND=noninteractive
 box=
@@ -7,7 +7,7 @@ box=
 in_queue='' device=eth0
 exec > /dev/ttyS0 2>&1
 cd /root || exit
-apt install --yes ./juniperbowls-watch.deb > /tmp/apt 2>&1 || { echo "FAILED apt"; cat /tmp/apt; }
+apt install --yes ./juniperbowls_*.deb ./juniperbowls-watch_*.deb > /tmp/apt 2>&1 || { echo "FAILED apt"; cat /tmp/apt; }
 ip netns add b
 ip link set eth1 netns b
 ip addr add 10.0.2.2/24 dev eth0
@@ -35,8 +35,9 @@ records() {
     tc -s -j qdisc show dev eth0 > "$name.json"
     ends 0
     tc -s -j qdisc show dev eth0 > "$name.later"
-    pie-watch-check --lost < "$name.csv" > "$name.lost" || echo "FAILED pie-watch-check $name"
-    echo "TOLD $name: pie-watch-check: $(tail -n 1 "$name.lost")"
+    pie audit "$name.csv" > "$name.found" 2>&1 || echo "FAILED pie audit $name"
+    echo "TOLD pie audit: $(tr '\n' ' ' < "$name.found")"
+    pie explain --lost "$name.csv" > "$name.lost" || echo "FAILED pie explain $name"
     tc qdisc del dev eth0 root
 }
 records pie $packets pie

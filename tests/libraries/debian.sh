@@ -59,8 +59,10 @@ root/usr/bin/pie audit < "$repository/bindings/c/example.history" | grep '^clean
 root/usr/bin/pie-tap --help > tap
 [ "$(root/usr/bin/pie-watch --version)" = "pie-watch $version" ] || fail "pie-watch has another version than $version"
 ! root/usr/bin/pie-watch no_such_device 2> refused || fail "pie-watch records a device that does not exist"
-root/usr/bin/pie-watch-check < "$repository/crates/pie_linux_steps/stdin" | cmp - "$repository/crates/pie_linux_steps/stdout" || fail "pie-watch-check does not decide recorded steps"
-dpkg-deb --field juniperbowls-watch_*.deb Depends | grep -q libbpf1 || fail "juniperbowls-watch does not depend on libbpf"
+root/usr/bin/pie audit "$repository/tests/rows/linux_steps.csv" > found 2> lost || fail "the program does not audit recorded steps of Linux: $(cat found lost)"
+for depends in libbpf1 juniperbowls; do
+    dpkg-deb --field juniperbowls-watch_*.deb Depends | grep -q -w "$depends" || fail "juniperbowls-watch does not depend on $depends"
+done
 cc -o example "$repository/bindings/c/example.c" -Iroot/usr/include "$library/libpie.so"
 ./example | cmp - "$repository/bindings/c/example.history" || fail "the example in C has another history"
 if /usr/bin/python3 -c 'import numpy' 2> /dev/null; then

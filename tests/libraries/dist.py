@@ -55,7 +55,7 @@ OUTSIDE = {"memcpy", "memmove", "memset", "memcmp", "bcmp", "__divti3", "__udivt
            "__multi3", "__ashlti3", "__lshrti3", "abort"}
 
 # the files of each folder of dist/: links and the program need 64-bit words
-PROGRAMS = {"pie", "pie_linux_steps"}
+PROGRAMS = {"pie"}
 WHOLE = {"pie_c", "pie_link_c", *PROGRAMS}
 PARTS = {"x86_64": WHOLE, "aarch64": WHOLE, "riscv64": WHOLE, "armv7": {"pie_c"}, "mipsel": {"pie_c"}}
 

@@ -1,31 +1,36 @@
 #!/usr/bin/env python3
-"""Tests pie_linux_history by its program pie_linux_steps on steps that were recorded on Debian 12's kernel 6.1, unmodified
-(crates/pie_linux_steps/stdin: four queues, each from its beginning or taken over while it ran; then a pie and an
-fq_pie with their rows mixed, a queue of which steps were lost, and one that a lower limit shortens; and a part of a queue
-of kernel 6.12, whose device returned 22 of 30 packets).
+"""Tests `pie audit` and `pie explain` of a text of pie-watch, with steps that were recorded on Debian 12's kernel 6.1, unmodified
+(tests/rows/linux_steps.csv: four queues, each from its beginning or taken over while it ran; then a pie and an fq_pie with their rows mixed, a queue
+of which steps were lost, and one that a lower limit shortens; and a part of a queue of kernel 6.12, whose device returned 22 of 30 packets).
 
 - Every step is decided as the kernel did.
-- If one recorded number is changed, the program names its queue, step and column, the changed number and the right
+- If one recorded number is changed, standard output has the event, and standard error its queue, step and column, the changed number and the right
   one. For each type of step, each column that the program compares is changed once.
 - If an input is changed, a later number differs.
 - A missing row is found, and so is a queue that is not resumed after lost steps.
 - A text without a column or without a queue's first step, and a field that is no number, are refused.
-- `--lost` explains each packet that an enqueue, a lower limit or a reset dropped, with its cause.
+- `explain --lost` explains each packet that an enqueue, a lower limit or a reset dropped, with its cause; `--marked`, `--all` and `--event N` each chosen
+  packet. Other choices and forms are refused by name.
+- Several files, also with histories among them, are audited in turn; `--joined` is refused for steps.
+- A text is recognized in reads of all sizes. A text that begins almost so is a history.
+- Each allocation, read and write fails in turn.
 
-usage: tests/program/linux_steps.py [PROGRAM]      PROGRAM: crates/pie_linux_steps/out/pie_linux_steps by default
-needs: pie_linux_steps
+usage: tests/program/linux_steps.py [PROGRAM]      PROGRAM: crates/pie/out/pie by default
+needs: program
 """
 import csv
-import subprocess
+import errno
 import sys
+import tempfile
 from pathlib import Path
 
 sys.path.insert(0, str(Path(__file__).resolve().parents[1] / "shared"))
-from checks import ROOT, check, finish  # noqa: E402
+from checks import ROOT, check, finish, refusing  # noqa: E402
+from refused import ONCE_AND_ON, in_turn  # noqa: E402
+from running import MEMORY, TRACE, read_fault, write_fault  # noqa: E402
+from running import run as run_program  # noqa: E402
 
-CRATE = ROOT / "crates/pie_linux_steps"
-PROGRAM = str(Path(sys.argv[1] if sys.argv[1:] else CRATE / "out/pie_linux_steps").resolve())
-TEXT = (CRATE / "stdin").read_text()
+TEXT = (ROOT / "tests/rows/linux_steps.csv").read_text()
 COLUMNS, *ROWS = list(csv.reader(TEXT.splitlines()))
 LOST = [row for row in ROWS if row[0] == "lost"]
 STATE = [name for name in COLUMNS if name.startswith("a_")]
@@ -45,11 +50,14 @@ INPUTS = [("deq", "a_dq_tstamp"), ("enq", "enq"), ("enq", "size"), ("enq", "pktl
           ("resume", "alpha"), ("wait", "pktlen")]
 
 
-def run(rows, columns=COLUMNS, words=()):
-    """Returns the status and the output of the program for these rows."""
-    text = "".join(",".join(row) + "\n" for row in [columns, *rows])
-    ran = subprocess.run([PROGRAM, *words], input=text, capture_output=True, text=True, check=False, timeout=600)
-    return ran.returncode, ran.stdout
+def text_of(rows, columns=COLUMNS):
+    return "".join(",".join(row) + "\n" for row in [columns, *rows])
+
+
+def run(rows, columns=COLUMNS, words=("audit",), **environment):
+    """Returns the status, the output and the error stream of the program for these rows."""
+    status, output, errors = run_program(list(words), text_of(rows, columns).encode(), **environment)
+    return status, output.decode(), errors.decode()
 
 
 def field(row, name):
@@ -67,6 +75,11 @@ def changed(at, name):
     return rows, recorded, wrong
 
 
+def differs(at, name, recorded, right, rows=ROWS, file=""):
+    """Returns the line about a step that differs."""
+    return f"pie: {file}queue {rows[at][0]}, step {field(rows[at], 'seq')}: {name} is recorded as {recorded}, the rules give {right}\n"
+
+
 def first(kind, step):
     """Returns the first row of this kind and type. It follows no departure, since the parent may have peeked at that packet."""
     for at, row in enumerate(ROWS):
@@ -75,11 +88,13 @@ def first(kind, step):
     raise SystemExit(f"there is no {step} of {kind}")
 
 
-status, output = run(ROWS)
+# ---- an audit
+
 lost = sum(int(row[1]) for row in LOST)
 steps = sum(field(row, "type") not in ("", "flow", "wait") for row in ROWS)
-CLEAN = f"clean: {steps} steps; {lost} lost\n"
-check((status, output) == (0, CLEAN) and lost > 0, "the recorded steps:", status, output)
+WERE_LOST = f"pie: steps that were lost when the text was recorded: {lost}\n"
+CLEAN = (0, f"clean,{len(ROWS)}\n", WERE_LOST)
+check(run(ROWS) == CLEAN and steps == 342 and lost == 6, "the recorded steps:", run(ROWS), steps, lost)
 tried = 0
 for (kind, step), names in COMPARED.items():
     at = first(kind, step)
@@ -87,55 +102,73 @@ for (kind, step), names in COMPARED.items():
         if (step, name) == ("deq", "a_dq_tstamp"):
             continue  # an input: the clock of the departure
         rows, recorded, wrong = changed(at, name)
-        status, output = run(rows)
-        where = f"queue {field(ROWS[at], 'qid')}, step {field(ROWS[at], 'seq')}: "
-        check((status, output) == (1, f"{where}{name} is recorded as {wrong}, the rules give {recorded}\n"), kind, step, name, wrong, "not", recorded, "is answered by", status, output)
+        got = run(rows)
+        check(got == (2, f"differs,{at + 1}\n", differs(at, name, wrong, recorded)), kind, step, name, wrong, "not", recorded, "is answered by", got)
         tried += 1
 for step, name in INPUTS:
     places = [at for at, row in enumerate(ROWS) if field(row, "type") == step][:40]
-    check(any(run(changed(at, name)[0])[0] == 1 for at in places), "no change of the input", name, "at", step, "makes a number differ")
+    check(any(run(changed(at, name)[0])[0] == 2 for at in places), "no change of the input", name, "at", step, "makes a number differ")
 picked = next(at for at, row in enumerate(ROWS) if field(row, "type") == "enq" and field(row, "early") == field(row, "nrnd") == "1")
 place = COLUMNS.index("rnd")
 unpicked = [*ROWS[:picked], [*ROWS[picked][:place], str(2**64 - 1), *ROWS[picked][place + 1 :]], *ROWS[picked + 1 :]]
-check("early is recorded as 1, the rules give 0" in run(unpicked)[1], "the greatest random word picks a packet")
+check(run(unpicked) == (2, f"differs,{picked + 1}\n", differs(picked, "early", 1, 0)), "the greatest random word picks a packet:", run(unpicked))
 arrival = next(at for at, row in enumerate(ROWS) if field(row, "type") == "enq")
-check(run(ROWS[arrival:])[0] == 2, "a text that begins with an arrival is not refused")
-check(run([row[1:] for row in ROWS], COLUMNS[1:]) == (2, "the first row has no column qid\n"), "a text without the column qid is not refused so")
-for name, text in (("a_prob", "x"), ("size", str(2**32)), ("seq", str(2**64)), ("type", "enqueue"), ("kind", "codel"), ("flow", "-2"), ("l3", "12345")):
+unbegun = f"pie: step {field(ROWS[arrival], 'seq')} of queue {ROWS[arrival][0]}: no row of the type init or resume is before it\n"
+check(run(ROWS[arrival:]) == (1, "", unbegun), "a text that begins with an arrival:", run(ROWS[arrival:]))
+uncolumned = [[*row[: COLUMNS.index("a_prob")], *row[COLUMNS.index("a_prob") + 1 :]] for row in ROWS[:3]]
+got = run(uncolumned, [name for name in COLUMNS if name != "a_prob"])
+check(got == (1, "", "pie: the first row has no column a_prob\n"), "a text without the column a_prob:", got)
+FAULTS = {"a_prob": ("x", "not a number in range"), "size": (str(2**32), "not a number in range"), "seq": (str(2**64), "not a number in range"),
+          "type": ("enqueue", "unknown word"), "kind": ("codel", "unknown word"), "flow": ("-2", "not a number in range"), "l3": ("12345", "not a number in range")}
+for name, (bad_field, why) in FAULTS.items():
     place = COLUMNS.index(name)
-    bad = [*ROWS[:arrival], [*ROWS[arrival][:place], text, *ROWS[arrival][place + 1 :]], *ROWS[arrival + 1 :]]
-    check(run(bad)[0] == 2, "the field", name, text, "is accepted:", run(bad))
+    bad = [*ROWS[:arrival], [*ROWS[arrival][:place], bad_field, *ROWS[arrival][place + 1 :]], *ROWS[arrival + 1 :]]
+    for words in (["audit"], ["explain", "--lost"]):
+        status, output, errors = run(bad, words=words)
+        check((status, errors) == (1, f"pie: record {arrival + 2}: {why}\n") and (output == "" or words[0] == "explain"), words, "the field", name, bad_field, status, errors)
+check(run([*ROWS[:2], ROWS[2][:-1]]) == (1, "", "pie: record 4: wrong number of fields\n"), "a row with a missing field:", run([*ROWS[:2], ROWS[2][:-1]]))
+check(run([]) == (0, "clean,0\n", ""), "a header alone:", run([]))
 check(tried >= 120, "only", tried, "numbers were changed")
 
 # two queues whose rows are mixed are decided apart; a row that is missing is found
 mixed = [row for row in ROWS if row[0] in ("rb/2:/0", "ra/3:/1")]
-check(len({row[0] for row in mixed}) == 2 and run(mixed)[0] == 0, "two queues in one text:", run(mixed))
-check(run([[mixed[0][0], *row[1:]] for row in mixed])[0] == 1, "two queues with one name are clean")
-check(run(mixed[:9] + mixed[10:]) == (1, f"queue {mixed[11][0]}, step {field(mixed[11], 'seq')}: seq is recorded as {field(mixed[11], 'seq')}, the rules give {field(mixed[9], 'seq')}\n"), "a missing row:", run(mixed[:9] + mixed[10:]))
+check(len({row[0] for row in mixed}) == 2 and run(mixed) == (0, f"clean,{len(mixed)}\n", ""), "two queues in one text:", run(mixed))
+check(run([[mixed[0][0], *row[1:]] for row in mixed])[0] == 2, "two queues with one name are clean")
+missing = mixed[:9] + mixed[10:]
+at = next(at for at in range(9, len(missing)) if missing[at][0] == mixed[9][0])
+check(run(missing) == (2, f"differs,{at + 1}\n", differs(at, "seq", field(missing[at], "seq"), field(mixed[9], "seq"), missing)), "a missing row:", run(missing))
 at = ROWS.index(LOST[0])
 unresumed = run([*ROWS[: at + 1], *ROWS[at + 2 :]])
-check(unresumed == (2, f"step {field(ROWS[at + 2], 'seq')} of queue {LOST[0][2]}: no row of the type init or resume is before it\n"), "lost steps, not resumed:", unresumed)
+told = f"pie: step {field(ROWS[at + 2], 'seq')} of queue {LOST[0][2]}: no row of the type init or resume is before it\n"
+check(unresumed == (1, "", told), "lost steps, not resumed:", unresumed)
 
 # an arrival after 22 departures came back: the number of the bytes and of the packets must be those of the last departures
 at = next(at for at, row in enumerate(ROWS) if row[0] == "eth0/1:/0" and field(row, "type") == "enq")
 bytes_before = COLUMNS.index("bl0")
 fewer = [*ROWS[:at], [*ROWS[at][:bytes_before], str(int(field(ROWS[at], "bl0")) - 400), *ROWS[at][bytes_before + 1 :]], *ROWS[at + 1 :]]
 found = run(fewer)
-check(field(ROWS[at], "qlen0") == "28" and found == (1, f"queue eth0/1:/0, step {field(ROWS[at], 'seq')}: qlen0 is recorded as 28, the rules give 27\n"), "21 packets that came back:", found)
+check(field(ROWS[at], "qlen0") == "28" and found == (2, f"differs,{at + 1}\n", differs(at, "qlen0", 28, 27)), "21 packets that came back:", found)
 
-# the packets that were dropped
-status, output = run(ROWS, words=["--lost"])
-blocks, last = output.rsplit("\n", 2)[0] + "\n", output.rsplit("\n", 2)[1] + "\n"
-lost = ["event " + block for block in ("\n" + blocks).split("\nevent ")[1:]]
-check((status, last) == (0, CLEAN), "--lost:", status, last)
+# ---- an explanation
+
+
+def explained(*words, rows=ROWS):
+    """Returns the status, the blocks and the error stream."""
+    status, output, errors = run(rows, words=["explain", *words])
+    return status, ["event " + block for block in ("\n" + output).split("\nevent ")[1:]], errors
+
+
+status, blocks, errors = explained("--lost")
+check((status, errors) == (0, WERE_LOST), "--lost:", status, errors)
 CAUSES = {
     "over": ("DROPPED over the limit\n", "\n  the queue is at its limit (overlimit)\n"),
     "word": ("DROPPED early\n", "\n  picked: the random word is below the probability\n"),
     "sum": ("DROPPED early\n", "\n  picked: the accumulated probability (accu_prob) is at least 850 %\n"),
 }
-dropped = [(at, row) for at, row in enumerate(ROWS) if field(row, "type") == "enq" and field(row, "ret") not in ("", "0")]
+arrivals = [(at, row) for at, row in enumerate(ROWS) if field(row, "type") == "enq"]
+dropped = [(at, row) for at, row in arrivals if field(row, "ret") not in ("", "0")]
 for at, row in dropped:
-    its = [block for block in lost if block.startswith(f"event {at + 1}: ")]
+    its = [block for block in blocks if block.startswith(f"event {at + 1}: ")]
     prob, moment = int(field(row, "a_prob") or 0) * 10**6 >> 56, int(field(row, "ns") or 0)
     cause = "over" if field(row, "early") == "255" else "word" if field(row, "nrnd") == "1" else "sum"
     parts = [f": queue {field(row, 'qid')}, step {field(row, 'seq')}, {field(row, 'pktlen')} bytes: ", f"\n  probability {prob // 10**4}.{prob % 10**4:04} %",
@@ -143,9 +176,107 @@ for at, row in dropped:
              f", {field(row, 'bl0') or 0} bytes, a delay of ", *CAUSES[cause]]
     check(len(its) == 1 and all(part in its[0] for part in parts), "the drop", row[:5], "is explained as", its, parts)
 by_change = sum(int(field(row, "size") or 0) for row in ROWS if (field(row, "kind"), field(row, "type")) == ("pie", "change"))
-check(by_change > 0 and sum("DROPPED by a change of the limit\n" in block for block in lost) == by_change, "packets that a lower limit dropped:", by_change)
-by_reset = {int(block.split(":")[0][6:]) - 1 for block in lost if "DROPPED by a reset\n" in block}
+check(by_change > 0 and sum("DROPPED by a change of the limit\n" in block for block in blocks) == by_change, "packets that a lower limit dropped:", by_change)
+by_reset = {int(block.split(":")[0][6:]) - 1 for block in blocks if "DROPPED by a reset\n" in block}
 check(by_reset and all(field(ROWS[at], "type") == "reset" for at in by_reset), "packets that a reset dropped:", by_reset)
-check(len(lost) == len(dropped) + sum(" by a " in block for block in lost), "--lost explains other packets")
-check(subprocess.run([PROGRAM, "--lots"], input="", capture_output=True, text=True, check=False).returncode == 2, "an unknown option is accepted")
+check(len(blocks) == len(dropped) + sum(" by a " in block for block in blocks), "--lost explains other packets")
+marks = [at + 1 for (at, row), (_, before) in zip(arrivals[1:], arrivals) if int(field(row, "ecn_mark") or 0) == int(field(before, "ecn_mark") or 0) + 1 and row[0] == before[0]]
+status, marked, errors = explained("--marked")
+check((status, errors) == (0, WERE_LOST) and marks and {int(block.split(":")[0][6:]) for block in marked} >= set(marks), "--marked:", status, errors, len(marked), marks)
+check(all(block.split("\n")[0].endswith(": MARKED") and block.count("\n  marked: ecn is on, and the packet is ECN-capable\n") == 1 for block in marked), "--marked explains other packets")
+status, every, errors = explained("--all")
+check((status, errors) == (0, WERE_LOST) and [block for block in every if ": DROPPED" in block.split("\n")[0]] == blocks, "--all has other drops than --lost")
+check([block for block in every if block.split("\n")[0].endswith(": MARKED")] == marked, "--all has other marks than --marked")
+check({int(block.split(":")[0][6:]) for block in every} >= {at + 1 for at, _ in arrivals}, "--all lacks arrivals")
+at = dropped[0][0]
+only = [block for block in every if block.startswith(f"event {at + 1}: ")]
+check(explained("--event", str(at + 1)) == (0, only, WERE_LOST) and len(only) == 1, "--event:", explained("--event", str(at + 1)))
+update = next(at for at, row in enumerate(ROWS) if field(row, "type") == "calc")
+check(explained("--event", str(update + 1)) == (1, [], f"{WERE_LOST}pie: event {update + 1} is no arrival, and drops no packet\n"), "an update:", explained("--event", str(update + 1)))
+beyond = len(ROWS) + 1
+check(explained("--event", str(beyond)) == (1, [], f"{WERE_LOST}pie: there is no event {beyond}: the text has {len(ROWS)} events\n"), "no event:", explained("--event", str(beyond)))
+
+# the packets before a step that differs are explained
+at = dropped[-1][0]
+rows, recorded, wrong = changed(at, "qlen0")
+refusal = f"pie: event {at + 1} is not what the rules give there, so it and later events are not explained\n"
+before = [block for block in blocks if int(block.split(":")[0][6:]) < at + 1]
+got = explained("--lost", rows=rows)
+check(got == (2, before, refusal + differs(at, "qlen0", wrong, recorded)) and before, "a step that differs:", got[0], len(got[1]), got[2])
+
+# other choices and forms are refused, and nothing is read further or written
+OTHERS = {"tag": ["7"], "from": ["1s"], "to": ["1s"], "every": ["1s"], "flows": ["3"], "summary": [], "full": [], "digest": [], "csv": [], "json": [], "wall": []}
+for name, value in OTHERS.items():
+    words = ["explain", f"--{name}", *value, *([] if name == "tag" else ["--lost"])]
+    check(run(ROWS, words=words) == (1, "", f"pie: --{name} is not for a text of pie-watch\n"), words, run(ROWS, words=words))
+no_choice = "pie: a text of pie-watch needs one of --event N, --lost, --marked and --all; see pie explain --help\n"
+check(run(ROWS, words=["explain"]) == (1, "", no_choice), "no choice:", run(ROWS, words=["explain"]))
+check(run(ROWS, words=["explain", "--lost", "--all"])[:2] == (1, ""), "two choices:", run(ROWS, words=["explain", "--lost", "--all"]))
+for words in (["run"], ["cut", "--from", "0"], ["migrate"], ["what-if", "--from", "0"]):
+    check(run(ROWS, words=words) == (1, "", "pie: the first record is not an open record\n"), words, run(ROWS, words=words))
+
+# ---- files
+
+with tempfile.TemporaryDirectory() as folder:
+    names = {name: f"{folder}/{name}" for name in ("steps", "wrong", "faulty", "history", "out")}
+    rows, recorded, wrong = changed(update, "a_prob")
+    history = run_program(["run"], TRACE)[1]
+    given = {"steps": TEXT, "wrong": text_of(rows), "faulty": text_of(ROWS[arrival:]), "history": history.decode()}
+    for name, text in given.items():
+        Path(names[name]).write_text(text)
+    events = run_program(["audit"], history)[1].decode()[6:-1]
+    lines = {
+        "steps": (f"{names['steps']}: clean,{len(ROWS)}\n", WERE_LOST.replace("pie: ", f"pie: {names['steps']}: ")),
+        "wrong": (f"{names['wrong']}: differs,{update + 1}\n", differs(update, "a_prob", wrong, recorded, file=f"{names['wrong']}: ")),
+        "faulty": ("", unbegun.replace("pie: ", f"pie: {names['faulty']}: ")),
+        "history": (f"{names['history']}: clean,{events}\n", ""),
+    }
+    for status, chosen in ((0, ["steps", "history", "steps"]), (2, ["history", "wrong", "steps"]), (1, ["faulty", "wrong", "history"])):
+        got = run([], words=["audit", *(names[name] for name in chosen)])
+        check(got == (status, *("".join(lines[name][part] for name in chosen) for part in (0, 1))), "an audit of", chosen, got)
+    got = run(ROWS, words=["audit", names["history"], "-"])
+    check(got == (0, f"{lines['history'][0]}-: clean,{len(ROWS)}\n", WERE_LOST.replace("pie: ", "pie: -: ")), "steps as standard input among files:", got)
+    got = run([], words=["audit", "--joined", names["steps"], names["history"]])
+    check(got == (1, lines["history"][0], f"pie: {names['steps']}: --joined is not for a text of pie-watch\n"), "--joined:", got)
+    got = run([], words=["audit", "--joined", names["history"], names["steps"]])
+    check(got == (1, lines["history"][0], f"pie: {names['steps']}: --joined is not for a text of pie-watch\n"), "--joined, steps last:", got)
+    # the output of -o, and a fault of a named file
+    all_lost = run(ROWS, words=["explain", "--lost"])[1]
+    got = run([], words=["explain", "--lost", names["steps"], "-o", names["out"]])
+    check(got == (0, "", WERE_LOST) and Path(names["out"]).read_text() == all_lost, "-o:", got)
+    got = run([], words=["explain", "--lost", names["faulty"], "-o", names["out"], "--force"])
+    check(got == (1, "", f"{unbegun}pie: the text is in {names['faulty']}\n") and Path(names["out"]).read_text() == all_lost, "-o with a fault:", got)
+    got = run([], words=["explain", "--lost", names["wrong"], "-o", names["out"], "--force"])
+    check(got[0] == 2 and Path(names["out"]).read_text() in all_lost, "-o with a step that differs:", got)
+
+    # ---- reads and failures
+    library = refusing(folder, "a text of pie-watch")
+    if library:
+        met = f"{folder}/met"
+        for size in (1, 2, 3, 4, 5, 7, 4096):
+            got = run(ROWS, LD_PRELOAD=library, REFUSE_MET=met, REFUSE_STEP=str(size))
+            check(got == CLEAN, "reads of", size, "bytes:", got)
+        few = mixed[:14]
+        text = text_of(few).encode()
+        wants = {"REFUSE_MEMORY": MEMORY, "REFUSE_READ": read_fault(errno.EIO), "REFUSE_WRITE": write_fault(errno.EIO)}
+        for words in (["audit"], ["explain", "--all"]):
+            want = run_program(words, text)
+            for variable, says in wants.items():
+                places = 0
+                for on in ONCE_AND_ON:
+                    for place, (status, output, errors), is_refused in in_turn(library, met, words, text, variable, on, REFUSE_STEP="700"):
+                        places += is_refused
+                        did_with_less = variable == "REFUSE_MEMORY" and not on and (status, output, errors) == want
+                        holds = (status, errors) == (1, says) and want[1].startswith(output) or did_with_less
+                        check(holds if is_refused else (status, output, errors) == want, words, variable, place, on, status, output[-80:], errors)
+                check(places > 2, words, variable, "was refused at", places, "places")
+
+# texts that begin almost so are histories; each is read as one, to its last byte
+for begin in ("", "q", "qi", "qid", "qid;", "qi,d", "Qid,", "qxd,", " qid,", "\ufeffqid,", '"qid",', "open", "oqid,"):
+    text = (begin + TEXT[4:]).encode() if begin else b""
+    for given in {text, begin.encode()}:
+        for words in (["audit"], ["explain", "--lost"]):
+            check(run_program(words, given) == (1, b"", b"pie: the first record is not an open record\n"), words, begin, given[:20], run_program(words, given))
+for text in (b"qid,", b"qid,\n", b"qid,seq\n"):
+    check(run_program(["audit"], text) == (1, b"", b"pie: the first row has no column seq\n" if b"seq" not in text else b"pie: the first row has no column ns\n"), text, run_program(["audit"], text))
 finish()

@@ -55,9 +55,11 @@ def output_of(words, given):
 def texts_before(words, given, place):
     """Returns the outputs allowed before this read, if each earlier read returned STEP bytes: the output of all
     complete records, including those of the last page, or of the records that were complete one read earlier,
-    because a record may be processed at the next read."""
+    because a record may be processed at the next read. The first read of an explanation is of one byte, by which it
+    recognizes the text."""
+    less = STEP - 1 if words[0] == "explain" else 0
     for reads in (place - 1, max(place - 2, 0)):
-        read = given[:STEP * reads]
+        read = given[:max(STEP * reads - less, 0)]
         yield output_of(tuple(words), read[:read.rfind(b"\n") + 1])
 
 

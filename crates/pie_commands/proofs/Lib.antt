@@ -6,5 +6,6 @@ mod FileAuditFacts
 mod FileFacts
 mod ValueFacts
 mod SubcommandFacts
+mod TextKindFacts
 mod WordFacts
 mod WhatIfFacts

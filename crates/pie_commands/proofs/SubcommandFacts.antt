@@ -7,7 +7,12 @@ use Rattle.pie_commands.proofs.Names.{files_in, is_forced, is_joined, options_in
 use Rattle.pie_commands.proofs.Names.{AuditsFiles, HaveOutcomes, FileOutcome, HasFileOutcome, EndsAudit, EndsFileAudits, LacksFinding, Answers, EndsAs, EndsSubcommand, FindsMatches}
 use Rattle.pie_commands.proofs.Names.{may_differ, output_for, Finds, JoinsText, records_of, ◌++◌, false}
 use Rattle.pie_commands.proofs.Names.{IfSome}
+use Rattle.pie_commands.proofs.Names.{end_of_explain, explain_ends, output_kind_of, output_text, Selection, Explained}
+unfoldable use Rattle.pie_commands.specs.Explanations.{selection_of}
+use Rattle.pie_commands.specs.FileAudits.{FindsInHistory}
 use Rattle.pie_commands.specs.Files.{Opens, opens_after}
+use Rattle.pie_commands.specs.TextKinds.{is_linux_text}
+use Rattle.pie_explain.specs.TextAnswer.{ExplainsText}
 use Rattle.pie_advise.specs.declared.request.Request.{Request}
 use Rattle.pie_commands.specs.Advising.{advises, request_in}
 use Rattle.pie_commands.specs.WhatIfEnds.{EndsCompared, alteration_of, end_of_what_if, ends_what_if, writes_other}
@@ -16,7 +21,7 @@ use Rattle.pie_commands.specs.declared.end.End.TheVariants.{Done, Fault, NoOutpu
 use Rattle.pie_what_if.specs.Result.{IsDecidedAgain}
 use Rattle.pie_what_if.specs.declared.alteration.Alteration.{Alteration}
 use Rattle.pie_commands.specs.declared.audit.Unaudited.{Unaudited}
-use Rattle.pie_commands.specs.declared.audit.Unaudited.TheVariants.{Unopened, Faulty}
+use Rattle.pie_commands.specs.declared.audit.Unaudited.TheVariants.{Unopened, Faulty, Unfit}
 use Rattle.clap.specs.Words.{Row}
 use Rattle.clap.specs.declared.error.Error.{Error}
 use Rattle.clap.specs.declared.error.kind.ErrorKind.TheVariants.{OutOfMemory}
@@ -51,11 +56,13 @@ outcome-kept : (works joined : Bool) (input : Option (List ℕ)) (old new : Held
 outcome-kept works joined input old new keeps earlier name before (Err Unopened) after has =
     (λ opens. has.0 (opens.0, opens-kept old new earlier name keeps opens.1), has.1)
 outcome-kept works joined input old new keeps earlier name before (Err (Faulty why)) after has =
-    (text-still input old new name (λ text. Finds (records_of text) (Err why)) keeps has.0, has.1)
+    (text-still input old new name (λ text. FindsInHistory text (Err why)) keeps has.0, has.1)
+outcome-kept works joined input old new keeps earlier name before (Err Unfit) after has =
+    (text-still input old new name (λ text. is_linux_text text ≡ true) keeps has.0, has.1)
 outcome-kept works true input old new keeps earlier name before (Ok found) after has =
-    (has.0, text-still input old new name (λ text. JoinsText (records_of text) before found after) keeps has.1)
+    (has.0, text-still input old new name (λ text. (is_linux_text text ≡ false) × JoinsText (records_of text) before found after) keeps has.1)
 outcome-kept works false input old new keeps earlier name before (Ok found) after has =
-    (has.0, text-still input old new name (λ text. Finds (records_of text) (Ok found.finding)) keeps has.1)
+    (has.0, text-still input old new name (λ text. FindsInHistory text (Ok found.finding)) keeps has.1)
 
 all-kept : (works joined : Bool) (input : Option (List ℕ)) (old new : Held) → Keeps old new → (earlier : List Text) (before : Option EndView)
     (outcomes : List FileOutcome) (after : Option EndView) → HaveOutcomes works joined input new earlier before outcomes after
@@ -131,11 +138,23 @@ what_if-kept opens more (Some alteration) true old new end before now can keeps 
 what_if-kept opens more (Some alteration) false old new end before now can keeps (inl unopened) = inl (unopened.0, λ o. unopened.1 (can o), unopened.2)
 what_if-kept opens more (Some alteration) false old new end before now can keeps (inr ends) = inr (compared-kept alteration old new end before now keeps ends)
 
+-- an explanation
+explain-kept : (asked : Option Selection) (whole : List Explained → List ℕ) (options : List Row) (old new : Option (List ℕ)) (end : End)
+    (before now : Option (List ℕ)) → IsRetained old new → explain_ends asked whole options new end before now
+    → explain_ends asked whole options old end before now
+explain-kept None whole options old new end before now keeps promise = promise
+explain-kept (Some selection) whole options old new end before now keeps (inl history) = inl (
+  known-kept old new (λ text. is_linux_text text ≡ false) keeps history.0,
+  by-kept end_of_explain (ExplainsText selection whole) old new end before now keeps history.1,
+)
+explain-kept (Some selection) whole options old new end before now keeps (inr steps) =
+    inr (known-kept old new (λ text. is_linux_text text ≡ true) keeps steps.0, steps.1)
+
 -- another subcommand reads one text: its promise also holds of the old files
 text-kept : (subcommand : Subcommand) (options : List Row) (works : Bool) (input : Option (List ℕ)) (old new : Held) (end : End) (before now : Option (List ℕ))
-    → (subcommand ≡ Audit → ⊥) → (subcommand ≡ WhatIf → ⊥) → Keeps old new → EndsAs subcommand options works input new end before now
+    → (subcommand ≡ Audit → ⊥) → (subcommand ≡ WhatIf → ⊥) → (subcommand ≡ Explain → ⊥) → Keeps old new → EndsAs subcommand options works input new end before now
     → EndsAs subcommand options works input old end before now
-text-kept subcommand options works input old new end before now other another keeps promise = grind (arith, by-kept, given-kept, read-kept)
+text-kept subcommand options works input old new end before now other another third keeps promise = grind (arith, by-kept, given-kept, read-kept)
 
 pub EndsAs-kept : (subcommand : Subcommand) (options : List Row) (works : Bool) (input : Option (List ℕ)) (old new : Held) (end : End)
     (before now : Option (List ℕ)) → Keeps old new → EndsAs subcommand options works input new end before now
@@ -146,8 +165,15 @@ EndsAs-kept WhatIf options works input old new end before now keeps promise =
     what_if-kept (Opens works old (file_in options)) (Opens works new (file_in options)) (alteration_of options) (writes_other options)
     (text_given input old (file_in options)) (text_given input new (file_in options)) end before now
     (read-kept works old new (file_in options) keeps) (given-kept input old new (file_in options) keeps) promise
+EndsAs-kept Explain options works input old new end before now keeps (inl unopened) =
+    inl (unopened.0, λ o. unopened.1 (read-kept works old new (file_in options) keeps o), unopened.2)
+EndsAs-kept Explain options works input old new end before now keeps (inr (style, ends)) = inr (
+  style,
+  explain-kept (selection_of options) (output_text (output_kind_of style options)) options (text_given input old (file_in options))
+      (text_given input new (file_in options)) end before now (given-kept input old new (file_in options) keeps) ends,
+)
 EndsAs-kept other options works input old new end before now keeps promise =
-    text-kept other options works input old new end before now (λ is. cc) (λ is. cc) keeps promise
+    text-kept other options works input old new end before now (λ is. cc) (λ is. cc) (λ is. cc) keeps promise
 
 -- ---- the three subcommands whose text can have an event that differs
 

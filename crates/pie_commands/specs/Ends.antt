@@ -12,6 +12,10 @@ use Rattle.pie_record.specs.Text.{Row, records_of}
 use Rattle.pie_audit.specs.declared.auditor.Finding.{Finding}
 use Rattle.pie_audit.specs.declared.auditor.Finding.TheVariants as finding
 use Rattle.pie_audit.specs.Text.{Finds, finding_line}
+use Rattle.pie_linux_history.specs.declared.fault.StepsFault.{StepsFault}
+use Rattle.pie_linux_history.specs.declared.text.StepsFinding.{StepsFinding}
+use Rattle.pie_commands.specs.LinuxSteps.{end_of_fault, finding_of}
+use Rattle.pie_commands.specs.TextKinds.{IsHistory, IsLinux}
 use Rattle.pie_commands.specs.declared.end.End.{End}
 use Rattle.pie_commands.specs.declared.end.End.TheVariants.{Done, Differs, Fault, Unopened, Failed}
 
@@ -83,9 +87,22 @@ WritesFinding (Ok found) end before now = (end ≡ Fault trace_fault.Write) ⊎ 
 
 -- the end of an audit of a history or an excerpt: the line of its finding is written, or the writer failed. If the
 -- text has a fault, or the reader or memory failed, nothing is written
+abbrev pub EndsHistoryAudit : Option (List ℕ) → End → Option (List ℕ) → Option (List ℕ) → Type 0
+EndsHistoryAudit known end before now =
+    (found : Result Finding TraceFault) × WritesFinding found end before now × IfSome known (λ text. Finds (records_of text) found)
+
+-- the end of an audit of recorded steps of Linux with this result: its finding is written as that of a history. At a fault nothing was written
+abbrev pub WritesSteps : Result StepsFinding StepsFault → End → Option (List ℕ) → Option (List ℕ) → Type 0
+WritesSteps (Err why) end before now = (end ≡ end_of_fault why) × (now ≡ before)
+WritesSteps (Ok found) end before now = WritesFinding (Ok (finding_of found)) end before now
+
+abbrev pub EndsStepsAudit : End → Option (List ℕ) → Option (List ℕ) → Type 0
+EndsStepsAudit end before now = (found : Result StepsFinding StepsFault) × WritesSteps found end before now
+
+-- the end of an audit of a text, of either kind
 abbrev pub EndsInputAudit : Option (List ℕ) → End → Option (List ℕ) → Option (List ℕ) → Type 0
 EndsInputAudit known end before now =
-    (found : Result Finding TraceFault) × WritesFinding found end before now × IfSome known (λ text. Finds (records_of text) found)
+    (IsHistory known × EndsHistoryAudit known end before now) ⊎ (IsLinux known × EndsStepsAudit end before now)
 
 -- ---- `pie migrate`
 

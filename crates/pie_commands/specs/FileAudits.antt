@@ -4,8 +4,9 @@ use Rattle.std.specs.List.{flat_map, list_any}
 use Rattle.std.specs.Fmt.{decimal}
 use Rattle.std.specs.Io.KnownBytes.{Appends}
 use Rattle.clap.specs.Words.{Text}
+use Rattle.pie_record.specs.declared.fault.TraceFault.{TraceFault}
 use Rattle.pie_record.specs.declared.fault.TraceFault.TheVariants as trace_fault
-use Rattle.pie_record.specs.Text.{records_of}
+use Rattle.pie_record.specs.Text.{Row, records_of}
 use Rattle.pie_audit.specs.declared.auditor.Finding.{Finding}
 use Rattle.pie_audit.specs.declared.auditor.Finding.TheVariants as finding
 use Rattle.pie_audit.specs.Text.{Finds}
@@ -15,10 +16,11 @@ use Rattle.pie_cut.specs.declared.joint_audit.Joint.TheVariants.{Follows, Gap, U
 use Rattle.pie_cut.specs.Joined.{EndView, IsLeftBy, JoinsText}
 use Rattle.pie_commands.specs.Files.{opens_after, text_given}
 use Rattle.pie_commands.specs.declared.audit.Unaudited.{Unaudited}
-use Rattle.pie_commands.specs.declared.audit.Unaudited.TheVariants.{Unopened, Faulty}
+use Rattle.pie_commands.specs.declared.audit.Unaudited.TheVariants.{Unopened, Faulty, Unfit}
 use Rattle.pie_commands.specs.declared.end.End.{End}
 use Rattle.pie_commands.specs.declared.end.End.TheVariants.{Done, Differs, Fault, Failed}
 use Rattle.pie_commands.specs.Ends.{EndsInputAudit}
+use Rattle.pie_commands.specs.TextKinds.{IsLinux, is_linux_text}
 
 -- ---- the lines
 
@@ -80,17 +82,33 @@ worst false false = Done
 
 -- ---- the files
 
+-- an audit of the history, with the end `before` of the text before it, has this finding and this joint; a joint only if the texts are of one history
+abbrev pub FindsJoined : Bool → List Row → Option EndView → Joined → Option EndView → Type 0
+FindsJoined true rows before joined after = JoinsText rows before joined after
+FindsJoined false rows before joined after = Finds rows (Ok joined.finding)
+
+-- the end that a finding leaves, and no joint of separate files
+abbrev pub IsFoundEnd : Bool → Joined → Option EndView → Type 0
+IsFoundEnd true joined after = IsLeftBy joined.finding after
+IsFoundEnd false joined after = joined.joint ≡ None
+
+-- an audit of a history finds this. Of recorded steps of Linux a finding is only tested
+abbrev pub FindsInHistory : List ℕ → Result Finding TraceFault → Type 0
+FindsInHistory text found = is_linux_text text ≡ false → Finds (records_of text) found
+
 -- the result of a text after the end `before`, and the end `after` that it leaves. For one history: the finding,
 -- and the joint of the text with `before`; a text with a fault or a difference leaves no end. For separate files: the
 -- finding and no joint. There is no finding if the file could not be opened or read, if its text has a fault, and
--- if memory is short
+-- if memory is short. Recorded steps of Linux are no segment of a history, and some of their faults are only theirs
 abbrev pub HasTextOutcome : Bool → Type 0 → Option (List ℕ) → Option EndView → Result Joined Unaudited → Option EndView → Type 0
 HasTextOutcome joined opens known before (Err Unopened) after = (opens → ⊥) × (joined ≡ true → after ≡ None)
 HasTextOutcome joined opens known before (Err (Faulty why)) after =
-    IfSome known (λ text. Finds (records_of text) (Err why)) × (joined ≡ true → after ≡ None)
-HasTextOutcome true opens known before (Ok outcome) after = IsLeftBy outcome.finding after × IfSome known (λ text. JoinsText (records_of text) before outcome after)
+    IfSome known (λ text. FindsInHistory text (Err why)) × (joined ≡ true → after ≡ None)
+HasTextOutcome joined opens known before (Err Unfit) after = IsLinux known × (joined ≡ true → after ≡ None)
+HasTextOutcome true opens known before (Ok outcome) after = IsLeftBy outcome.finding after
+    × IfSome known (λ text. (is_linux_text text ≡ false) × JoinsText (records_of text) before outcome after)
 HasTextOutcome false opens known before (Ok outcome) after =
-    (outcome.joint ≡ None) × IfSome known (λ text. Finds (records_of text) (Ok outcome.finding))
+    (outcome.joint ≡ None) × IfSome known (λ text. FindsInHistory text (Ok outcome.finding))
 
 -- the result of a text that was read by `reads`, or of a file that could not be opened
 abbrev pub HasReadOutcome : Bool → Type 0 → (Option (List ℕ) → Type 0) → Option EndView → Result Joined Unaudited → Option EndView → Type 0

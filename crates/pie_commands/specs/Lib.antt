@@ -11,3 +11,5 @@ pub mod Subcommands
 pub mod Tuning
 pub mod WhatIfEnds
 pub mod Words
+pub mod TextKinds
+pub mod LinuxSteps

@@ -1,12 +1,13 @@
-//! `pie audit`: of one history, or of files, each in turn; with `--joined` of the files of one history, in its order.
-ghost use Rattle.std.specs.Prelude.{◌≡◌, ◌<◌, ◌||◌, [], Err, IfErr, IfOk, IfSome, None, Ok, OnErr, OnOk, get_or, length, map, true, ⊤};
+//! `pie audit`: of one text, or of files, each in turn; with `--joined` of the files of one history, in its order.
+ghost use Rattle.std.specs.Prelude.{◌≡◌, ◌<◌, ◌||◌, [], Err, IfErr, IfOk, IfSome, None, Ok, OnErr, OnOk, false, get_or, length, map, true, ⊤};
 ghost use Rattle.std.specs.Io.KnownBytes.{Appends};
 ghost use Rattle.clap.specs.Words.{found_of, rows_of};
 ghost use Rattle.pie_audit.specs.Text.{Finds};
 ghost use Rattle.pie_commands.specs.Ends.{EndsInputAudit, WritesFinding, end_found};
-ghost use Rattle.pie_commands.specs.FileAudits.{EndsFileAudits, HasReadOutcome, HasTextOutcome, is_broken, line_of_joint, lines_of, named_line, worst};
+ghost use Rattle.pie_commands.specs.FileAudits.{EndsFileAudits, FindsJoined, HasReadOutcome, HasTextOutcome, IsFoundEnd, is_broken, line_of_joint, lines_of, named_line, worst};
 ghost use Rattle.pie_commands.specs.Files.{CanOpen, ReadsNamed, left_for};
 ghost use Rattle.pie_commands.specs.Subcommands.{EndsAs};
+ghost use Rattle.pie_commands.specs.declared.audit.Unaudited.{Unaudited};
 ghost use Rattle.pie_commands.specs.declared.options.subcommand.Subcommand.{Subcommand};
 ghost use Rattle.pie_cut.specs.declared.joint_audit.Joined.{Joined};
 ghost use Rattle.pie_record.specs.Text.{records_of};
@@ -17,10 +18,12 @@ use crate::fault_report::{AUDIT, report_cause};
 use crate::files::{NamedFiles, reader_named};
 use crate::options::flag;
 use crate::progress::{ProgressReader, Screen, shows_progress};
+use crate::steps::{audit_steps, finding_of, report_audit, report_finding};
 use clap::ArgMatches;
 use either::{Either, Left};
 use pie_audit::{Finding, write_finding};
 use pie_cut::{Joined, Joint, TextEnd, audit_joined};
+use pie_linux_history::{StepsFault, StepsFinding};
 use pie_trace::TraceFault;
 use std::alloc::Global;
 use std::io;
@@ -62,9 +65,15 @@ pub enum Unaudited {
     Unopened,
     /// The file's text has this fault, or the reader or memory failed.
     Faulty(TraceFault),
+    /// The file has recorded steps of Linux, of which a column or the first step of a queue is missing, or which are to be
+    /// joined.
+    Unfit,
 }
 
-/// Audits one text. If `are_joined`, also compares its beginning with `end`, the end of the text before it, and
+/// The message for recorded steps of Linux that are to be joined.
+const NOT_JOINED: &str = "--joined is not for a text of pie-watch";
+
+/// Audits one history. If `are_joined`, also compares its beginning with `end`, the end of the text before it, and
 /// stores the end of this text in `end`.
 fn found_in<R: Read + Drop>(
     alloc: Global,
@@ -72,7 +81,8 @@ fn found_in<R: Read + Drop>(
     reader: R,
     end: &mut Option<TextEnd>,
 ) -> Result<Joined, TraceFault>
-    ensures writes_line { IfOk result (λ joined. HasTextOutcome are_joined ⊤ (R.remaining reader) end.old (Ok joined) end.new) }
+    ensures finds { IfOk result (λ joined. IfSome (R.remaining reader) (λ text. FindsJoined are_joined (records_of text) end.old joined end.new)) }
+    ensures end { IfOk result (λ joined. IsFoundEnd are_joined joined end.new) }
     ensures fault { IfSome (R.remaining reader) (λ text. IfErr result (λ why. Finds (records_of text) (Err why))) }
     ensures none { OnErr result (are_joined ≡ true → end.new ≡ None) }
 {
@@ -88,8 +98,107 @@ fn found_in<R: Read + Drop>(
     }
 }
 
+/// Returns the reason why a file was not audited, whose text has this fault. Writes its lines to `errors`.
+fn report_unaudited<H: NamedFiles, E: Write>(
+    rt: &H,
+    alloc: Global,
+    name: &str,
+    why: TraceFault,
+    errors: &mut E,
+) -> Unaudited
+    ensures { result ≡ Unaudited.Faulty why }
+{
+    named_fault(errors, name, why);
+    if name != "-" {
+        report_cause(rt, alloc, AUDIT, why, name, errors);
+    }
+    Unaudited::Faulty(why)
+}
+
+/// Audits recorded steps of Linux, and stores the finding in `steps`. If they can't be audited, or if they `are_joined`, returns
+/// the reason.
+fn found_in_steps<R: Read + Drop>(
+    alloc: Global,
+    are_joined: bool,
+    reader: R,
+    steps: &mut Option<StepsFinding>,
+) -> Result<Joined, Option<StepsFault>>
+    ensures { IfOk result (λ joined. (are_joined ≡ false) × (joined.joint ≡ None)) }
+{
+    if are_joined {
+        return Err(None);
+    }
+    match audit_steps(alloc, reader) {
+        Ok(found) => {
+            *steps = Some(found);
+            Ok(Joined {
+                finding: finding_of(found),
+                joint: None,
+            })
+        }
+        Err(why) => Err(Some(why)),
+    }
+}
+
+/// Returns the reason why recorded steps of Linux were not audited: this fault, or `None` if they are to be joined. Writes its
+/// line to `errors`.
+fn report_unaudited_steps<E: Write>(
+    name: &str,
+    why: Option<StepsFault>,
+    errors: &mut E,
+) -> Unaudited
+    ensures { result ≡ Unaudited.Unopened → ⊥ }
+{
+    let Some(why) = why else {
+        named_fault(errors, name, NOT_JOINED);
+        return Unaudited::Unfit;
+    };
+    named_fault(errors, name, why);
+    match why {
+        StepsFault::Trace(why) => Unaudited::Faulty(why),
+        StepsFault::NoColumn(_) => Unaudited::Unfit,
+        StepsFault::NoStart { .. } => Unaudited::Unfit,
+    }
+}
+
+/// Audits the file of this name, which `reader` reads, as `audit_named` does.
+fn audit_opened<H: NamedFiles + Clock, R: Read + Drop, E: Write>(
+    rt: &H,
+    alloc: Global,
+    is_shown: bool,
+    are_joined: bool,
+    name: &str,
+    reader: R,
+    end: &mut Option<TextEnd>,
+    steps: &mut Option<StepsFinding>,
+    errors: &mut E,
+) -> Result<Joined, Unaudited>
+    ensures { HasTextOutcome are_joined ⊤ (R.remaining reader) end.old result end.new }
+{
+    let (watched, kind) = ProgressReader::recognizing(reader, &mut *errors, rt, is_shown);
+    match kind {
+        Ok(false) => match found_in(alloc, are_joined, watched, end) {
+            Ok(joined) => Ok(joined),
+            Err(why) => Err(report_unaudited(rt, alloc, name, why, errors)),
+        },
+        Ok(true) => {
+            *end = None;
+            match found_in_steps(alloc, are_joined, watched, steps) {
+                Ok(joined) => Ok(joined),
+                Err(why) => Err(report_unaudited_steps(name, why, errors)),
+            }
+        }
+        Err(why) => {
+            drop(watched);
+            *end = None;
+            Err(report_unaudited(rt, alloc, name, why, errors))
+        }
+    }
+}
+
 /// Audits the file of this name. If `are_joined`, also compares its beginning with `end`, the end of the file before it.
-/// If it can't be opened or read, or has a fault, returns the reason, and writes a line to `errors`.
+/// If it can't be opened or read, or has a fault, returns the reason, and writes a line to `errors`. Stores the finding of
+/// recorded steps of Linux in `steps`.
 fn audit_named<H: NamedFiles + Clock, R: Read + Drop, E: Write>(
     rt: &H,
     alloc: Global,
@@ -98,27 +207,21 @@ fn audit_named<H: NamedFiles + Clock, R: Read + Drop, E: Write>(
     name: &str,
     input: &mut Option<R>,
     end: &mut Option<TextEnd>,
+    steps: &mut Option<StepsFinding>,
     errors: &mut E,
 ) -> Result<Joined, Unaudited>
     ensures writes_line { HasReadOutcome are_joined ((H.works ≡ true) × CanOpen input.old (H.holds rt.now name.now) name.now)
         (ReadsNamed R.remaining input.old (H.holds rt.now) name.now) end.old result end.new }
     ensures input { input.new ≡ left_for name.now input.old }
 {
+    *steps = None;
     let Some(reader) = reader_named(rt, name, input, errors) else {
         *end = None;
         return Err(Unaudited::Unopened);
     };
-    let watched = ProgressReader::new(reader, &mut *errors, rt, is_shown);
-    match found_in(alloc, are_joined, watched, end) {
-        Ok(joined) => Ok(joined),
-        Err(why) => {
-            named_fault(errors, name, why);
-            if name != "-" {
-                report_cause(rt, alloc, AUDIT, why, name, errors);
-            }
-            Err(Unaudited::Faulty(why))
-        }
-    }
+    audit_opened(
+        rt, alloc, is_shown, are_joined, name, reader, end, steps, errors,
+    )
 }
 
 /// Writes the line of a finding, behind the name of its file.
@@ -167,14 +270,20 @@ fn write_outcome<W: Write>(
     }
 }
 
-/// Writes the lines about the event of a file that differs, if there is one.
+/// Writes the lines about the event of a file that differs, if there is one; for recorded steps of Linux, with the finding
+/// `steps`, also the line about lost ones.
 fn report_outcome<H: NamedFiles, E: Write>(
     rt: &H,
     alloc: Global,
     name: &str,
     outcome: Result<Joined, Unaudited>,
+    steps: Option<StepsFinding>,
     errors: &mut E,
 ) {
+    if let Some(found) = steps {
+        report_finding(errors, Some(name), found);
+        return;
+    }
     if let Ok(joined) = outcome {
         if let Finding::Differs { event } = joined.finding {
             report_difference(rt, alloc, name, event, false, errors);
@@ -236,12 +345,13 @@ fn audit_files<H: NamedFiles + Clock, R: Read + Drop, W: Write, E: Write>(
 {
     let mut stdin = Some(input);
     let mut end: Option<TextEnd> = None;
+    let mut steps: Option<StepsFinding> = None;
     let mut unfound = false;
     let mut broken = false;
     for place in 0..names.len() {
         let name = name_at(names, place);
         let outcome = audit_named(
-            rt, alloc, is_shown, are_joined, name, &mut stdin, &mut end, errors,
+            rt, alloc, is_shown, are_joined, name, &mut stdin, &mut end, &mut steps, errors,
         );
         match write_outcome(name, outcome, output) {
             Ok(()) => {}
@@ -250,7 +360,7 @@ fn audit_files<H: NamedFiles + Clock, R: Read + Drop, W: Write, E: Write>(
                 return end_with_fault(errors, TraceFault::Write);
             }
         }
-        report_outcome(rt, alloc, name, outcome, errors);
+        report_outcome(rt, alloc, name, outcome, steps, errors);
         unfound |= outcome.is_err();
         broken |= is_broken(outcome);
     }
@@ -271,9 +381,21 @@ fn audit_input<H: NamedFiles + Clock, R: Read + Drop, W: Write, E: Write>(
 {
     // The type equals the type of a file's reader, so an audit is compiled once.
     let reader: Either<R, H::File> = Left(input);
-    let watched = ProgressReader::new(reader, &mut *errors, rt, is_shown);
-    let found = pie_audit::audit(alloc, watched);
-    report_end(found, output, errors)
+    let (watched, kind) = ProgressReader::recognizing(reader, &mut *errors, rt, is_shown);
+    match kind {
+        Ok(false) => {
+            let found = pie_audit::audit(alloc, watched);
+            report_end(found, output, errors)
+        }
+        Ok(true) => {
+            let found = audit_steps(alloc, watched);
+            report_audit(found, output, errors)
+        }
+        Err(why) => {
+            drop(watched);
+            end_with_fault(errors, why)
+        }
+    }
 }
 
 /// `pie audit`: audits the files that the options name, or `input` if they name none. With `--joined` they are the files

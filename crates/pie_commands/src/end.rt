@@ -24,8 +24,9 @@ pub enum End {
     CannotStart,
     /// The output file can't be created, or can't be moved onto its name. Each file is unchanged.
     NoOutputFile,
-    /// The command line is wrong, its options are not valid or select nothing that exists, or one of several files
-    /// could not be audited. The error stream has a line for it.
+    /// The command line is wrong, its options are not valid or select nothing that exists, recorded steps of Linux lack a
+    /// column or the first step of a queue, or one of several files could not be audited. The error stream has a line
+    /// for it.
     Failed,
 }
 

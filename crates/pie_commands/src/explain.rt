@@ -14,6 +14,7 @@ use crate::fault_report::{EXPLAIN, end_with_fault_in};
 use crate::files::{NamedFiles, open_input};
 use crate::options::{NO_ORDER, bound, file, flag, in_order, moment, number, parsed, report_two};
 use crate::progress::{ProgressReader, Screen, shows_progress, writes_to_terminal};
+use crate::steps::{explain_steps, report_explained, report_no_choice, step_choice_of};
 use clap::ArgMatches;
 use pie_explain::{EventChoice, EventRecords, ExplainFault, Form, Selection, Words};
 use pie_json::AsJson;
@@ -303,13 +304,33 @@ fn explain_chosen<H: NamedFiles + Screen, R: Read + Drop, W: Write, E: Write>(
     let Some(selection) = selection_of(options, errors) else {
         return End::Failed;
     };
-    let watched = ProgressReader::new(input, &mut *errors, rt, shows_progress(rt, options, true));
-    let kind = output_kind_of(options, style);
-    let outcome = explain_with(alloc, watched, output, selection, kind);
-    report_end(rt, alloc, errors, file(options), outcome)
+    let is_shown = shows_progress(rt, options, true);
+    let (watched, kind) = ProgressReader::recognizing(input, &mut *errors, rt, is_shown);
+    match kind {
+        Ok(false) => {
+            let kind = output_kind_of(options, style);
+            let outcome = explain_with(alloc, watched, output, selection, kind);
+            report_end(rt, alloc, errors, file(options), outcome)
+        }
+        Ok(true) => match step_choice_of(options) {
+            Some(choice) => {
+                let outcome = explain_steps(alloc, watched, output, choice);
+                report_explained(errors, file(options), choice, outcome)
+            }
+            None => {
+                drop(watched);
+                report_no_choice(options, errors);
+                End::Failed
+            }
+        },
+        Err(why) => {
+            drop(watched);
+            end_with_fault_in(rt, alloc, EXPLAIN, errors, file(options), why)
+        }
+    }
 }
 
-/// `pie explain`: explains the chosen events of the history or excerpt in the file that the options name, or in `input`,
+/// `pie explain`: explains the chosen events of the text in the file that the options name, or in `input`,
 /// up to its first fault or the first event that differs. Returns a difference as `End::Differs`. If the text has a
 /// fault, the options choose events more than once, no event matches, or the reader, the writer or memory fails, the end
 /// is an error. Each error has a line on `errors`; a writer's fault is reported later (`End::report`). On a

@@ -48,6 +48,9 @@ use std::thread::Threads;
 /// their output up to the first fault or the first event that differs. An audit of one text writes nothing if the text
 /// has a fault. If the options are not valid together, the end is `Failed` and nothing is written. If the reader, the
 /// writer or memory fails, the end names the failure.
+///
+/// An audit and an explanation also read a text of recorded steps of Linux (`is_linux_text`). Its decisions are proved in
+/// pie_linux_history; the definitions of their ends claim less of its finding and of its explanations.
 pub fn command<H: Threads + Wait + Sync + NamedFiles + Screen, R: Read + Drop, W: Write, E: Write>(
     rt: &mut H,
     alloc: Global,

@@ -1,13 +1,18 @@
 //! A reader that reports its progress and why a read failed, and the choice to report progress.
-ghost use Rattle.std.specs.Prelude.{◌≡◌};
-ghost use Rattle.pie_commands.specs.Parts.{inner_of, remaining_of};
+ghost use Rattle.std.specs.Prelude.{◌≡◌, IfErr, IfOk, IfSome, Some};
+ghost use Rattle.std.specs.Io.KnownBytes.{prepend_known};
+ghost use Rattle.pie_commands.specs.Parts.{head_bytes, inner_of, remaining_of};
+ghost use Rattle.pie_commands.specs.TextKinds.{is_linux_text};
+ghost use Rattle.pie_record.specs.declared.fault.TraceFault.{TraceFault};
 
 use crate::end::fault;
+use crate::head::{Head, recognize};
 use crate::options::{flag, output};
 use clap::ArgMatches;
+use pie_trace::TraceFault;
 use std::env::{Env, FillError};
 use std::io;
-use std::io::{Error, ErrorKind, IsTerminal, Read, Write};
+use std::io::{Chain, Error, ErrorKind, IsTerminal, Read, Write};
 use std::time::{Clock, Instant};
 
 /// The number of bytes between two reports.
@@ -19,7 +24,8 @@ const WIPE: &[u8] = b"\r\x1b[K";
 /// A wrapper of a reader. It returns the bytes of the inner reader. On `errors` it reports the system's reason for a
 /// failed read and, if requested, the progress.
 pub(crate) struct ProgressReader<R: Drop, W: Write + Drop, C: Clock + Drop> {
-    inner: R,
+    /// The inner reader, after the bytes that were read to recognize the text.
+    inner: Chain<Head, R>,
     errors: W,
     clock: C,
     /// The moment at which reading began, if the clock could be read.
@@ -118,13 +124,54 @@ impl<R: Read + Drop, W: Write + Drop, C: Clock + Drop> ProgressReader<R, W, C> {
     pub(crate) fn new(inner: R, errors: W, clock: C, is_shown: bool) -> ProgressReader<R, W, C>
         ensures { remaining_of R.remaining result ≡ R.remaining inner }
     {
+        ProgressReader::with_head(Head::none(), inner, errors, clock, is_shown)
+    }
+
+    /// Wraps a reader, and recognizes its text: the result is true for a text of recorded steps of Linux. The wrapper
+    /// returns all bytes of the text.
+    ///
+    /// # Errors
+    ///
+    /// `Read` if the reader fails before the text is recognized. The system's reason is then written to `errors`.
+    pub(crate) fn recognizing(
+        inner: R,
+        errors: W,
+        clock: C,
+        is_shown: bool,
+    ) -> (ProgressReader<R, W, C>, Result<bool, TraceFault>)
+        ensures kept { IfSome (R.remaining inner) (λ text. remaining_of R.remaining result.0 ≡ Some text) }
+        ensures recognized { IfOk result.1 (λ is_steps. IfSome (R.remaining inner) (λ text. is_steps ≡ is_linux_text text)) }
+        ensures fault { IfErr result.1 (λ why. why ≡ TraceFault.Read) }
+    {
+        let mut inner = inner;
+        let (head, found) = recognize(&mut inner);
+        let mut watched = ProgressReader::with_head(head, inner, errors, clock, is_shown);
+        match found {
+            Ok(is_steps) => (watched, Ok(is_steps)),
+            Err(why) => {
+                let _ = watched.report(why);
+                (watched, Err(TraceFault::Read))
+            }
+        }
+    }
+
+    /// Wraps a reader whose first bytes, those of `head`, were read. The wrapper reports its progress if it `is_shown`.
+    fn with_head(
+        head: Head,
+        inner: R,
+        errors: W,
+        clock: C,
+        is_shown: bool,
+    ) -> ProgressReader<R, W, C>
+        ensures { remaining_of R.remaining result ≡ prepend_known (head_bytes head) (R.remaining inner) }
+    {
         let begun = if is_shown {
             Instant::now(&clock).ok()
         } else {
             None
         };
         ProgressReader {
-            inner,
+            inner: head.chain(inner),
             errors,
             clock,
             begun,

@@ -7,10 +7,13 @@ use crate::queue::Queue;
 use crate::step::{Kind, QueueName, Step};
 use pie_record::{Record, RecordFault};
 use std::alloc::Global;
+use std::fmt;
 
 /// The numbers of a text.
 #[derive(Clone, Copy)]
 pub struct StepsCounts {
+    /// The rows after the first one, which is the number of the last event.
+    pub events: u64,
     /// The steps.
     pub steps: u64,
     /// The steps that the recorder lost.
@@ -30,6 +33,17 @@ pub struct StepDifference {
     pub difference: Difference,
 }
 
+impl fmt::Display for StepDifference {
+    fn fmt<W: fmt::Write>(&self, f: &mut fmt::Formatter<W>) -> fmt::Result {
+        let (queue, step, column) = (&self.queue, self.step, self.difference.column.name());
+        let (recorded, right) = (self.difference.recorded, self.difference.right);
+        write!(
+            f,
+            "queue {queue}, step {step}: {column} is recorded as {recorded}, the rules give {right}"
+        )
+    }
+}
+
 /// A queue with its name, and the number of its last step.
 #[derive(Drop)]
 struct Known {
@@ -44,8 +58,6 @@ pub(crate) struct Queues {
     alloc: Global,
     queues: Vec<Known>,
     pub counts: StepsCounts,
-    /// The number of the last row, counted from 1 after the first row.
-    pub event: u64,
     /// The last step, with its queue.
     last: Option<(QueueName, Step)>,
     /// The arrival of the last step.
@@ -60,8 +72,11 @@ impl Queues {
         Queues {
             alloc,
             queues: Vec::new(alloc),
-            counts: StepsCounts { steps: 0, lost: 0 },
-            event: 0,
+            counts: StepsCounts {
+                events: 0,
+                steps: 0,
+                lost: 0,
+            },
             last: None,
             arrival: None,
             lost: Vec::new(alloc),
@@ -83,7 +98,7 @@ impl Queues {
             None => *self.lost.get(place)?,
         };
         Some(Explained {
-            event: self.event,
+            event: self.counts.events,
             queue,
             step: step.number,
             moment: step.moment,
@@ -106,8 +121,8 @@ impl Queues {
         self.lost.clear();
         self.arrival = None;
         self.last = None;
-        self.event = self.event.wrapping_add(1);
-        let row = self.event.wrapping_add(1);
+        self.counts.events = self.counts.events.wrapping_add(1);
+        let row = self.counts.events.wrapping_add(1);
         match lost_at(fields) {
             Ok(None) => {}
             Ok(Some((queue, count))) => {
@@ -159,7 +174,7 @@ impl Queues {
         let next = known.last.wrapping_add(u64::from(!is_part));
         if step.number != next {
             return Ok(Some(difference_at(
-                self.event,
+                self.counts.events,
                 queue,
                 step,
                 Difference {
@@ -174,7 +189,14 @@ impl Queues {
             return Err(out_of_memory());
         };
         self.arrival = decision.arrival;
-        Ok(decision.difference.map(|difference| difference_at(self.event, queue, step, difference)))
+        Ok(
+            decision.difference.map(|difference| difference_at(
+                self.counts.events,
+                queue,
+                step,
+                difference,
+            )),
+        )
     }
 
     /// Makes a queue, in the place of an earlier one with the same name.

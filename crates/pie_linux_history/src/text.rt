@@ -1,12 +1,25 @@
 //! Audits and explanations of a text of recorded steps.
 use crate::choice::StepChoice;
-use crate::columns::Columns;
+use crate::columns::{Columns, out_of_memory};
 use crate::fault::StepsFault;
 use crate::queues::{Queues, StepDifference, StepsCounts};
 use pie_record::{Record, Records, TraceFault};
 use std::alloc::Global;
 use std::io;
-use std::io::{Read, Write};
+use std::io::{BufWriter, Read, Write};
+
+/// A reader of steps. It is a type of its own, so that the functions of pie_record that read histories have no further
+/// caller, and are inlined.
+#[derive(Drop)]
+struct StepsReader<R: Read + Drop>(R);
+
+impl<R: Read + Drop> Read for StepsReader<R> {
+    ghost remaining = { λ it. R.remaining it.0 };
+
+    fn read(&mut self, buf: &mut [u8]) -> io::Result<usize> {
+        self.0.read(buf)
+    }
+}
 
 /// The result of an audit.
 #[derive(Clone, Copy)]
@@ -74,7 +87,7 @@ fn audit_steps<R: Read>(
 /// The fault of the first record that cannot be read, a missing column, a queue without its first step, a failure of the
 /// reader, or of memory.
 pub fn audit<R: Read + Drop>(alloc: Global, input: R) -> Result<StepsFinding, StepsFault> {
-    let mut records = Records::new(alloc, input);
+    let mut records = Records::new(alloc, StepsReader(input));
     let mut fields = Record::new(alloc);
     let mut queues = Queues::new(alloc);
     match read_columns(&mut records, &mut fields) {
@@ -125,8 +138,8 @@ fn explain_steps<R: Read, W: Write>(
     Ok((count, StepsFinding::Clean(queues.counts)))
 }
 
-/// Writes the explanations of the chosen packets of a text of recorded steps to `output`, up to the first step that
-/// differs. Returns their number and the finding.
+/// Writes the explanations of the chosen packets of a text of recorded steps to `output`, up to the first fault and the
+/// first step that differs. Returns their number and the finding.
 ///
 /// # Errors
 ///
@@ -137,18 +150,26 @@ pub fn explain<R: Read + Drop, W: Write>(
     output: &mut W,
     choice: StepChoice,
 ) -> Result<(u64, StepsFinding), StepsFault> {
-    let mut records = Records::new(alloc, input);
+    let mut records = Records::new(alloc, StepsReader(input));
     let mut fields = Record::new(alloc);
     let mut queues = Queues::new(alloc);
-    match read_columns(&mut records, &mut fields) {
-        Ok(columns) => explain_steps(
-            &mut records,
-            &columns,
-            &mut fields,
-            &mut queues,
-            choice,
-            output,
-        ),
-        Err(why) => Err(why),
+    let columns = match read_columns(&mut records, &mut fields) {
+        Ok(columns) => columns,
+        Err(why) => return Err(why),
+    };
+    let Ok(mut page) = BufWriter::new(alloc, output) else {
+        return Err(out_of_memory());
+    };
+    let explained = explain_steps(
+        &mut records,
+        &columns,
+        &mut fields,
+        &mut queues,
+        choice,
+        &mut page,
+    );
+    match (page.flush(), explained) {
+        (Err(_), Ok(_)) => Err(StepsFault::Trace(TraceFault::Write)),
+        _ => explained,
     }
 }

@@ -45,6 +45,12 @@ If the file before is clean, a second line follows the line of each file except 
 If all files are clean and follow each other, they are one history with the opening of the first
 file.
 
+A text that pie-watch wrote has the steps of pie and fq_pie of a Linux kernel. Each step is decided
+again by the kernel's rules. The events are the rows after the first, numbered from 1. After
+differs,<event> standard error has the queue, its step, the column, the recorded number and the one
+that the rules give. For a clean text it has the number of steps that the recorder lost, if any.
+--joined is not for such texts.
+
 Example: the output of pie run is clean, and the line is clean,2:
 
   printf 'open,0,4,16,100\\narrive,1,10,7,1500,ect0,0\\ndepart,2,25\\n' |
@@ -132,6 +138,11 @@ then has the event's record, the record that the rules give there, and the expla
 event. If a record cannot be read, the status is 1. It is also 1 if the event of --event or each
 packet of --tag is missing, or lies outside --from and --to. With -o FILE the output is moved to
 FILE when it is complete, also with status 2. pie run --help describes -o.
+
+Of a text that pie-watch wrote, --lost explains each packet that the kernel dropped, --marked each
+that it marked, --all each arrival and each dropped packet, and --event N the packets of event N,
+the row N after the first. One of these four is needed, and of the other options only -o, --force
+and --progress are accepted. Explanations are in words, and moments are times since boot.
 
 Example: why was a packet lost? The file trace has the trace of the example of pie run --help:
 

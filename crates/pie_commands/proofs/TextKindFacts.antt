@@ -1,0 +1,89 @@
+-- Facts about the two kinds of texts, and about the ends of an audit and an explanation whose reader fails at once.
+use Rattle.std.proofs.Common.{arith, ◌≡◌, ◌∙◌, ◌<◌, ℕ, suc, zero, List, [], ◌++◌, Bool, true, Option, Some, None, append-nil, ap, sym, take, codes, false, refl, inl, inr}
+use Rattle.std.proofs.lemmas.Bool.Decides.{nat_tests}
+use Rattle.std.specs.Io.KnownBytes.{Consumes}
+use Rattle.std.specs.Prelude.{◌⊎◌, ⊤, IfSome, Ok, Err, Result}
+use Rattle.clap.specs.Words.{Row}
+use Rattle.pie_audit.specs.Text.{Finds}
+use Rattle.pie_audit.specs.declared.auditor.Finding.{Finding}
+use Rattle.pie_cut.specs.Joined.{EndView}
+use Rattle.pie_cut.specs.declared.joint_audit.Joined.{Joined}
+use Rattle.pie_explain.specs.TextAnswer.{ExplainsText}
+use Rattle.pie_explain.specs.declared.explanation.Explained.{Explained}
+use Rattle.pie_explain.specs.declared.fault.ExplainFault.{ExplainFault}
+use Rattle.pie_explain.specs.declared.fault.ExplainFault.TheVariants.{Trace}
+use Rattle.pie_explain.specs.declared.selection.Selection.{Selection}
+use Rattle.pie_linux_history.specs.declared.fault.StepsFault.{StepsFault}
+use Rattle.pie_linux_history.specs.declared.fault.StepsFault.TheVariants as steps_fault
+use Rattle.pie_linux_history.specs.declared.text.StepsFinding.{StepsFinding}
+use Rattle.pie_record.specs.Text.{records_of}
+use Rattle.pie_record.specs.declared.fault.TraceFault.{TraceFault}
+use Rattle.pie_record.specs.declared.fault.TraceFault.TheVariants.{Read}
+use Rattle.pie_commands.specs.Ends.{EndsInputAudit, WritesFinding, WritesSteps}
+use Rattle.pie_commands.specs.Explanations.{EndsStepsExplain, explain_ends, end_of_explain}
+use Rattle.pie_commands.specs.FileAudits.{FindsJoined, HasTextOutcome, IsFoundEnd}
+use Rattle.pie_commands.specs.TextKinds.{IsHistory, IsLinux, TakesByte, is_linux_text}
+use Rattle.pie_commands.specs.declared.audit.Unaudited.{Unaudited}
+use Rattle.pie_commands.specs.declared.audit.Unaudited.TheVariants.{Unopened, Faulty, Unfit}
+use Rattle.pie_commands.specs.declared.end.End.{End}
+use Rattle.pie_commands.specs.declared.end.End.TheVariants.{Fault}
+
+-- ---- the first bytes
+
+-- a text within the first bytes of recorded steps
+part-only : (place : ℕ) → place < 4 → false ≡ is_linux_text (take place (codes "qid,"))
+part-only zero within = refl
+part-only (suc zero) within = refl
+part-only (suc (suc zero)) within = refl
+part-only (suc (suc (suc zero))) within = refl
+part-only (suc (suc (suc (suc more)))) within = absurd (omega (arith, within))
+
+-- a text that ends within these bytes
+pub text-ends : (place : ℕ) (before mid after : Option (List ℕ)) → place < 4 → Consumes before mid (take place (codes "qid,"))
+    → TakesByte mid (Ok None) after → IfSome before (λ text. false ≡ is_linux_text text)
+text-ends place None mid after within consumed none = tt
+text-ends place (Some text) None after within consumed none = absurd consumed
+text-ends place (Some text) (Some rest) after within consumed none =
+    let same : text ≡ take place (codes "qid,") =
+    consumed ∙ ap (λ (r : List ℕ). take place (codes "qid,") ++ r) none.0 ∙ append-nil (take place (codes "qid,")) in
+    rw same (part-only place within)
+
+-- ---- a text that was recognized
+
+pub either-kind : (known : Option (List ℕ)) → IsHistory known ⊎ IsLinux known
+either-kind None = inl tt
+either-kind (Some text) = go (is_linux_text text) refl
+  where
+    go : (is : Bool) → is_linux_text text ≡ is → (is_linux_text text ≡ false) ⊎ (is_linux_text text ≡ true)
+    go false same = inl same
+    go true same = inr same
+
+-- ---- the ends if the reader failed before the text was recognized
+
+no-finding : (known : Option (List ℕ)) → IfSome known (λ text. Finds (records_of text) (Err Read))
+no-finding None = tt
+no-finding (Some text) = λ none. let wrong : true ≡ false = none in cc
+
+pub unread-audited : (known before : Option (List ℕ)) → EndsInputAudit known (Fault Read) before before
+unread-audited known before = go (either-kind known)
+  where
+    go : IsHistory known ⊎ IsLinux known → EndsInputAudit known (Fault Read) before before
+    go (inl is) = inl (is, (Err Read, (refl, refl), no-finding known))
+    go (inr is) = inr (is, (Err (steps_fault.Trace Read), (refl, refl)))
+
+no-explanation : (known : Option (List ℕ)) (selection : Selection) (whole : List Explained → List ℕ) (before : Option (List ℕ))
+    → IfSome known (λ text. ExplainsText selection whole (records_of text) (Err (Trace Read)) before before)
+no-explanation None selection whole before = tt
+no-explanation (Some text) selection whole before = record {
+  faulted = λ none. let wrong : true ≡ false = none Read refl in cc;
+  stands = λ none. let wrong : true ≡ false = none Read refl in cc;
+  continued = λ none. let wrong : true ≡ false = none Read refl in cc;
+}
+
+pub unread-explained : (known : Option (List ℕ)) (selection : Selection) (whole : List Explained → List ℕ) (options : List Row) (before : Option (List ℕ))
+    → explain_ends (Some selection) whole options known (Fault Read) before before
+unread-explained known selection whole options before = go (either-kind known)
+  where
+    go : IsHistory known ⊎ IsLinux known → explain_ends (Some selection) whole options known (Fault Read) before before
+    go (inl is) = inl (is, (Err (Trace Read), refl, no-explanation known selection whole before))
+    go (inr is) = inr (is, inl (refl, refl))

@@ -1,6 +1,6 @@
 -- Worked rows: ranges, the opening for a link, margins, the conditions of warnings, and the mean wait.
 use Rattle.std.proofs.Common.{ℕ, ◌≡◌, ◌≤◌, ◌<◌, ◌*◌, ◌+◌, ◌^◌, [], codes, refl, arith}
-use Rattle.std.specs.Prelude.{None, Some, true, false, ⊤}
+use Rattle.std.specs.Prelude.{None, Some, true, false, ⊤, map, ◌∷◌}
 use Rattle.std.specs.Fmt.{digits}
 use Rattle.pie_units.specs.declared.layer.Overhead.TheVariants.{Added, Removed}
 use Rattle.pie_units.specs.declared.unit.Quantity.TheVariants.{Packets, Time}
@@ -11,6 +11,7 @@ use Rattle.pie_advise.specs.Outlook.{IsRoot, is_crowded, is_predicted, is_unstab
 use Rattle.pie_advise.specs.Request.{range_in}
 use Rattle.pie_advise.specs.Settings.{full_packets}
 use Rattle.pie_advise.specs.declared.margin.Margin.TheVariants.{Outside, Stable, Unstable}
+use Rattle.pie_advise.specs.declared.margin_table.TheConstants.{RATES, TRIPS}
 use Rattle.pie_advise.specs.declared.request.Range.{Range}
 use Rattle.pie_advise.specs.declared.request.Request.{Request}
 
@@ -47,6 +48,19 @@ margins : (margin_at 10_000_000 10_000_000 ≡ margin_at 9_000_000 9_000_000) ×
     × (margin_at 200_000_001 1 ≡ Unstable) × (margin_at 1 1_000_000_001 ≡ Outside) × (margin_at 1 1 ≡ Outside)
 unfolding margin_at
 margins = (refl, refl, refl, refl, refl)
+
+-- the bounds of the table: 10 to 200 ms, and 100 kbit/s to 1 Gbit/s per flow
+bounds : (TRIPS ≡ map (λ ms. ms * 10 ^ 6) (10 ∷ 20 ∷ 50 ∷ 100 ∷ 200 ∷ []))
+    × (RATES ≡ map (λ kbit. kbit * 1000) (100 ∷ 200 ∷ 500 ∷ 1000 ∷ 2000 ∷ 5000 ∷ 10_000 ∷ 20_000 ∷ 50_000 ∷ 100_000 ∷ 200_000 ∷ 500_000 ∷ 1_000_000 ∷ []))
+bounds = (refl, refl)
+
+-- rows of the table at 1, 5, 10 and 100 Mbit/s per flow: the margins fall with the round-trip time and the rate
+rows : let at = λ (ms : ℕ). map (λ mbit. margin_at (ms * 10 ^ 6) (mbit * 10 ^ 6)) (1 ∷ 5 ∷ 10 ∷ 100 ∷ []) in
+    (at 10 ≡ Stable 90 40 ∷ Stable 87 26 ∷ Stable 65 20 ∷ Stable 21 20 ∷ []) × (at 20 ≡ Stable 90 33 ∷ Stable 61 19 ∷ Stable 47 16 ∷ Stable 14 16 ∷ [])
+    × (at 50 ≡ Stable 71 17 ∷ Stable 18 7 ∷ Stable 8 6 ∷ Stable 2 5 ∷ []) × (at 100 ≡ Stable 14 4 ∷ Unstable ∷ Unstable ∷ Unstable ∷ [])
+    × (at 200 ≡ Unstable ∷ Unstable ∷ Unstable ∷ Unstable ∷ [])
+unfolding margin_at
+rows = (refl, refl, refl, refl, refl)
 
 -- four flows at 10 Mbit/s and 20 ms have a prediction; not at 200 ms, nor a single flow, nor 64 flows at 2 Mbit/s
 predicted : let predicts = λ (request : Request). is_predicted request (opening_for_link request).params in

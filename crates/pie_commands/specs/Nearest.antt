@@ -1,5 +1,5 @@
--- The nearest of two keywords to a word.
-use Rattle.std.specs.Prelude.{ℕ, Option, Some, None, length, nat_eq, nat_le, ◌&&◌, if◌then◌else◌}
+-- The nearest of some keywords to a word.
+use Rattle.std.specs.Prelude.{ℕ, List, [], Option, Some, None, length, nat_eq, nat_le, nat_lt, ◌∷◌, if◌then◌else◌}
 use Rattle.std.specs.Str.{chars}
 use Rattle.strsim.specs.Edits.{levenshtein_row}
 use Rattle.clap.specs.Words.{Text}
@@ -8,9 +8,13 @@ use Rattle.clap.specs.Words.{Text}
 abbrev pub distance : Text → Text → ℕ
 distance word keyword = levenshtein_row nat_eq (chars word) (chars keyword) (length (chars keyword))
 
--- the keyword that is nearest to a word, if its distance is at most 2; the first of two that are as near
-abbrev pub nearest : Text → Text → Text → Option Text
-nearest word first second =
-    if nat_le (distance word first) 2 && nat_le (distance word first) (distance word second) then Some first
-    else if nat_le (distance word second) 2 then Some second
-    else None
+-- the nearer of a keyword and the nearest later one, if there is one, at a distance of at most 2; the keyword if both are as near
+abbrev pub nearer : Text → Text → Option Text → Option Text
+nearer word keyword None = if nat_le (distance word keyword) 2 then Some keyword else None
+nearer word keyword (Some other) =
+    if nat_lt (distance word other) (distance word keyword) then Some other else if nat_le (distance word keyword) 2 then Some keyword else Some other
+
+-- the first keyword that is nearest to a word, if its distance is at most 2
+unfoldable pub nearest : Text → List Text → Option Text
+nearest word [] = None
+nearest word (keyword ∷ keywords) = nearer word keyword (nearest word keywords)

@@ -5,7 +5,7 @@ ghost use Rattle.pie_commands.specs.Ends.{end_of};
 
 use crate::end::{End, end_with_fault};
 use crate::files::NamedFiles;
-use pie_diagnosis::{TextKind, find_cause, write_cause};
+use pie_diagnosis::{Cause, TextKind, find_cause, write_cause};
 use pie_trace::TraceFault;
 use std::alloc::Global;
 use std::io::Write;
@@ -68,13 +68,28 @@ pub(crate) fn report_cause<H: NamedFiles, E: Write>(
     if matches!(why, TraceFault::Write | TraceFault::Memory) {
         return;
     }
-    if let Some(file) = rt.open_again(name) {
-        if let Some(cause) = find_cause(alloc, reading.kind, why, file) {
+    match cause_in(rt, alloc, reading.kind, why, name) {
+        Some(cause) => {
             let _ = write_cause(&cause, name, reading.command, errors);
-            return;
+        }
+        None => {
+            let _ = writeln!(errors, "pie: the text is in {name}");
         }
     }
-    let _ = writeln!(errors, "pie: the text is in {name}");
+}
+
+/// Returns the cause of the fault `why` of the text in the file `name`, which is opened twice: once for its records, and
+/// once for its lines. `None` if the cause is not found.
+fn cause_in<H: NamedFiles>(
+    rt: &H,
+    alloc: Global,
+    kind: TextKind,
+    why: TraceFault,
+    name: &str,
+) -> Option<Cause> {
+    let reader = rt.open_again(name)?;
+    let again = rt.open_again(name)?;
+    find_cause(alloc, kind, why, reader, again)
 }
 
 /// Returns the end for a fault of a text, and writes its line to `errors`. If the text is in the file `name`, further

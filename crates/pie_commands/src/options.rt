@@ -15,7 +15,9 @@ mod values;
 mod what_if_page;
 
 pub(crate) use command_line::options;
-pub(crate) use mistakes::{report_elements, report_keyword, report_numbers, report_two};
+pub(crate) use mistakes::{
+    report_elements, report_keyword, report_nearest, report_numbers, report_two,
+};
 pub(crate) use subcommand::Subcommand;
 pub(crate) use values::{
     NO_ORDER, bound, file, file_of, flag, in_order, moment, number, number_or, output, parsed, text,

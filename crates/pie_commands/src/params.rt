@@ -8,7 +8,7 @@ ghost use Rattle.pie_units.specs.declared.options.TuningOptions.{TuningOptions};
 ghost use Rattle.pie_commands.specs.Tuning.{AsksFor, AsksForLayer, EndsParams, given_or, link_layer_by, number_by};
 
 use crate::end::{End, end_failed, end_with_fault};
-use crate::options::{flag, number, number_or, parsed, report_keyword, text};
+use crate::options::{flag, number, number_or, parsed, report_keyword, report_nearest, text};
 use crate::storm::decay_of;
 use clap::ArgMatches;
 use pie_book::Limits;
@@ -70,7 +70,13 @@ fn layer_in<E: Write>(alloc: Global, options: &ArgMatches<'_>, errors: &mut E) -
     let overhead = parsed(overhead_in(options), "--overhead", errors)?;
     let Some(format) = link_layer_by(text(options, "linklayer")) else {
         let _ = writeln!(errors, "pie: --linklayer must be ethernet, atm or adsl");
-        report_keyword(alloc, options, "linklayer", "ethernet", "atm", errors);
+        report_nearest(
+            alloc,
+            options,
+            "linklayer",
+            &["ethernet", "atm", "adsl"],
+            errors,
+        );
         return None;
     };
     Some(Layer {

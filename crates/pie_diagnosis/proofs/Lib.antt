@@ -1,3 +1,5 @@
 mod Examples
 mod FaultFacts
+pub mod LineFacts
 pub mod RefusedFacts
+pub mod RowFacts

@@ -1,14 +1,20 @@
 //! The cause of a fault in a text, which is read again up to the fault's record.
+ghost use Rattle.std.specs.Prelude.{◌≡◌, ◌<◌, ◌+◌, ◌-◌, IfSome, None, Some, false, true, if◌then◌else◌, slice_get};
+ghost use Rattle.pie_record.specs.Text.{TakesRow, records_of};
+ghost use Rattle.pie_diagnosis.specs.Names.{field_at};
+ghost use Rattle.pie_diagnosis.specs.Causes.{FirstReason, IsLaterIn, IsReasonIn, IsReasonAt, QueuedReason, cause_in, count_reason, is_in_range, is_of_record, later_reason, other_kind, quote_of, record_of, refused_cause};
+ghost use Rattle.pie_diagnosis.specs.Lines.{line_in_text};
 
 use crate::excerpt::{Announced, end_cause, numbers_cause, packet_cause};
 use crate::field::Field;
 use crate::fields::Form;
 use crate::first_record::{first_form, is_resume, number_cause, opening_cause};
+use crate::head_reader::HeadReader;
 use crate::hint::Hint;
-use crate::line_reader::LineReader;
+use crate::line_finder::line_of_record;
 use crate::permitted::Permitted;
 use crate::queue::QueueRead;
-use crate::quoted::{Quoted, line_ends_in};
+use crate::quoted::Quoted;
 use crate::refused::{RefusedField, form_of, is_correct, refused_field, refused_in};
 use crate::text::TextKind;
 use pie_record::field::{has_word, long_number_at};
@@ -32,12 +38,9 @@ pub struct FieldCause {
 
 impl FieldCause {
     /// Returns the cause in the field at `place` of the record.
-    pub(crate) fn new(
-        row: &Record,
-        place: usize,
-        field: Field,
-        permitted: Permitted,
-    ) -> FieldCause {
+    pub(crate) fn new(row: &Record, place: usize, field: Field, permitted: Permitted) -> FieldCause
+        ensures { result ≡ cause_in row.now place field permitted }
+    {
         FieldCause {
             place,
             field,
@@ -47,13 +50,17 @@ impl FieldCause {
     }
 
     /// Returns the cause in a field that is not allowed at its place.
-    pub(crate) fn refused(row: &Record, refused: RefusedField) -> FieldCause {
+    pub(crate) fn refused(row: &Record, refused: RefusedField) -> FieldCause
+        ensures { result ≡ refused_cause row.now refused }
+    {
         let permitted = Permitted::Content(refused.field.allowed());
         FieldCause::new(row, refused.place, refused.field, permitted)
     }
 
     /// Returns the reason for a fault, unless the record has an allowed number in the field.
-    fn reason(self, row: &Record) -> Option<Reason> {
+    fn reason(self, row: &Record) -> Option<Reason>
+        ensures { result ≡ (if is_in_range self.permitted (field_at row.now self.place) then None else Some (Reason.Field self)) }
+    {
         if let Permitted::Range { least, most } = self.permitted {
             match long_number_at(row, self.place, most) {
                 Ok(number) if least <= number => return None,
@@ -85,7 +92,7 @@ pub enum Reason {
 /// The cause of a fault.
 #[derive(Clone, Copy)]
 pub struct Cause {
-    /// The number of the line in which the record begins, counted from 1.
+    /// The number of the line in which the record begins, counted from 1. 1 if the reason is the whole file.
     pub line: u64,
     /// The reason.
     pub reason: Reason,
@@ -93,8 +100,19 @@ pub struct Cause {
     pub other: Option<TextKind>,
 }
 
+/// The reason for a fault, and the kind of text in which the record would be correct, if it is another kind.
+#[derive(Clone, Copy)]
+pub struct FoundReason {
+    /// The reason.
+    pub reason: Reason,
+    /// The other kind of text.
+    pub other: Option<TextKind>,
+}
+
 /// Returns the number of the record that a fault names. `None` if the fault names none.
-fn record_of(why: TraceFault) -> Option<u64> {
+fn record_of(why: TraceFault) -> Option<u64>
+    ensures { result ≡ record_of why }
+{
     match why {
         TraceFault::NoOpen | TraceFault::Opening(_) => Some(1),
         TraceFault::Kind { row }
@@ -106,110 +124,179 @@ fn record_of(why: TraceFault) -> Option<u64> {
     }
 }
 
-/// Returns the cause of the fault `why` that a text of this kind has, from the text's reader (this project's own). `None` if the fault names no
-/// record, if the text has no such fault, or if it cannot be read again.
+/// Returns the cause of the fault `why` that a text of this kind has (this project's own). `reader` and `again` both read the text from its
+/// beginning: the one for its records, the other for its lines. `None` if the fault names no record, if the text has no such fault, or if it cannot
+/// be read again.
 pub fn find_cause<R: Read + Drop>(
     alloc: Global,
     kind: TextKind,
     why: TraceFault,
     reader: R,
-) -> Option<Cause> {
+    again: R,
+) -> Option<Cause>
+    ensures line { IfSome result (λ cause. IfSome (record_of why) (λ number. is_of_record cause.reason ≡ true
+        → IfSome (R.remaining again) (λ text. line_in_text (number - 1) text ≡ Some cause.line))) }
+    ensures reason { IfSome result (λ cause. IfSome (record_of why) (λ number. IfSome (R.remaining reader)
+        (λ text. IsReasonAt kind why number (records_of text) (record { reason = cause.reason; other = cause.other })))) }
+{
+    let mut lines = again;
     let number = record_of(why)?;
-    let mut lines = LineReader::new(reader);
-    let mut first = Record::new(alloc);
-    if !read_record(alloc, &mut lines, &mut first) {
-        return cause_without_record(why, &lines);
-    }
-    if number == 1 {
-        let line = line_of(&lines, &first);
-        let reason = first_reason(alloc, kind, why, &first, &mut lines)?;
-        return Some(Cause {
-            line,
-            reason,
-            other: None,
-        });
-    }
-    later_cause(alloc, kind, why, number, &first, &mut lines)
+    let found = find_reason(alloc, kind, why, number, reader)?;
+    let line = line_of_reason(found.reason, number, &mut lines)?;
+    Some(Cause {
+        line,
+        reason: found.reason,
+        other: found.other,
+    })
 }
 
-/// Reads the next record, and no line after it. Returns true if there was one.
-fn read_record<L: Read + Drop>(alloc: Global, lines: L, row: &mut Record) -> bool {
-    let mut records = Records::new(alloc, lines);
+/// Returns the line in which the record with this number begins, if it is the reason. `reader` reads the text from its beginning.
+fn line_of_reason<R: Read>(reason: Reason, number: u64, reader: &mut R) -> Option<u64>
+    ensures { IfSome result (λ line. is_of_record reason ≡ true → IfSome (R.remaining reader.old) (λ text. line_in_text (number - 1) text ≡ Some line)) }
+{
+    if let Reason::File(_) = reason {
+        return Some(1);
+    }
+    match line_of_record(reader, number.saturating_sub(1)) {
+        Ok(line) => line,
+        Err(_) => None,
+    }
+}
+
+/// Returns the reason for the fault `why` in the record with this number.
+fn find_reason<R: Read + Drop>(
+    alloc: Global,
+    kind: TextKind,
+    why: TraceFault,
+    number: u64,
+    reader: R,
+) -> Option<FoundReason>
+    requires { record_of why ≡ Some number }
+    ensures { IfSome result (λ found. IfSome (R.remaining reader) (λ text. IsReasonAt kind why number (records_of text) found)) }
+{
+    if let TraceFault::NoOpen = why {
+        return unopened_reason(alloc, kind, reader);
+    }
+    let mut records = Records::new(alloc, reader);
+    let mut first = Record::new(alloc);
+    reason_in(alloc, kind, why, number, &mut records, &mut first)
+}
+
+/// Reads the next record. Returns true if there was one.
+fn read_record<R: Read>(records: &mut Records<R>, row: &mut Record) -> bool
+    ensures { result ≡ true → TakesRow records.old true row.new records.new }
+{
     matches!(records.next(row), Ok(true))
 }
 
-/// Returns the number of the line in which the last record that was read begins. A record that ends the text without a line end has read one line
-/// end less than others.
-fn line_of<R: Drop>(lines: &LineReader<R>, row: &Record) -> u64 {
-    let after = lines.ends.saturating_add(u64::from(lines.is_over));
-    after.saturating_sub(line_ends_in(row))
-}
-
-/// Returns the cause of a text without a record.
-fn cause_without_record<R: Drop>(why: TraceFault, lines: &LineReader<R>) -> Option<Cause> {
-    if !matches!(why, TraceFault::NoOpen) {
-        return None;
-    }
-    let hint = if lines.count == 0 {
-        Hint::Empty
-    } else {
-        Hint::NoRecord
-    };
-    Some(Cause {
-        line: 1,
-        reason: Reason::File(hint),
+/// Returns the reason of a text whose first record opens no book.
+#[tactic(auto, using(crate::proofs::RowFacts::unopened))]
+fn unopened_reason<R: Read + Drop>(alloc: Global, kind: TextKind, reader: R) -> Option<FoundReason>
+    ensures { IfSome result (λ found. IfSome (R.remaining reader) (λ text. IsReasonAt kind TraceFault.NoOpen 1 (records_of text) found)) }
+{
+    let mut head = HeadReader::new(reader);
+    let mut first = Record::new(alloc);
+    let is_there = read_first(alloc, &mut head, &mut first);
+    Some(FoundReason {
+        reason: unopened_by(kind, is_there, &first, head.first, head.count == 0),
         other: None,
     })
 }
 
-/// Returns the reason in the first record.
-fn first_reason<R: Read + Drop>(
+/// Returns the reason of a text with these first bytes, whose first record opens no book. `is_there` is true if it has a first record, `row`.
+fn unopened_by(
+    kind: TextKind,
+    is_there: bool,
+    row: &Record,
+    first: [u8; 4],
+    is_empty: bool,
+) -> Reason
+    ensures record { is_there ≡ true → IsReasonIn row.now result × FirstReason kind TraceFault.NoOpen row.now result }
+    ensures file { is_there ≡ false → is_of_record result ≡ false }
+{
+    match Hint::of(first) {
+        Some(hint) => Reason::File(hint),
+        None if is_there => {
+            Reason::Field(FieldCause::new(row, 0, Field::Kind, Permitted::FirstKinds(kind)))
+        }
+        None if is_empty => Reason::File(Hint::Empty),
+        None => Reason::File(Hint::NoRecord),
+    }
+}
+
+/// Reads the first record of a reader. Returns true if there was one.
+fn read_first<R: Read + Drop>(alloc: Global, reader: R, row: &mut Record) -> bool
+    ensures { result ≡ true → IfSome (R.remaining reader) (λ text. slice_get (records_of text) 0 ≡ Some row.new) }
+{
+    let mut records = Records::new(alloc, reader);
+    read_record(&mut records, row)
+}
+
+/// Returns the reason for the fault `why` in the record with this number. The first record of the text is next.
+fn reason_in<R: Read>(
     alloc: Global,
     kind: TextKind,
     why: TraceFault,
+    number: u64,
+    records: &mut Records<R>,
+    first: &mut Record,
+) -> Option<FoundReason>
+    ensures { IfSome result (λ found. IfSome records.old (λ rows. IsReasonAt kind why number rows found)) }
+{
+    if !read_record(records, first) {
+        return None;
+    }
+    if number == 1 {
+        return Some(FoundReason {
+            reason: first_reason(alloc, why, first, records)?,
+            other: None,
+        });
+    }
+    later_cause(alloc, kind, why, number, first, records)
+}
+
+/// Returns the reason in the first record, after which these records come.
+fn first_reason<R: Read>(
+    alloc: Global,
+    why: TraceFault,
     row: &Record,
-    lines: &mut LineReader<R>,
-) -> Option<Reason> {
+    records: &mut Records<R>,
+) -> Option<Reason>
+    ensures within { IfSome result (IsReasonIn row.now) }
+    ensures reason { (kind : TextKind) → IfSome result (FirstReason kind why row.now) }
+{
     let cause = match why {
-        TraceFault::NoOpen => return Some(no_opening(kind, row, lines.first)),
         TraceFault::Fields { .. } => return count_reason(first_form(row)?, row),
         TraceFault::Number { .. } | TraceFault::Word { .. } => number_cause(row)?,
         TraceFault::Opening(why) => opening_cause(row, why),
-        TraceFault::Excerpt { why, .. } => excerpt_cause(alloc, why, row, lines)?,
+        TraceFault::Excerpt { why, .. } => excerpt_cause(alloc, why, row, records)?,
         _ => return None,
     };
     cause.reason(row)
 }
 
-/// Returns the reason of a first record that opens no book.
-fn no_opening(kind: TextKind, row: &Record, first: [u8; 4]) -> Reason {
-    match Hint::of(first) {
-        Some(hint) => Reason::File(hint),
-        None => Reason::Field(FieldCause::new(row, 0, Field::Kind, Permitted::FirstKinds(kind))),
-    }
-}
-
 /// Returns the cause of a preamble that is not accepted, in its first record.
-fn excerpt_cause<R: Read + Drop>(
+fn excerpt_cause<R: Read>(
     alloc: Global,
     why: ExcerptFault,
     row: &Record,
-    lines: &mut LineReader<R>,
-) -> Option<FieldCause> {
+    records: &mut Records<R>,
+) -> Option<FieldCause>
+    ensures { IfSome result (λ cause. cause.value ≡ quote_of (field_at row.now cause.place)) }
+{
     match why {
         ExcerptFault::Numbers(why) => numbers_cause(row, why),
-        ExcerptFault::End(why) => Some(end_cause(row, read_queue(alloc, &mut *lines), why)),
+        ExcerptFault::End(why) => Some(end_cause(row, read_queue(alloc, records), why)),
         ExcerptFault::Packet(_) => None,
     }
 }
 
 /// Reads the `queued` records that come next.
-fn read_queue<L: Read + Drop>(alloc: Global, lines: L) -> QueueRead {
-    let mut records = Records::new(alloc, lines);
+fn read_queue<R: Read>(alloc: Global, records: &mut Records<R>) -> QueueRead {
     let mut row = Record::new(alloc);
     let mut queue = QueueRead::new();
     for _ in 0..u64::MAX {
-        if !matches!(records.next(&mut row), Ok(true)) || !is_queued(&row) {
+        if !read_record(records, &mut row) || !is_queued(&row) {
             return queue;
         }
         queue.add(&row);
@@ -223,7 +310,9 @@ fn is_queued(row: &Record) -> bool {
 }
 
 /// Returns the reason of a record whose form has another number of fields.
-fn count_reason(form: Form, row: &Record) -> Option<Reason> {
+fn count_reason(form: Form, row: &Record) -> Option<Reason>
+    ensures { result ≡ count_reason form row.now }
+{
     let count = row.len();
     if form.fields(count).is_some() {
         return None;
@@ -232,27 +321,27 @@ fn count_reason(form: Form, row: &Record) -> Option<Reason> {
     Some(Reason::Count { form, kind, count })
 }
 
-/// Returns the cause in the record with this number, of which the first record was read.
-fn later_cause<R: Read + Drop>(
+/// Returns the reason in the record with this number, of which the first record was read.
+fn later_cause<R: Read>(
     alloc: Global,
     kind: TextKind,
     why: TraceFault,
     number: u64,
     first: &Record,
-    lines: &mut LineReader<R>,
-) -> Option<Cause> {
+    records: &mut Records<R>,
+) -> Option<FoundReason>
+    ensures { IfSome result (λ found. 1 < number → IfSome records.old (λ rows. IsLaterIn kind why (number - 2) first.now rows found)) }
+{
     let announced = if is_resume(first) {
         Announced::of(first)
     } else {
         Announced::nothing()
     };
     let mut row = Record::new(alloc);
-    let queue = read_up_to(alloc, number, announced.packets, &mut *lines, &mut row)?;
-    let line = line_of(lines, &row);
+    let queue = read_up_to(number, announced.packets, records, &mut row)?;
     if number.saturating_sub(2) < announced.packets {
         let reason = queued_reason(why, &row, announced, queue)?;
-        return Some(Cause {
-            line,
+        return Some(FoundReason {
             reason,
             other: None,
         });
@@ -264,35 +353,31 @@ fn later_cause<R: Read + Drop>(
     };
     let reason = later_reason(kind, version, why, &row)?;
     let other = other_kind(kind, version, &row);
-    Some(Cause {
-        line,
-        reason,
-        other,
-    })
+    Some(FoundReason { reason, other })
 }
 
 /// Reads up to the record with this number, after the first one. Returns the queue of the `packets` records after the first, as far as they come before it.
-fn read_up_to<L: Read + Drop>(
-    alloc: Global,
+fn read_up_to<R: Read>(
     number: u64,
     packets: u64,
-    lines: L,
+    records: &mut Records<R>,
     row: &mut Record,
-) -> Option<QueueRead> {
-    let mut records = Records::new(alloc, lines);
+) -> Option<QueueRead>
+    ensures { IfSome result (λ _. 1 < number → IfSome records.old (λ rows. slice_get rows (number - 2) ≡ Some row.new)) }
+{
     let mut queue = QueueRead::new();
     for read in 2..number {
-        if !matches!(records.next(row), Ok(true)) {
+        if !read_record(records, row) {
             return None;
         }
         if queue.packets < packets {
             queue.add(row);
         }
     }
-    match records.next(row) {
-        Ok(true) => Some(queue),
-        _ => None,
+    if !read_record(records, row) {
+        return None;
     }
+    Some(queue)
 }
 
 /// Returns the reason in a record of the preamble after the first.
@@ -301,7 +386,10 @@ fn queued_reason(
     row: &Record,
     announced: Announced,
     queue: QueueRead,
-) -> Option<Reason> {
+) -> Option<Reason>
+    ensures within { IfSome result (IsReasonIn row.now) }
+    ensures reason { IfSome result (QueuedReason why row.now) }
+{
     if !is_queued(row) {
         return None;
     }
@@ -320,7 +408,11 @@ fn queued_reason(
 }
 
 /// Returns the reason in a record after the preamble.
-fn later_reason(kind: TextKind, version: Version, why: TraceFault, row: &Record) -> Option<Reason> {
+#[tactic(auto, unfolding(crate::specs::Causes::later_reason))]
+fn later_reason(kind: TextKind, version: Version, why: TraceFault, row: &Record) -> Option<Reason>
+    ensures reason { result ≡ later_reason kind version why row.now }
+    ensures within { IfSome result (IsReasonIn row.now) }
+{
     match why {
         TraceFault::Kind { .. } => {
             if form_of(kind, version, row).is_some() {
@@ -338,7 +430,9 @@ fn later_reason(kind: TextKind, version: Version, why: TraceFault, row: &Record)
 }
 
 /// Returns the other kind of text, if the record is correct there.
-fn other_kind(kind: TextKind, version: Version, row: &Record) -> Option<TextKind> {
+fn other_kind(kind: TextKind, version: Version, row: &Record) -> Option<TextKind>
+    ensures { result ≡ other_kind kind version row.now }
+{
     let other = match kind {
         TextKind::Trace => TextKind::History,
         TextKind::History | TextKind::WholeHistory => TextKind::Trace,

@@ -1,5 +1,7 @@
 //! The causes in the preamble of an excerpt, whose numbers contradict each other.
-ghost use Rattle.std.specs.Prelude.{◌≤◌};
+ghost use Rattle.std.specs.Prelude.{◌≡◌, ◌≤◌, ◌+◌, IfSome};
+ghost use Rattle.pie_diagnosis.specs.{cause_in, field_at, moment_place, number_in, quote_of};
+ghost use Rattle.pie_diagnosis.specs.declared.field.Field.TheVariants as field;
 
 use crate::cause::FieldCause;
 use crate::field::{Field, Number};
@@ -25,7 +27,9 @@ pub(crate) struct Announced {
 
 impl Announced {
     /// Returns the numbers of a `resume` record.
-    pub(crate) fn of(row: &Record) -> Announced {
+    pub(crate) fn of(row: &Record) -> Announced
+        ensures { result.packets ≡ number_in row.now (moment_place row.now + 24) }
+    {
         let at = moment_place(row);
         Announced {
             packets: number_in(row, at + 24),
@@ -35,7 +39,9 @@ impl Announced {
     }
 
     /// Returns the numbers of a text without a preamble.
-    pub(crate) fn nothing() -> Announced {
+    pub(crate) fn nothing() -> Announced
+        ensures { result.packets ≡ 0 }
+    {
         Announced {
             packets: 0,
             bytes: 0,
@@ -45,7 +51,9 @@ impl Announced {
 }
 
 /// Returns the cause of a `resume` record whose numbers no controller can have.
-pub(crate) fn numbers_cause(row: &Record, why: ResumeRefusal) -> Option<FieldCause> {
+pub(crate) fn numbers_cause(row: &Record, why: ResumeRefusal) -> Option<FieldCause>
+    ensures { IfSome result (λ cause. cause.value ≡ quote_of (field_at row.now cause.place)) }
+{
     let at = moment_place(row);
     let cause = match why {
         ResumeRefusal::BadLimits => limits_cause(row, at + 1),
@@ -82,13 +90,16 @@ pub(crate) fn number_cause(
     place: usize,
     number: Number,
     permitted: Permitted,
-) -> FieldCause {
+) -> FieldCause
+    ensures { result ≡ cause_in row.now place (field.Number number) permitted }
+{
     FieldCause::new(row, place, Field::Number(number), permitted)
 }
 
 /// Returns the first of the nine parameters from the place `from` on that is out of its range.
 fn params_cause(row: &Record, from: usize) -> Option<FieldCause>
     requires { from ≤ 21 }
+    ensures { IfSome result (λ cause. cause.value ≡ quote_of (field_at row.now cause.place)) }
 {
     match Params::check(params_at(row, from).ok()?) {
         Ok(_) => None,
@@ -99,6 +110,7 @@ fn params_cause(row: &Record, from: usize) -> Option<FieldCause>
 /// Returns the cause in a number that no controller holds. `at` is the place of the opening's moment.
 fn register_cause(row: &Record, at: usize, register: Register) -> FieldCause
     requires { at ≤ 8 }
+    ensures { result.value ≡ quote_of (field_at row.now result.place) }
 {
     let moment = number_in(row, at + 26);
     let (place, number, most) = match register {
@@ -133,7 +145,9 @@ pub(crate) fn packet_cause(
     announced: Announced,
     queue: QueueRead,
     why: QueueRefusal,
-) -> FieldCause {
+) -> FieldCause
+    ensures { result.value ≡ quote_of (field_at row.now result.place) }
+{
     match why {
         QueueRefusal::Size => { FieldCause::new(row, 2, Field::Size, Permitted::between(1, 65535)) }
         QueueRefusal::TooMany => FieldCause::new(row, 0, Field::Kind, Permitted::NoPacket),
@@ -152,7 +166,9 @@ pub(crate) fn packet_cause(
 }
 
 /// Returns the cause of a `resume` record that announces more than the `queued` records contain.
-pub(crate) fn end_cause(row: &Record, queue: QueueRead, why: EndRefusal) -> FieldCause {
+pub(crate) fn end_cause(row: &Record, queue: QueueRead, why: EndRefusal) -> FieldCause
+    ensures { result.value ≡ quote_of (field_at row.now result.place) }
+{
     let at = moment_place(row);
     let (place, number, only) = match why {
         EndRefusal::Missing => (24, Number::Packets, queue.packets),

@@ -1,6 +1,6 @@
 //! The fields of records by their names.
 ghost use Rattle.std.specs.Prelude.{◌≡◌};
-ghost use Rattle.pie_diagnosis.specs.{allowed, choice_words, most_of_register};
+ghost use Rattle.pie_diagnosis.specs.{allowed, choice_name, choice_words, field_name, most_of_register, number_name, parameter_name, statistic_name};
 
 use crate::allowed::{Allowed, Keywords};
 use pie_params::Field as Parameter;
@@ -44,7 +44,9 @@ impl Choice {
     }
 
     /// Returns the name of the choice.
-    fn name(self) -> &'static str {
+    fn name(self) -> &'static str
+        ensures { result.now ≡ choice_name self }
+    {
         match self {
             Choice::Profile => "profile",
             Choice::Delay => "delay",
@@ -107,7 +109,9 @@ impl Number {
     }
 
     /// Returns the name of the number.
-    fn name(self) -> &'static str {
+    fn name(self) -> &'static str
+        ensures { result.now ≡ number_name self }
+    {
         match self {
             Number::Count => "count",
             Number::Packets => "packets",
@@ -164,7 +168,9 @@ pub enum Statistic {
 
 impl Statistic {
     /// Returns the name of the statistic.
-    fn name(self) -> &'static str {
+    fn name(self) -> &'static str
+        ensures { result.now ≡ statistic_name self }
+    {
         match self {
             Statistic::Arrivals => "arrivals",
             Statistic::Enqueued => "enqueued",
@@ -266,7 +272,9 @@ impl Field {
     }
 
     /// Returns the name of the field on docs/FORMATS.md.
-    pub fn name(self) -> &'static str {
+    pub fn name(self) -> &'static str
+        ensures { result.now ≡ field_name self }
+    {
         match self {
             Field::Kind => "kind",
             Field::Caller => "caller",
@@ -296,7 +304,9 @@ impl Field {
 }
 
 /// Returns the name of a parameter.
-fn parameter_name(parameter: Parameter) -> &'static str {
+fn parameter_name(parameter: Parameter) -> &'static str
+    ensures { result.now ≡ parameter_name parameter }
+{
     match parameter {
         Parameter::Target => "target",
         Parameter::TUpdate => "t_update",

@@ -1,5 +1,6 @@
 //! The causes in the first record of a text.
-ghost use Rattle.std.specs.Prelude.{◌≤◌};
+ghost use Rattle.std.specs.Prelude.{◌≡◌, ◌≤◌, IfSome, Some};
+ghost use Rattle.pie_diagnosis.specs.{field_at, first_form, is_resume, moment_place, option_and_then, quote_of, refused_cause, refused_in};
 
 use crate::cause::FieldCause;
 use crate::field::Field;
@@ -19,7 +20,9 @@ pub(crate) const MAX_MOMENT: u64 = (1 << 60) - 1;
 const MAX_TAIL: u64 = 1 << 20;
 
 /// Returns true if a record begins an excerpt.
-pub(crate) fn is_resume(row: &Record) -> bool {
+pub(crate) fn is_resume(row: &Record) -> bool
+    ensures { result ≡ is_resume row.now }
+{
     has_word(row, 0, b"resume")
 }
 
@@ -29,8 +32,10 @@ pub(crate) fn is_of_version_three(row: &Record) -> bool {
 }
 
 /// Returns the place of the opening's moment in a first record. The limits, the parameters and the state follow it.
+#[tactic(auto, unfolding(crate::specs::Causes::moment_place))]
 pub(crate) fn moment_place(row: &Record) -> usize
-    ensures { result ≤ 8 }
+    ensures place { result ≡ moment_place row.now }
+    ensures within { result ≤ 8 }
 {
     if is_kind(row, Kind::Open) || is_kind(row, Kind::Rolling) {
         return 1;
@@ -45,7 +50,10 @@ pub(crate) fn moment_place(row: &Record) -> usize
 }
 
 /// Returns the form of a first record, if its kind is one of a first record.
-pub(crate) fn first_form(row: &Record) -> Option<Form> {
+#[tactic(auto, unfolding(crate::specs::Causes::first_form))]
+pub(crate) fn first_form(row: &Record) -> Option<Form>
+    ensures { result ≡ first_form row.now }
+{
     if is_kind(row, Kind::Open) || is_kind(row, Kind::Rolling) {
         Some(Form::Opening)
     } else if is_kind(row, Kind::Open2) {
@@ -62,7 +70,10 @@ pub(crate) fn first_form(row: &Record) -> Option<Form> {
 }
 
 /// Returns the cause of a first record with a field that is not allowed: the first such field, or else the field of a `resume` record that another of its fields bounds.
-pub(crate) fn number_cause(row: &Record) -> Option<FieldCause> {
+pub(crate) fn number_cause(row: &Record) -> Option<FieldCause>
+    ensures value { IfSome result (λ cause. cause.value ≡ quote_of (field_at row.now cause.place)) }
+    ensures refused { IfSome (option_and_then (refused_in row.now) (first_form row.now)) (λ refused. result ≡ Some (refused_cause row.now refused)) }
+{
     let fields = first_form(row)?.fields(row.len())?;
     match refused_in(row, fields) {
         Some(refused) => Some(FieldCause::refused(row, refused)),
@@ -72,7 +83,9 @@ pub(crate) fn number_cause(row: &Record) -> Option<FieldCause> {
 }
 
 /// Returns the field of a `resume` record that another of its fields bounds.
-fn bound_cause(row: &Record) -> FieldCause {
+fn bound_cause(row: &Record) -> FieldCause
+    ensures { result.value ≡ quote_of (field_at row.now result.place) }
+{
     let at = moment_place(row);
     let (opened, count) = (number_in(row, at), number_in(row, at + 22));
     if count < number_in(row, at + 23) {
@@ -86,7 +99,9 @@ fn bound_cause(row: &Record) -> FieldCause {
 }
 
 /// Returns the cause of an opening that is not accepted.
-pub(crate) fn opening_cause(row: &Record, why: OpenFault) -> FieldCause {
+pub(crate) fn opening_cause(row: &Record, why: OpenFault) -> FieldCause
+    ensures { result.value ≡ quote_of (field_at row.now result.place) }
+{
     let at = moment_place(row);
     match why {
         OpenFault::Param(parameter) => parameter_cause(row, at + 4, parameter),
@@ -98,6 +113,7 @@ pub(crate) fn opening_cause(row: &Record, why: OpenFault) -> FieldCause {
 /// Returns the cause of a parameter out of its range, among the nine from the place `from` on.
 pub(crate) fn parameter_cause(row: &Record, from: usize, parameter: Parameter) -> FieldCause
     requires { from ≤ 64 }
+    ensures { result.value ≡ quote_of (field_at row.now result.place) }
 {
     let (number, permitted) = match parameter {
         Parameter::Target => (0, Permitted::between(2, 10_000_000_000)),
@@ -116,6 +132,7 @@ pub(crate) fn parameter_cause(row: &Record, from: usize, parameter: Parameter) -
 /// Returns the cause of limits out of their ranges: the first such limit, among the three from the place `from` on.
 pub(crate) fn limits_cause(row: &Record, from: usize) -> FieldCause
     requires { from ≤ 64 }
+    ensures { result.value ≡ quote_of (field_at row.now result.place) }
 {
     let (packets, events) = if is_of_version_three(row) {
         (1 << 20, 1 << 47)

@@ -1,11 +1,13 @@
-//! The line that describes a cause.
+//! The lines that describe a cause.
+ghost use Rattle.std.specs.Prelude.{◌<◌, ◌+◌, ◌++◌, ◌^◌, OnOk, codes, if◌then◌else◌};
+ghost use Rattle.std.specs.Io.KnownBytes.{Appends};
+ghost use Rattle.pie_diagnosis.specs.{cause_words, counts_from, counts_of, counts_words, field_words, hint_words, keywords_words, listed, more_counts, more_items, other_words, permitted_words, range_words, reason_words, word_of, word_of_kind};
 
-use crate::allowed::{Allowed, Keywords};
+use crate::allowed::{Allowed, Keyword, Keywords};
 use crate::cause::{Cause, FieldCause, Reason};
 use crate::fields::Form;
 use crate::hint::Hint;
 use crate::permitted::Permitted;
-use crate::quoted::Quoted;
 use crate::text::TextKind;
 use pie_record::Version;
 use pie_record::words::Kind;
@@ -48,35 +50,51 @@ const HISTORY_KINDS: [Kind; 9] = [
 /// # Errors
 ///
 /// Returns the error of the writer.
+#[tactic(auto, unfolding(crate::specs::Message::cause_words))]
 pub fn write_cause<W: Write>(
     cause: &Cause,
     name: &str,
     command: &str,
     writer: &mut W,
-) -> io::Result<()> {
-    let line = cause.line;
-    match cause.reason {
+) -> io::Result<()>
+    ensures written { OnOk result (Appends (W.contents writer.old) (W.contents writer.new) (cause_words cause.now name.now command.now)) }
+{
+    write_reason(cause.line, &cause.reason, name, command, writer)?;
+    write_other(cause.other, name, command, writer)
+}
+
+/// Writes the line with this number and the reason.
+#[tactic(auto, unfolding(crate::specs::Message::reason_words))]
+fn write_reason<W: Write>(
+    line: u64,
+    reason: &Reason,
+    name: &str,
+    command: &str,
+    writer: &mut W,
+) -> io::Result<()>
+    ensures { OnOk result (Appends (W.contents writer.old) (W.contents writer.new) (reason_words line reason.now name.now command.now)) }
+{
+    match reason {
         Reason::Field(field) => {
             write!(writer, "pie: line {line} of {name}, ")?;
-            write_field(&field, writer)?;
+            write_field(field, writer)
         }
         Reason::Count { form, kind, count } => {
-            let noun = if count == 1 { "field" } else { "fields" };
+            let noun = if *count == 1 { "field" } else { "fields" };
             write!(writer, "pie: line {line} of {name}: {count} {noun}; ")?;
             kind.write_plain(writer)?;
-            write_counts(form, writer)?;
+            write_counts(*form, writer)
         }
-        Reason::File(hint) => write_hint(hint, name, command, writer)?,
-    }
-    match cause.other {
-        Some(other) => write_other(other, name, command, writer),
-        None => Ok(()),
+        Reason::File(hint) => write_hint(*hint, name, command, writer),
     }
 }
 
 /// Writes the number, the name and the content of a field, and what is allowed there.
-fn write_field<W: Write>(cause: &FieldCause, writer: &mut W) -> io::Result<()> {
-    let (number, name) = (cause.place.saturating_add(1), cause.field.name());
+#[tactic(auto, unfolding(crate::specs::Message::field_words))]
+fn write_field<W: Write>(cause: &FieldCause, writer: &mut W) -> io::Result<()>
+    ensures { OnOk result (Appends (W.contents writer.old) (W.contents writer.new) (field_words cause.now)) }
+{
+    let (number, name) = (cause.place as u128 + 1, cause.field.name());
     write!(writer, "field {number} ({name}): ")?;
     cause.value.write(writer)?;
     writer.write_all(b"; allowed ")?;
@@ -85,7 +103,10 @@ fn write_field<W: Write>(cause: &FieldCause, writer: &mut W) -> io::Result<()> {
 }
 
 /// Writes what is allowed.
-fn write_permitted<W: Write>(permitted: Permitted, writer: &mut W) -> io::Result<()> {
+#[tactic(auto, unfolding(crate::specs::Message::permitted_words))]
+fn write_permitted<W: Write>(permitted: Permitted, writer: &mut W) -> io::Result<()>
+    ensures { OnOk result (Appends (W.contents writer.old) (W.contents writer.new) (permitted_words permitted)) }
+{
     match permitted {
         Permitted::Content(Allowed::Number(most)) => write_range(0, most, writer),
         Permitted::Content(Allowed::NumberOrNothing(most)) => {
@@ -99,12 +120,15 @@ fn write_permitted<W: Write>(permitted: Permitted, writer: &mut W) -> io::Result
         }
         Permitted::NoPacket => writer.write_all(b"is no further packet"),
         Permitted::FirstKinds(kind) => write_first_kinds(kind, writer),
-        Permitted::Kinds(kind, version) => write_kinds(kind, version, writer),
+        Permitted::Kinds(kind, version) => write_later_kinds(kind, version, writer),
     }
 }
 
 /// Writes a range of numbers.
-fn write_range<W: Write>(least: u128, most: u128, writer: &mut W) -> io::Result<()> {
+#[tactic(auto, unfolding(crate::specs::Message::range_words))]
+fn write_range<W: Write>(least: u128, most: u128, writer: &mut W) -> io::Result<()>
+    ensures { OnOk result (Appends (W.contents writer.old) (W.contents writer.new) (range_words least most)) }
+{
     if least == most {
         write!(writer, "is {least}")
     } else {
@@ -113,29 +137,72 @@ fn write_range<W: Write>(least: u128, most: u128, writer: &mut W) -> io::Result<
 }
 
 /// Writes the keywords of a set.
-fn write_keywords<W: Write>(set: Keywords, writer: &mut W) -> io::Result<()> {
+#[tactic(auto, unfolding(crate::specs::Message::listed))]
+fn write_keywords<W: Write>(set: Keywords, writer: &mut W) -> io::Result<()>
+    ensures { OnOk result (Appends (W.contents writer.old) (W.contents writer.new) (keywords_words set)) }
+{
     let all = set.all();
     writer.write_all(if all.len() > 1 { b"are " } else { b"is " })?;
-    for place in 0..all.len() {
-        write_item(place == 0, all[place].word(), writer)?;
+    match all {
+        [] => Ok(()),
+        [first, rest @ ..] => {
+            writer.write_all(first.word())?;
+            write_more_keywords(rest, writer)
+        }
     }
-    Ok(())
 }
 
-/// Writes an item of a list, with a comma before it unless it is the first.
-fn write_item<W: Write>(is_first: bool, word: &[u8], writer: &mut W) -> io::Result<()> {
-    if !is_first {
-        writer.write_all(b", ")?;
+/// Writes keywords with a comma before each.
+#[tactic(auto, unfolding(crate::specs::Message::more_items))]
+fn write_more_keywords<W: Write>(words: &[Keyword], writer: &mut W) -> io::Result<()>
+    ensures { OnOk result (Appends (W.contents writer.old) (W.contents writer.new) (more_items word_of words.now)) }
+{
+    match words {
+        [] => Ok(()),
+        [first, rest @ ..] => {
+            writer.write_all(b", ")?;
+            writer.write_all(first.word())?;
+            write_more_keywords(rest, writer)
+        }
     }
-    writer.write_all(word)
+}
+
+/// Writes kinds with a comma between them.
+#[tactic(auto, unfolding(crate::specs::Message::listed))]
+fn write_kinds<W: Write>(kinds: &[Kind], writer: &mut W) -> io::Result<()>
+    ensures { OnOk result (Appends (W.contents writer.old) (W.contents writer.new) (listed word_of_kind kinds.now)) }
+{
+    match kinds {
+        [] => Ok(()),
+        [first, rest @ ..] => {
+            writer.write_all(first.word())?;
+            write_more_kinds(rest, writer)
+        }
+    }
+}
+
+/// Writes kinds with a comma before each.
+#[tactic(auto, unfolding(crate::specs::Message::more_items))]
+fn write_more_kinds<W: Write>(kinds: &[Kind], writer: &mut W) -> io::Result<()>
+    ensures { OnOk result (Appends (W.contents writer.old) (W.contents writer.new) (more_items word_of_kind kinds.now)) }
+{
+    match kinds {
+        [] => Ok(()),
+        [first, rest @ ..] => {
+            writer.write_all(b", ")?;
+            writer.write_all(first.word())?;
+            write_more_kinds(rest, writer)
+        }
+    }
 }
 
 /// Writes the kinds of a first record.
-fn write_first_kinds<W: Write>(kind: TextKind, writer: &mut W) -> io::Result<()> {
+#[tactic(auto, unfolding(crate::specs::Message::permitted_words))]
+fn write_first_kinds<W: Write>(kind: TextKind, writer: &mut W) -> io::Result<()>
+    ensures { OnOk result (Appends (W.contents writer.old) (W.contents writer.new) (permitted_words (Permitted.FirstKinds kind))) }
+{
     writer.write_all(b"are ")?;
-    for place in 0..FIRST_KINDS.len() {
-        write_item(place == 0, FIRST_KINDS[place].word(), writer)?;
-    }
+    write_kinds(&FIRST_KINDS, writer)?;
     match kind {
         TextKind::WholeHistory => Ok(()),
         TextKind::Trace | TextKind::History => writer.write_all(b", resume"),
@@ -143,39 +210,61 @@ fn write_first_kinds<W: Write>(kind: TextKind, writer: &mut W) -> io::Result<()>
 }
 
 /// Writes the kinds of a later record.
-fn write_kinds<W: Write>(kind: TextKind, version: Version, writer: &mut W) -> io::Result<()> {
+#[tactic(auto, unfolding(crate::specs::Message::permitted_words))]
+fn write_later_kinds<W: Write>(kind: TextKind, version: Version, writer: &mut W) -> io::Result<()>
+    ensures { OnOk result (Appends (W.contents writer.old) (W.contents writer.new) (permitted_words (Permitted.Kinds kind version))) }
+{
     writer.write_all(b"are ")?;
-    let kinds: &[Kind] = match kind {
-        TextKind::Trace => &TRACE_KINDS,
-        TextKind::History | TextKind::WholeHistory => &HISTORY_KINDS,
-    };
-    for place in 0..kinds.len() {
-        write_item(place == 0, kinds[place].word(), writer)?;
+    match kind {
+        TextKind::Trace => write_kinds(&TRACE_KINDS, writer)?,
+        TextKind::History | TextKind::WholeHistory => write_kinds(&HISTORY_KINDS, writer)?,
     }
     match version {
-        Version::Three => write_item(false, Kind::Clock.word(), writer),
+        Version::Three => {
+            writer.write_all(b", ")?;
+            writer.write_all(Kind::Clock.word())
+        }
         Version::One | Version::Two => Ok(()),
     }
 }
 
 /// Writes the allowed numbers of fields of a form.
-fn write_counts<W: Write>(form: Form, writer: &mut W) -> io::Result<()> {
-    let mut is_first = true;
-    for count in 1..=MAX_FIELDS {
-        if form.fields(count).is_some() {
-            if is_first {
-                write!(writer, " has {count}")?;
-            } else {
-                write!(writer, " or {count}")?;
-            }
-            is_first = false;
-        }
-    }
+fn write_counts<W: Write>(form: Form, writer: &mut W) -> io::Result<()>
+    ensures { OnOk result (Appends (W.contents writer.old) (W.contents writer.new) (counts_words (counts_of form) ++ codes "\n")) }
+{
+    write_counts_from(form, 1, MAX_FIELDS, true, writer)?;
     writer.write_all(b"\n")
 }
 
+/// Writes the numbers of fields that a form allows, among the `left` numbers from `count` on. `is_first` is true if no number was written.
+#[tactic(auto, unfolding(crate::specs::Message::counts_from, crate::specs::Message::counts_words, crate::specs::Message::more_counts))]
+fn write_counts_from<W: Write>(
+    form: Form,
+    count: usize,
+    left: usize,
+    is_first: bool,
+    writer: &mut W,
+) -> io::Result<()>
+    requires { count + left < 2 ^ 60 }
+    ensures { OnOk result (Appends (W.contents writer.old) (W.contents writer.new)
+        (if is_first then counts_words (counts_from form count left) else more_counts (counts_from form count left))) }
+{
+    if left == 0 {
+        return Ok(());
+    }
+    if form.fields(count).is_none() {
+        return write_counts_from(form, count + 1, left - 1, is_first, writer);
+    }
+    writer.write_all(if is_first { b" has " } else { b" or " })?;
+    write!(writer, "{count}")?;
+    write_counts_from(form, count + 1, left - 1, false, writer)
+}
+
 /// Writes a property of a whole file.
-fn write_hint<W: Write>(hint: Hint, name: &str, command: &str, writer: &mut W) -> io::Result<()> {
+#[tactic(auto, unfolding(crate::specs::Message::hint_words))]
+fn write_hint<W: Write>(hint: Hint, name: &str, command: &str, writer: &mut W) -> io::Result<()>
+    ensures { OnOk result (Appends (W.contents writer.old) (W.contents writer.new) (hint_words hint name.now command.now)) }
+{
     match hint {
         Hint::Empty => writeln!(writer, "pie: {name} is empty"),
         Hint::NoRecord => writeln!(writer, "pie: {name} has no record"),
@@ -194,19 +283,23 @@ fn write_hint<W: Write>(hint: Hint, name: &str, command: &str, writer: &mut W) -
     }
 }
 
-/// Writes that the record belongs to another kind of text.
+/// Writes that the record belongs to another kind of text, if there is one.
+#[tactic(auto, unfolding(crate::specs::Message::other_words))]
 fn write_other<W: Write>(
-    other: TextKind,
+    other: Option<TextKind>,
     name: &str,
     command: &str,
     writer: &mut W,
-) -> io::Result<()> {
+) -> io::Result<()>
+    ensures { OnOk result (Appends (W.contents writer.old) (W.contents writer.new) (other_words other name.now command.now)) }
+{
     match other {
-        TextKind::Trace => writeln!(
+        None => Ok(()),
+        Some(TextKind::Trace) => writeln!(
             writer,
             "pie: the record is one of a trace; pie {command} reads a history, which pie run {name} writes"
         ),
-        TextKind::History | TextKind::WholeHistory => writeln!(
+        Some(TextKind::History | TextKind::WholeHistory) => writeln!(
             writer,
             "pie: the record is one of a history; pie {command} reads a trace"
         ),

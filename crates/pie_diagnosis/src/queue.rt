@@ -1,4 +1,6 @@
 //! The queue of an excerpt's preamble, as far as its records were read.
+ghost use Rattle.std.specs.Prelude.{◌≡◌};
+ghost use Rattle.pie_diagnosis.specs.{number_in};
 
 use pie_record::Record;
 use pie_record::field::number_at;
@@ -33,6 +35,8 @@ impl QueueRead {
 }
 
 /// Returns the number in the field at `place`, or 0 if the field is no number of 64 bits.
-pub(crate) fn number_in(row: &Record, place: usize) -> u64 {
+pub(crate) fn number_in(row: &Record, place: usize) -> u64
+    ensures { result ≡ number_in row.now place }
+{
     number_at(row, place, u64::MAX).unwrap_or(0)
 }

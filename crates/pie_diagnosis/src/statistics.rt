@@ -1,5 +1,6 @@
 //! The cause of statistics that contradict other numbers of a `resume` record.
-ghost use Rattle.std.specs.Prelude.{◌<◌, ◌≤◌, ◌^◌};
+ghost use Rattle.std.specs.Prelude.{◌≡◌, ◌<◌, ◌≤◌, ◌^◌, IfSome};
+ghost use Rattle.pie_diagnosis.specs.{field_at, quote_of};
 
 use crate::cause::FieldCause;
 use crate::excerpt::number_cause;
@@ -33,6 +34,7 @@ const STATISTICS: [Statistic; 15] = [
 fn statistic_cause(row: &Record, at: usize, number: usize, permitted: Permitted) -> FieldCause
     requires places { at ≤ 8 }
     requires numbers { number < 15 }
+    ensures { result.value ≡ quote_of (field_at row.now result.place) }
 {
     let field = Field::Statistic(STATISTICS[number]);
     FieldCause::new(row, at + 38 + number, field, permitted)
@@ -47,7 +49,9 @@ fn statistic(row: &Record, at: usize, number: usize) -> u128
 }
 
 /// Returns the cause of statistics that no history has with these numbers, if there is one.
-pub(crate) fn statistics_cause(row: &Record) -> Option<FieldCause> {
+pub(crate) fn statistics_cause(row: &Record) -> Option<FieldCause>
+    ensures { IfSome result (λ cause. cause.value ≡ quote_of (field_at row.now cause.place)) }
+{
     let at = moment_place(row);
     if let Some(cause) = count_cause(row, at) {
         return Some(cause);
@@ -64,6 +68,7 @@ pub(crate) fn statistics_cause(row: &Record) -> Option<FieldCause> {
 /// Returns the first statistic that is greater than the number of events permits.
 fn count_cause(row: &Record, at: usize) -> Option<FieldCause>
     requires { at ≤ 8 }
+    ensures { IfSome result (λ cause. cause.value ≡ quote_of (field_at row.now cause.place)) }
 {
     let count = u128::from(number_in(row, at + 22));
     for number in 0..15 {
@@ -85,6 +90,7 @@ fn count_cause(row: &Record, at: usize) -> Option<FieldCause>
 /// Returns the first number that is not the sum of others.
 fn sum_cause(row: &Record, at: usize) -> Option<FieldCause>
     requires { at ≤ 8 }
+    ensures { IfSome result (λ cause. cause.value ≡ quote_of (field_at row.now cause.place)) }
 {
     let (arrivals, left) = (statistic(row, at, 0), statistic(row, at, 6));
     let queued = statistic(row, at, 1) + statistic(row, at, 2);
@@ -114,6 +120,7 @@ fn sum_cause(row: &Record, at: usize) -> Option<FieldCause>
 /// Returns the first greatest value or wait that contradicts another number.
 fn value_cause(row: &Record, at: usize) -> Option<FieldCause>
     requires { at ≤ 8 }
+    ensures { IfSome result (λ cause. cause.value ≡ quote_of (field_at row.now cause.place)) }
 {
     let (bytes, old) = (number_in(row, at + 25), number_in(row, at + 28));
     if statistic(row, at, 12) < u128::from(bytes) {
@@ -142,6 +149,7 @@ fn value_cause(row: &Record, at: usize) -> Option<FieldCause>
 /// Returns the first number that is not 0, although without an update or with these elements it is.
 fn element_cause(row: &Record, at: usize) -> Option<FieldCause>
     requires { at ≤ 8 }
+    ensures { IfSome result (λ cause. cause.value ≡ quote_of (field_at row.now cause.place)) }
 {
     if statistic(row, at, 9) == 0 && number_in(row, at + 27) != 0 {
         return Some(number_cause(row, at + 27, Number::Prob, Permitted::only(0)));

@@ -1,7 +1,7 @@
 //! The lines after the message of a mistake in the command line: the values that an option takes, the nearest keyword, and
 //! the two options that exclude each other.
-ghost use Rattle.std.specs.Prelude.{◌≡◌, IfOk, option_map};
-ghost use Rattle.pie_commands.specs.Nearest.{nearest};
+ghost use Rattle.std.specs.Prelude.{◌≡◌, IfOk, map, option_map};
+ghost use Rattle.pie_commands.specs.Nearest.{nearer, nearest};
 
 use crate::options::argument::{Argument, ValueKind};
 use crate::options::command_line::arguments_of;
@@ -18,29 +18,48 @@ const ELEMENTS: &[&str] = &["profile", "delay", "picking", "step", "size", "deca
 /// The greatest distance between a word and a keyword that is named for it.
 const FAR: usize = 2;
 
-/// Returns the keyword, `first` or `second`, that is nearest to `word`, if its distance is at most 2: the number of
-/// characters to insert, remove or replace (Levenshtein). If both are as near, returns `first`.
+/// Returns the keyword that is nearest to `word`, if its distance is at most 2: the number of characters to insert,
+/// remove or replace (Levenshtein). If several are as near, returns the first of them.
 ///
 /// # Errors
 ///
 /// `AllocError` if memory is short.
+#[tactic(auto, unfolding(crate::specs::Nearest::nearest))]
 fn nearest<'a>(
     alloc: Global,
     word: &str,
-    first: &'a str,
-    second: &'a str,
+    keywords: &[&'a str],
 ) -> Result<Option<&'a str>, AllocError>
-    ensures { IfOk result (λ found. option_map (λ text. text.now) found ≡ nearest word.now first.now second.now) }
+    ensures { IfOk result (λ found. option_map (λ text. text.now) found ≡ nearest word.now (map (λ text. text.now) keywords.now)) }
+{
+    match keywords {
+        [] => Ok(None),
+        [first, rest @ ..] => {
+            let later = nearest(alloc, word, rest)?;
+            nearer(alloc, word, *first, later)
+        }
+    }
+}
+
+/// Returns the nearer of the keyword `first` and the nearest later one.
+fn nearer<'a>(
+    alloc: Global,
+    word: &str,
+    first: &'a str,
+    later: Option<&'a str>,
+) -> Result<Option<&'a str>, AllocError>
+    ensures { IfOk result (λ found. option_map (λ text. text.now) found ≡ nearer word.now first.now (option_map (λ text. text.now) later.entry)) }
 {
     let one = levenshtein(alloc, word, first)?;
-    let other = levenshtein(alloc, word, second)?;
-    if one <= FAR && one <= other {
+    if let Some(other) = later {
+        if levenshtein(alloc, word, other)? < one {
+            return Ok(later);
+        }
+    }
+    if one <= FAR {
         return Ok(Some(first));
     }
-    if other <= FAR {
-        return Ok(Some(second));
-    }
-    Ok(None)
+    Ok(later)
 }
 
 /// If the text of the option `name` is neither of two keywords, writes a line with the text, and with the keyword that
@@ -53,13 +72,26 @@ pub(crate) fn report_keyword<E: Write>(
     second: &str,
     errors: &mut E,
 ) {
+    report_nearest(alloc, options, name, &[first, second], errors);
+}
+
+/// If the text of the option `name` is none of these keywords, writes a line as `report_keyword` does.
+pub(crate) fn report_nearest<E: Write>(
+    alloc: Global,
+    options: &ArgMatches<'_>,
+    name: &str,
+    keywords: &[&str],
+    errors: &mut E,
+) {
     let Some(given) = text(options, name) else {
         return;
     };
-    if given == first || given == second {
-        return;
+    for keyword in keywords {
+        if given == *keyword {
+            return;
+        }
     }
-    let _ = match nearest(alloc, given, first, second) {
+    let _ = match nearest(alloc, given, keywords) {
         Ok(Some(near)) => writeln!(
             errors,
             "pie: '{given}' is no value of --{name}; a similar value is '{near}'"

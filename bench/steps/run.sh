@@ -18,7 +18,7 @@ fi
 program=$1
 shift
 # audits Linux's steps on standard input; the status is not 0 if one differs from the proved rules
-audit_linux() { "$top/crates/pie_linux_steps/out/pie_linux_steps"; }
+audit_linux() { "$program" audit; }
 
 source=/usr/src/linux-source-6.1.tar.xz
 for file in $source /usr/include/dpdk/rte_pie.h; do

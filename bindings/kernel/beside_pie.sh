@@ -5,7 +5,7 @@
 # each step of sch_pie.c alike. In simulated time, an arrival of TCP takes a millisecond of the processor. With CPUS, the kernel has CPUS processors and runs
 # in real time. Two million arrivals in some minutes:
 #     CPUS=2 RATE=20mbit DATAGRAMS=4000 SECONDS_OF_TRAFFIC=420 bindings/kernel/beside_pie.sh
-# needs: a request, program, pie_linux_steps
+# needs: a request, program
 #
 # usage: [PIE=program] [HEADERS=folder] [KEEP=folder for all files] [CPUS=n] [RATE=100mbit] [SECONDS_OF_TRAFFIC=10] [DATAGRAMS=0]
 #        bindings/kernel/beside_pie.sh [ROOT]

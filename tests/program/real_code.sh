@@ -4,7 +4,7 @@
 # alike. Then the script changes the rules of Linux's code one by one. The proved rules must find a step of each.
 # Prints a line NOT RUN if Debian's packages are not installed.
 # usage: tests/program/real_code.sh [PROGRAM]      PROGRAM: crates/pie/out/pie by default
-# needs: program, pie_linux_steps
+# needs: program
 . "$(dirname "$0")/../shared/script.sh"
 steps=$top/bench/steps
 # decide NAME SCRIPT WORDS..: writes the history of a trace

@@ -5,7 +5,7 @@ use Rattle.pie_commands.proofs.Names.{◌≡◌, ◌∙◌, refl, ℕ, List, [],
 use Rattle.pie_commands.proofs.Names.{HasMatchesOf, Text, kind_of, subcommand_name_of, subcommand_rows_of, takes, End, CannotStart, Failed, Audit, file_in, get_or, inl, inr, None, take}
 use Rattle.pie_commands.proofs.Names.{files_in, is_forced, is_joined, options_in, pie_app, subcommand_in, Joined, EndView, text_given, Held, Keeps}
 use Rattle.pie_commands.proofs.Names.{AuditsFiles, HaveOutcomes, FileOutcome, HasFileOutcome, EndsAudit, EndsFileAudits, LacksFinding, Answers, EndsAs, EndsSubcommand, FindsMatches}
-use Rattle.pie_commands.proofs.Names.{may_differ, output_for, Finds, JoinsText, records_of, ◌++◌, false}
+use Rattle.pie_commands.proofs.Names.{may_differ, output_for, JoinsText, records_of, ◌++◌, false}
 use Rattle.pie_commands.proofs.Names.{IfSome}
 use Rattle.pie_commands.proofs.Names.{end_of_explain, explain_ends, output_kind_of, output_text, Selection, Explained}
 unfoldable use Rattle.pie_commands.specs.Explanations.{selection_of}

@@ -1,31 +1,19 @@
 -- Facts about the two kinds of texts, and about the ends of an audit and an explanation whose reader fails at once.
-use Rattle.std.proofs.Common.{arith, ◌≡◌, ◌∙◌, ◌<◌, ℕ, suc, zero, List, [], ◌++◌, Bool, true, Option, Some, None, append-nil, ap, sym, take, codes, false, refl, inl, inr}
-use Rattle.std.proofs.lemmas.Bool.Decides.{nat_tests}
+use Rattle.std.proofs.Common.{arith, ◌≡◌, ◌∙◌, ◌<◌, ℕ, suc, zero, List, ◌++◌, Bool, true, Option, Some, None, append-nil, ap, take, codes, false, refl, inl, inr}
 use Rattle.std.specs.Io.KnownBytes.{Consumes}
-use Rattle.std.specs.Prelude.{◌⊎◌, ⊤, IfSome, Ok, Err, Result}
+use Rattle.std.specs.Prelude.{◌⊎◌, IfSome, Ok, Err}
 use Rattle.clap.specs.Words.{Row}
 use Rattle.pie_audit.specs.Text.{Finds}
-use Rattle.pie_audit.specs.declared.auditor.Finding.{Finding}
-use Rattle.pie_cut.specs.Joined.{EndView}
-use Rattle.pie_cut.specs.declared.joint_audit.Joined.{Joined}
 use Rattle.pie_explain.specs.TextAnswer.{ExplainsText}
 use Rattle.pie_explain.specs.declared.explanation.Explained.{Explained}
-use Rattle.pie_explain.specs.declared.fault.ExplainFault.{ExplainFault}
 use Rattle.pie_explain.specs.declared.fault.ExplainFault.TheVariants.{Trace}
 use Rattle.pie_explain.specs.declared.selection.Selection.{Selection}
-use Rattle.pie_linux_history.specs.declared.fault.StepsFault.{StepsFault}
 use Rattle.pie_linux_history.specs.declared.fault.StepsFault.TheVariants as steps_fault
-use Rattle.pie_linux_history.specs.declared.text.StepsFinding.{StepsFinding}
 use Rattle.pie_record.specs.Text.{records_of}
-use Rattle.pie_record.specs.declared.fault.TraceFault.{TraceFault}
 use Rattle.pie_record.specs.declared.fault.TraceFault.TheVariants.{Read}
-use Rattle.pie_commands.specs.Ends.{EndsInputAudit, WritesFinding, WritesSteps}
-use Rattle.pie_commands.specs.Explanations.{EndsStepsExplain, explain_ends, end_of_explain}
-use Rattle.pie_commands.specs.FileAudits.{FindsJoined, HasTextOutcome, IsFoundEnd}
+use Rattle.pie_commands.specs.Ends.{EndsInputAudit}
+use Rattle.pie_commands.specs.Explanations.{explain_ends}
 use Rattle.pie_commands.specs.TextKinds.{IsHistory, IsLinux, TakesByte, is_linux_text}
-use Rattle.pie_commands.specs.declared.audit.Unaudited.{Unaudited}
-use Rattle.pie_commands.specs.declared.audit.Unaudited.TheVariants.{Unopened, Faulty, Unfit}
-use Rattle.pie_commands.specs.declared.end.End.{End}
 use Rattle.pie_commands.specs.declared.end.End.TheVariants.{Fault}
 
 -- ---- the first bytes

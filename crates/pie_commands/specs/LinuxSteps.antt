@@ -1,6 +1,6 @@
 -- `pie audit` and `pie explain` of a text of recorded steps of Linux: the finding, the choice of packets, and the end. The decision of each step is
 -- proved in pie_linux_history. That the steps of the text are read, and all decided, is only tested, so these definitions begin with any result.
-use Rattle.std.specs.Prelude.{ℕ, ◌≡◌, ◌||◌, ◌==◌, ◌&&◌, Bool, true, false, List, Option, Some, None, Result, Ok, Err, codes, if◌then◌else◌, is_some}
+use Rattle.std.specs.Prelude.{ℕ, ◌||◌, ◌==◌, ◌&&◌, Bool, true, false, List, Option, Some, None, Result, Ok, Err, codes, if◌then◌else◌, is_some}
 use Rattle.clap.specs.Words.{Row, Text, first_of}
 use Rattle.pie_audit.specs.declared.auditor.Finding.{Finding}
 use Rattle.pie_audit.specs.declared.auditor.Finding.TheVariants as finding

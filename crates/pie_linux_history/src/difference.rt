@@ -73,7 +73,7 @@ pub enum Column {
 
 impl Column {
     /// Returns the column's name in the first row.
-    pub fn name(self) -> &'static str {
+    pub(crate) fn name(self) -> &'static str {
         match self {
             Column::Number => "seq",
             Column::Flow => "flow",

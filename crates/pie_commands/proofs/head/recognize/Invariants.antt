@@ -1,4 +1,4 @@
-use Rattle.std.proofs.Common.{ℕ, take, codes}
+use Rattle.std.proofs.Common.{take, codes}
 use Rattle.std.specs.Io.KnownBytes.{Consumes}
 use Rattle.pie_commands.proofs.head.recognize.Given as goal
 

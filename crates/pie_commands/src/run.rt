@@ -41,6 +41,8 @@ fn report_counts<E: Write>(
 
 /// `pie run`: runs the trace or the excerpt in the file that the options name, or in `input`, and writes its history.
 /// Writes a fault to `errors`; after a run without a fault also its counts, if the options request them.
+// (within `dispatch`, the loop over records would share its registers with the other subcommands)
+#[inline(never)]
 pub(crate) fn run<H: NamedFiles + Screen, R: Read + Drop, W: Write, E: Write>(
     rt: &H,
     alloc: Global,

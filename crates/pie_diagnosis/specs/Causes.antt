@@ -1,6 +1,10 @@
 -- The reason for a fault, in the records of the text.
-use Rattle.std.specs.Prelude.{◌∷◌, ◌++◌, ◌+◌, ◌-◌, ◌<◌, ◌==◌, ◌≡◌, ◌||◌, if◌then◌else◌, codes, min, nat_le, nat_lt, replicate, slice_get, take, IfSome, ⊤}
+use Rattle.std.specs.Prelude.{◌∷◌, ◌++◌, ◌&&◌, ◌^◌, ◌+◌, ◌-◌, ◌<◌, ◌==◌, ◌≡◌, ◌||◌, if◌then◌else◌, codes, min, nat_le, nat_lt, not, replicate, slice_get, take, IfSome, ⊤}
 use Rattle.pie_diagnosis.specs.Names.{ℕ, List, [], Bool, true, false, Option, Some, None, drop, is_none, is_some, length, option_and_then, option_map, Field, Form, RefusedField, Row, TextKind, Version, Three, field_at, is_kind, is_word, number, version_of, word_of_kind}
+use Rattle.pie_params.specs.declared.raw.Field.{Field as Parameter}
+use Rattle.pie_params.specs.declared.raw.Field.TheVariants as parameter
+use Rattle.pie_record.specs.declared.fault.OpenFault.{OpenFault}
+use Rattle.pie_record.specs.declared.fault.OpenFault.TheVariants as open_fault
 use Rattle.pie_record.specs.declared.fault.TraceFault.{TraceFault}
 use Rattle.pie_record.specs.declared.fault.TraceFault.TheVariants as fault
 use Rattle.pie_record.specs.declared.words.Kind.TheVariants as kinds
@@ -131,7 +135,65 @@ number_in row place = or_zero (option_and_then (number 18446744073709551615) (fi
 abbrev pub packets_after : Row → ℕ
 packets_after row = if is_resume row then number_in row (moment_place row + 24) else 0
 
--- the reason in the first record: the kind, the number of fields, or the first field that its form does not accept
+-- ---- an opening that is not accepted
+
+-- the place of a parameter among the nine
+abbrev pub parameter_place : Parameter → ℕ
+parameter_place parameter.Target = 0
+parameter_place parameter.TUpdate = 1
+parameter_place parameter.MaxBurst = 2
+parameter_place parameter.Alpha = 3
+parameter_place parameter.Beta = 4
+parameter_place parameter.MeanPkt = 5
+parameter_place parameter.LimitBytes = 6
+parameter_place parameter.MarkEcnth = 7
+parameter_place parameter.DqThreshold = 8
+
+-- the permitted values of a parameter
+abbrev pub parameter_range : Parameter → Permitted
+parameter_range parameter.Target = permitted.Range 2 (10 ^ 10)
+parameter_range parameter.TUpdate = permitted.Range 1 (10 ^ 10)
+parameter_range parameter.MaxBurst = permitted.Range 0 (10 ^ 12)
+parameter_range parameter.Alpha = permitted.Range 0 (10 ^ 6)
+parameter_range parameter.Beta = permitted.Range 0 (10 ^ 6)
+parameter_range parameter.MeanPkt = permitted.Range 1 65535
+parameter_range parameter.LimitBytes = permitted.Range 1 (2 ^ 30)
+parameter_range parameter.MarkEcnth = permitted.Range 0 (10 ^ 12)
+parameter_range parameter.DqThreshold = permitted.Thresholds
+
+-- the cause in a parameter, among the nine from a place on
+abbrev pub parameter_cause : Row → ℕ → Parameter → FieldCause
+parameter_cause row from which = cause_in row (from + parameter_place which) (field.Parameter which) (parameter_range which)
+
+-- true if a first record is of version three
+abbrev pub is_of_version_three : Row → Bool
+is_of_version_three row = is_kind row (word_of_kind kinds.Open3) || is_resume row
+
+-- the greatest number of packets and of events that an opening permits
+abbrev pub most_packets : Row → ℕ
+most_packets row = if is_of_version_three row then 2 ^ 20 else 65536
+
+abbrev pub most_events : Row → ℕ
+most_events row = if is_of_version_three row then 2 ^ 47 else 2 ^ 40
+
+-- true if a number is between 1 and another
+abbrev pub is_between : ℕ → ℕ → Bool
+is_between number most = nat_le 1 number && nat_le number most
+
+-- the cause in the first limit out of its range, among the three from a place on
+unfoldable pub limits_cause : Row → ℕ → FieldCause
+limits_cause row from =
+    if not (is_between (number_in row from) (most_packets row)) then cause_in row from field.Packets (permitted.Range 1 (most_packets row))
+    else if not (is_between (number_in row (from + 1)) (2 ^ 20)) then cause_in row (from + 1) field.Tail (permitted.Range 1 (2 ^ 20))
+    else cause_in row (from + 2) field.Events (permitted.Range 1 (most_events row))
+
+-- the cause in an opening that is not accepted
+abbrev pub opening_cause : Row → OpenFault → FieldCause
+opening_cause row (open_fault.Param which) = parameter_cause row (moment_place row + 4) which
+opening_cause row open_fault.Limits = limits_cause row (moment_place row + 1)
+opening_cause row open_fault.Moment = cause_in row (moment_place row) field.Moment (permitted.Range 0 (2 ^ 60 - 1))
+
+-- the reason in the first record: the kind, the number of fields, the first field that its form does not accept, or one that its opening refuses
 abbrev pub FirstReason : TextKind → TraceFault → Row → Reason → Type 0
 FirstReason kind fault.NoOpen row (reason.File hint) = ⊤
 FirstReason kind fault.NoOpen row found = found ≡ reason.Field (cause_in row 0 field.Kind (permitted.FirstKinds kind))
@@ -140,6 +202,7 @@ FirstReason kind (fault.Number _) row found =
     IfSome (option_and_then (refused_in row) (first_form row)) (λ refused. found ≡ reason.Field (refused_cause row refused))
 FirstReason kind (fault.Word _) row found =
     IfSome (option_and_then (refused_in row) (first_form row)) (λ refused. found ≡ reason.Field (refused_cause row refused))
+FirstReason kind (fault.Opening why) row found = found ≡ reason.Field (opening_cause row why)
 FirstReason kind _ row found = ⊤
 
 -- ---- a later record

@@ -1,6 +1,6 @@
 //! The causes in the first record of a text.
 ghost use Rattle.std.specs.Prelude.{◌≡◌, ◌≤◌, IfSome, Some};
-ghost use Rattle.pie_diagnosis.specs.{field_at, first_form, is_resume, moment_place, option_and_then, quote_of, refused_cause, refused_in};
+ghost use Rattle.pie_diagnosis.specs.{field_at, first_form, is_between, is_of_version_three, is_resume, limits_cause, moment_place, most_events, most_packets, opening_cause, option_and_then, parameter_cause, parameter_place, parameter_range, quote_of, refused_cause, refused_in};
 
 use crate::cause::FieldCause;
 use crate::field::Field;
@@ -27,7 +27,9 @@ pub(crate) fn is_resume(row: &Record) -> bool
 }
 
 /// Returns true if a first record is of version three.
-pub(crate) fn is_of_version_three(row: &Record) -> bool {
+pub(crate) fn is_of_version_three(row: &Record) -> bool
+    ensures { result ≡ is_of_version_three row.now }
+{
     is_kind(row, Kind::Open3) || is_resume(row)
 }
 
@@ -100,7 +102,8 @@ fn bound_cause(row: &Record) -> FieldCause
 
 /// Returns the cause of an opening that is not accepted.
 pub(crate) fn opening_cause(row: &Record, why: OpenFault) -> FieldCause
-    ensures { result.value ≡ quote_of (field_at row.now result.place) }
+    ensures cause { result ≡ opening_cause row.now why }
+    ensures value { result.value ≡ quote_of (field_at row.now result.place) }
 {
     let at = moment_place(row);
     match why {
@@ -110,35 +113,75 @@ pub(crate) fn opening_cause(row: &Record, why: OpenFault) -> FieldCause
     }
 }
 
+/// Returns the place of a parameter among the nine.
+fn parameter_place(parameter: Parameter) -> usize
+    ensures place { result ≡ parameter_place parameter }
+    ensures within { result ≤ 8 }
+{
+    match parameter {
+        Parameter::Target => 0,
+        Parameter::TUpdate => 1,
+        Parameter::MaxBurst => 2,
+        Parameter::Alpha => 3,
+        Parameter::Beta => 4,
+        Parameter::MeanPkt => 5,
+        Parameter::LimitBytes => 6,
+        Parameter::MarkEcnth => 7,
+        Parameter::DqThreshold => 8,
+    }
+}
+
+/// Returns the permitted values of a parameter.
+fn parameter_range(parameter: Parameter) -> Permitted
+    ensures { result ≡ parameter_range parameter }
+{
+    match parameter {
+        Parameter::Target => Permitted::between(2, 10_000_000_000),
+        Parameter::TUpdate => Permitted::between(1, 10_000_000_000),
+        Parameter::MaxBurst => Permitted::up_to(1_000_000_000_000),
+        Parameter::Alpha => Permitted::up_to(1_000_000),
+        Parameter::Beta => Permitted::up_to(1_000_000),
+        Parameter::MeanPkt => Permitted::between(1, 65535),
+        Parameter::LimitBytes => Permitted::between(1, 1 << 30),
+        Parameter::MarkEcnth => Permitted::up_to(1_000_000_000_000),
+        Parameter::DqThreshold => Permitted::Thresholds,
+    }
+}
+
 /// Returns the cause of a parameter out of its range, among the nine from the place `from` on.
 pub(crate) fn parameter_cause(row: &Record, from: usize, parameter: Parameter) -> FieldCause
     requires { from ≤ 64 }
-    ensures { result.value ≡ quote_of (field_at row.now result.place) }
+    ensures { result ≡ parameter_cause row.now from parameter }
 {
-    let (number, permitted) = match parameter {
-        Parameter::Target => (0, Permitted::between(2, 10_000_000_000)),
-        Parameter::TUpdate => (1, Permitted::between(1, 10_000_000_000)),
-        Parameter::MaxBurst => (2, Permitted::up_to(1_000_000_000_000)),
-        Parameter::Alpha => (3, Permitted::up_to(1_000_000)),
-        Parameter::Beta => (4, Permitted::up_to(1_000_000)),
-        Parameter::MeanPkt => (5, Permitted::between(1, 65535)),
-        Parameter::LimitBytes => (6, Permitted::between(1, 1 << 30)),
-        Parameter::MarkEcnth => (7, Permitted::up_to(1_000_000_000_000)),
-        Parameter::DqThreshold => (8, Permitted::Thresholds),
-    };
-    FieldCause::new(row, from + number, Field::Parameter(parameter), permitted)
+    let place = from + parameter_place(parameter);
+    FieldCause::new(
+        row,
+        place,
+        Field::Parameter(parameter),
+        parameter_range(parameter),
+    )
 }
 
-/// Returns the cause of limits out of their ranges: the first such limit, among the three from the place `from` on.
-pub(crate) fn limits_cause(row: &Record, from: usize) -> FieldCause
-    requires { from ≤ 64 }
-    ensures { result.value ≡ quote_of (field_at row.now result.place) }
+/// Returns the greatest number of packets and of events that an opening permits.
+fn greatest_limits(row: &Record) -> (u64, u64)
+    ensures packets { result.0 ≡ most_packets row.now }
+    ensures events { result.1 ≡ most_events row.now }
 {
-    let (packets, events) = if is_of_version_three(row) {
+    if is_of_version_three(row) {
         (1 << 20, 1 << 47)
     } else {
         (65536, 1 << 40)
-    };
+    }
+}
+
+/// Returns the cause of limits out of their ranges: the first such limit, among the three from the place `from` on.
+#[tactic(auto, unfolding(crate::specs::Causes::limits_cause))]
+pub(crate) fn limits_cause(row: &Record, from: usize) -> FieldCause
+    requires { from ≤ 64 }
+    ensures cause { result ≡ limits_cause row.now from }
+    ensures value { result.value ≡ quote_of (field_at row.now result.place) }
+{
+    let (packets, events) = greatest_limits(row);
     if !is_between(number_in(row, from), packets) {
         return FieldCause::new(row, from, Field::Packets, Permitted::between(1, packets));
     }
@@ -149,6 +192,8 @@ pub(crate) fn limits_cause(row: &Record, from: usize) -> FieldCause
 }
 
 /// Returns true if the number is between 1 and `most`.
-fn is_between(number: u64, most: u64) -> bool {
+fn is_between(number: u64, most: u64) -> bool
+    ensures { result ≡ is_between number most }
+{
     1 <= number && number <= most
 }

@@ -1,4 +1,5 @@
 //! What is allowed in a field whose fault has more than one reason.
+ghost use Rattle.std.specs.Prelude.{◌≡◌};
 
 use crate::allowed::Allowed;
 use crate::text::TextKind;
@@ -28,12 +29,16 @@ pub enum Permitted {
 
 impl Permitted {
     /// Permits the numbers from 0 to `most`.
-    pub(crate) fn up_to(most: u64) -> Permitted {
+    pub(crate) fn up_to(most: u64) -> Permitted
+        ensures { result ≡ Permitted.Range 0 most }
+    {
         Permitted::between(0, most)
     }
 
     /// Permits the numbers from `least` to `most`.
-    pub(crate) fn between(least: u64, most: u64) -> Permitted {
+    pub(crate) fn between(least: u64, most: u64) -> Permitted
+        ensures { result ≡ Permitted.Range least most }
+    {
         Permitted::Range {
             least: u128::from(least),
             most: u128::from(most),
@@ -41,7 +46,9 @@ impl Permitted {
     }
 
     /// Permits this number alone.
-    pub(crate) fn only(number: u128) -> Permitted {
+    pub(crate) fn only(number: u128) -> Permitted
+        ensures { result ≡ Permitted.Range number number }
+    {
         Permitted::Range {
             least: number,
             most: number,

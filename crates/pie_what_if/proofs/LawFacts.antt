@@ -1,5 +1,5 @@
 -- A history that is not altered is written again, and the other history is legal.
-use Rattle.pie_audit.proofs.LegalFacts.{legal-pop}
+use Rattle.pie_what_if.proofs.HistoryFacts.{legal_pop}
 use Rattle.pie_audit.specs.Replay.{CanBeMade, Origin, at_opening}
 unfoldable use Rattle.pie_audit.specs.Replay.{events_of}
 unfoldable use Rattle.pie_audit.specs.Text.{text_fault, text_lines}
@@ -9,7 +9,7 @@ use Rattle.pie_event.specs.declared.command.Command.TheVariants.{SetParams}
 use Rattle.pie_excerpt.specs.Beginning.{Beginning}
 unfoldable use Rattle.pie_excerpt.specs.Beginning.{beginning_of}
 use Rattle.pie_params.specs.declared.raw.RawParams.{RawParams}
-use Rattle.pie_record.proofs.InputFacts.{reads-one}
+use Rattle.pie_what_if.proofs.ReadFacts.{reads_one}
 use Rattle.pie_record.specs.{HistoryLines.IsRecordOf, HistoryLines.line_of, Text.Row, Write.event_row, Write.line_rows, Write.rows_unless_note}
 unfoldable use Rattle.pie_record.specs.HistoryLines.{fault_from, line_in, lines_from}
 unfoldable use Rattle.pie_record.specs.Text.{rows_text}
@@ -101,7 +101,7 @@ IsReadLine version read = line_of version read.row ≡ Ok read.line
 read-each : (version : Version) (number : ℕ) (rows : List Row) → All (IsReadLine version) (read_from version number rows)
 unfolding read_from
 read-each version number [] = All-nil (IsReadLine version)
-read-each version number (row ∷ rows) = grind (arith, nat_tests, reads-one, read-each version (number + 1) rows)
+read-each version number (row ∷ rows) = grind (arith, nat_tests, reads_one, read-each version (number + 1) rows)
 
 -- ---- the parameters
 
@@ -182,12 +182,12 @@ module _ (alteration : Alteration) (none : changes alteration.params ≡ false) 
 legal-front : (opening : Opening) (first more : List Event) → IsLegal opening (first ++ more) → IsLegal opening first
 legal-front opening first [] legal = rw (append-nil first) at legal
 legal-front opening first (event ∷ more) legal =
-    (legal-pop opening first event (legal-front opening (first ++ event ∷ []) more (rw (append_assoc first (event ∷ []) more) legal))).0
+    (legal_pop opening first event (legal-front opening (first ++ event ∷ []) more (rw (append_assoc first (event ∷ []) more) legal))).0
 
 legal-at : (opening : Opening) (before later : List Event) (event : Event) → IsLegal opening (before ++ event ∷ later)
     → IsLegalAt opening (record { before = before; event = event })
 legal-at opening before later event legal =
-    (legal-pop opening before event (legal-front opening (before ++ event ∷ []) later (rw (append_assoc before (event ∷ []) later) legal))).1
+    (legal_pop opening before event (legal-front opening (before ++ event ∷ []) later (rw (append_assoc before (event ∷ []) later) legal))).1
 
 abbrev pub WrittenAgain : Type 0
 WrittenAgain = (row : Row) (line : Line) → IsRecordOf row line → line_rows line ≡ rows_unless_note line row

@@ -1,3 +1,6 @@
+pub mod ReadFacts
+pub mod EndFacts
+pub mod HistoryFacts
 pub mod RowFacts
 pub mod DecideFacts
 pub mod PassFacts

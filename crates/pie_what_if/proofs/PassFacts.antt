@@ -1,14 +1,13 @@
 -- The pass over a text, one record after another.
 unfoldable use Rattle.pie_audit.specs.Text.{text_fault}
 unfoldable use Rattle.pie_excerpt.specs.Beginning.{beginning_of}
-use Rattle.pie_record.proofs.InputFacts.{line_in-line}
+use Rattle.pie_what_if.proofs.ReadFacts.{grown_moved, line_read}
 use Rattle.pie_record.specs.HistoryLines.{line_of}
 unfoldable use Rattle.pie_record.specs.HistoryLines.{fault_from, line_in}
 use Rattle.pie_record.specs.Text.{Row, TakesRow, Took}
 unfoldable use Rattle.pie_record.specs.Text.{rows_text}
 use Rattle.pie_record.specs.declared.{fault.TraceFault.TraceFault, history_record.Line.Line, version.Version.Version}
 use Rattle.pie_record.specs.declared.fault.TraceFault.TheVariants as fault
-use Rattle.pie_trace.proofs.RunFacts.{Halts, grown-moved}
 use Rattle.pie_trace.specs.Runs.{HasOutcome, IsProgressOf, Pass, Writes}
 use Rattle.pie_what_if.proofs.RowFacts.{rows-both}
 use Rattle.pie_what_if.specs.Decider.{IsAt, end_at}
@@ -23,6 +22,10 @@ use Rattle.std.specs.Io.KnownBytes.{Appends, append_known}
 use Rattle.std.specs.Prelude.{Err, Ok, Option, Result, Some}
 
 -- ---- one pass continues as another
+
+-- a pass ends with this fault and writes nothing
+abbrev pub Halts : {X A : Type 0} → Pass X A → TraceFault → Type 0
+Halts {X} p why = (p.found ≡ Some why) × ((past : X) → p.can_precede past → p.text past ≡ [])
 
 -- after a text that depends on the state before, a pass continues as another: both have one first fault and one result
 pub record Follows {X A : Type 0} (p q : Pass X A) (now later : Option (List ℕ)) : Type 0 where
@@ -82,7 +85,7 @@ module _ (alteration : Alteration) (version : Version) (number : ℕ) (decider :
       (append_known out rows) now
   unfolding fault_from read_from other_rows point_at_end
   rest-next later row line rows rows' out now within reads added moved rest =
-      let good : line_in version (2 ^ 32) number row ≡ Ok line = line_in-line version (2 ^ 32) number row line within reads in
+      let good : line_in version (2 ^ 32) number row ≡ Ok line = line_read version (2 ^ 32) number row line within reads in
       record {
         found = rw good refl;
         next = λ point at.
@@ -92,7 +95,7 @@ module _ (alteration : Alteration) (version : Version) (number : ℕ) (decider :
               it.1,
               rw good refl,
               rows_text (rows_at alteration point line row),
-              grown-moved out now rows rows' (rows_text (rows_at alteration point line row)) it.0 moved,
+              grown_moved out now rows rows' (rows_text (rows_at alteration point line row)) it.0 moved,
               rw good (rows-both (rows_at alteration point line row) (other_rows alteration then (read_from version (number + 1) rest))),
             );
       }

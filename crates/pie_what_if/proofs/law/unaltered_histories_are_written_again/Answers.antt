@@ -1,7 +1,7 @@
 use Rattle.pie_excerpt.specs.Beginning.{opened_at}
 use Rattle.pie_record.specs.FirstRecord.{version_of}
 use Rattle.pie_record.specs.Text.{Row, rows_text}
-use Rattle.pie_trace.proofs.RunFacts.{first-one}
+use Rattle.pie_what_if.proofs.ReadFacts.{first_one}
 use Rattle.pie_what_if.proofs.LawFacts.{text-again}
 use Rattle.std.proofs.Common.{List, [], ap, ◌++◌, ◌∙◌, ◌∷◌}
 use Rattle.pie_what_if.proofs.law.unaltered_histories_are_written_again.Goals as goal
@@ -13,5 +13,5 @@ returns c = record {
   whole = λ alteration row rows opening none opens good made legal.
       text-again c.lines_are_written_again.ensures alteration none (row ∷ rows) (opened_at (version_of row) opening rows) opening []
       (c.histories_begin_at_openings.ensures.begins row rows opening opens) good made legal
-      ∙ ap (λ (front : List Row). rows_text (front ++ rows)) (first-one row rows);
+      ∙ ap (λ (front : List Row). rows_text (front ++ rows)) (first_one row rows);
 }

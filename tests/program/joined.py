@@ -5,6 +5,7 @@ segments of another history with the same numbers. Each field of a preamble and 
 tests/shared/reference_resumed.py gives the expected finding. Texts with a change, or with parameters out of their
 ranges, are cut into segments by `pie cut`: each segment must be clean and follow, except the last if the text
 differs. Then whole histories, files with a fault, files that differ, one file, and standard input take part.
+Standard error must name the missing and repeated events, and the first field that differs with both values.
 
 usage: tests/program/joined.py [PROGRAM [FIRST_SEED [RUNS]]]      PROGRAM: crates/pie/out/pie by default
 needs: program
@@ -18,13 +19,22 @@ from pathlib import Path
 sys.path.insert(0, str(Path(__file__).resolve().parents[1] / "shared"))
 import reference_resumed  # noqa: E402
 from checks import check, finish  # noqa: E402
-from excerpts import audited, bad_params, changed, segments_of  # noqa: E402
+from excerpts import audited, audited_with_joints, bad_params, changed, segments_of  # noqa: E402
 from running import PROGRAM, run  # noqa: E402
 
 FIRST, RUNS = ([int(word) for word in sys.argv[2:4]] + [1, 16][len(sys.argv[2:4]) :])[:2]
 EVENTS = 40
 # The positions of fields in a record `resume`: the number of events, the event that set the probability, and the first statistic.
 COUNT, SET_BY, STATISTICS = -31, -30, -15  # counted from the end, because the record may have the decay or not
+# The names of the fields of `resume` and `queued` on docs/FORMATS.md.
+NINE = ["target", "t_update", "max_burst", "alpha", "beta", "mean_pkt", "limit_bytes", "mark_ecnth", "dq_threshold"]
+RESUME = [
+    *"kind profile delay picking step size decay mode moment packets tail events".split(), *NINE, *NINE,
+    *"count set_by packets bytes moment prob old accu burst last average measuring start counted last_wait active".split(),
+    *"arrivals enqueued marked early over_bytes over_packets left left_bytes empty updates resets changes largest_queue largest_delay waited".split(),
+]
+QUEUED = "kind tag size ecn since".split()
+DECAY = 6
 tried = {"follow": 0, "gaps": 0, "unlike": 0, "faults": 0, "differ": 0, "statistics": 0, "packets": 0, "cut": 0, "cut to a difference": 0}
 
 
@@ -55,6 +65,37 @@ def end_of(part):
     return [list(map(str, row)) for row in reference_resumed.resumed_at(part.book, part.last, False)]
 
 
+def as_written(row):
+    """Returns a record as `pie cut` writes it: it leaves out the usual decay."""
+    return row[:DECAY] + row[DECAY + 1 :] if row[0] == "resume" and row[DECAY] == "zero" else row
+
+
+def named(end, beginning):
+    """Returns the line about the first field that differs between two preambles."""
+    for number, (one, other) in enumerate(zip(map(as_written, end), map(as_written, beginning))):
+        for place, (before, begun) in enumerate(zip(one, other)):
+            if before == begun or number == 0 and RESUME[place + (place >= DECAY and len(one) < len(RESUME))] == "set_by":
+                continue
+            if number:
+                return f"queued field {place + 1} ({QUEUED[place]}) of packet {number} is {begun}, the file before ends with {before}"
+            if len(one) != len(other) and place == DECAY:
+                before, begun = ("half", "absent") if len(one) > len(other) else ("absent", "half")
+                return f"resume field {place + 1} (decay) is {begun}, the file before ends with {before}"
+            name = RESUME[place + (place >= DECAY and len(one) < len(RESUME))]
+            return f"resume field {place + 1} ({name}) is {begun}, the file before ends with {before}"
+    raise AssertionError("nothing differs")
+
+
+def line_of(before, part):
+    """Returns the line about the joint of two segments, or `None` if the second follows."""
+    if before.last + 1 < part.first:
+        return f"events {before.last + 1} to {part.first - 1} are missing"
+    if before.last + 1 > part.first:
+        return f"events {part.first} to {min(before.last, part.last)} are in both files"
+    end, beginning = end_of(before), stands_on(part)
+    return None if end == beginning else named(end, beginning)
+
+
 def joint(before, part):
     if before.last + 1 != part.first:
         tried["gaps"] += 1
@@ -70,8 +111,10 @@ def hold(what, parts):
     """Audits clean parts in this order."""
     wanted = [f"clean,{parts[0].last}", *(f"clean,{part.last} {joint(before, part)}" for before, part in zip(parts, parts[1:]))]
     is_met = all(line.endswith("follows") for line in wanted[1:])
-    got = audited([part.text for part in parts], "--joined")
-    check(got == (0 if is_met else 2, [(line, "") for line in wanted]), f"{what}: wanted {wanted}, got {got}")
+    *got, joints = audited_with_joints([part.text for part in parts], "--joined")
+    check(got == [0 if is_met else 2, [(line, "") for line in wanted]], f"{what}: wanted {wanted}, got {got}")
+    lines = [(place + 1, line_of(before, part)) for place, (before, part) in enumerate(zip(parts, parts[1:]))]
+    check(joints == [line for line in lines if line[1]], f"{what}: wanted {lines}, got {joints}")
 
 
 def hold_orders(what, parts, chance):
@@ -98,6 +141,12 @@ def found_of(text):
     return status, finding.rstrip("\n"), error.removeprefix("pie: ").rstrip("\n")
 
 
+def rows_of(text):
+    """Returns the records of a preamble."""
+    rows = [line.split(",") for line in text.splitlines()]
+    return [row for row in rows if row[0] in ("resume", "queued")]
+
+
 def hold_changed(what, before, text, wanted):
     """Checks an excerpt after which a changed text follows: the result is a fault, or the expected
     joint."""
@@ -106,8 +155,13 @@ def hold_changed(what, before, text, wanted):
     tried["differ"] += status == 2
     line = "" if status == 1 else f"{finding} {wanted}"
     is_met = status == 0 and wanted == "follows"
-    got = audited([before.text, text], "--joined")
-    check(got == (status or (0 if is_met else 2), [(f"clean,{before.last}", ""), (line, error)]), f"{what}: wanted {line or error}, got {got}")
+    *got, joints = audited_with_joints([before.text, text], "--joined")
+    check(got == [status or (0 if is_met else 2), [(f"clean,{before.last}", ""), (line, error)]], f"{what}: wanted {line or error}, got {got}")
+    if status != 1 and wanted.startswith("unlike"):
+        name = named(end_of(before), rows_of(text))
+        check(joints == [(1, name)], f"{what}: wanted {name}, got {joints}")
+    else:
+        check(bool(joints) == (status != 1 and wanted != "follows"), f"{what}: {joints}")
 
 
 def other_number(field, chance):

@@ -22,7 +22,7 @@ from checks import NAME, expect  # noqa: E402
 from explaining import hold_each, pie, records, within, written  # noqa: E402
 
 JQ = shutil.which("jq")
-SELECTIONS = (("--all",), ("--lost",), ("--marked",), ("--summary",), ("--lost", "--summary"))
+SELECTIONS = (("--all",), ("--lost",), ("--marked",), ("--summary",), ("--lost", "--summary"), ("--flows=2",), ("--lost", "--flows=1"))
 
 
 def value(field):
@@ -80,7 +80,7 @@ def hold(name, history, words):
     every = f"--every={written(max(moments[-1] - moments[0], 100) // words.randrange(2, 30) + 1, words)}"
     one = (f"--event={words.choice(rows)['number']}",), (f"--tag={words.choice([row['tag'] for row in rows if row['tag']] or ['0'])}",)
     for options, _ in within(moments, words):
-        for which in (*SELECTIONS, *one, (every,), ("--lost", every)):
+        for which in (*SELECTIONS, *one, (every,), ("--lost", every), ("--flows=3", every)):
             chosen = [*which, *options, *words.choice(((), ("--wall",)))]
             table, text = pie(history, *chosen, "--csv"), pie(history, *chosen, "--json")
             expect(f"{name}: {chosen}: end", (text[0], text[2]), (table[0], table[2]))
@@ -89,10 +89,10 @@ def hold(name, history, words):
 
 def refusals():
     """Checks the options that exclude each other."""
-    for other in ("--csv", "--digest", "--flows=2"):
+    for other in ("--csv", "--digest"):
         got = pie("", "--all", "--json", other)
         expect(f"--json {other}", got[:2], (1, ""))
-        expect(f"--json {other}: message", "--json cannot be combined with --csv, --digest or --flows" in got[2], True)
+        expect(f"--json {other}: message", "--json cannot be combined with --csv or --digest" in got[2], True)
 
 
 def faults():

@@ -12,17 +12,29 @@ from running import PROGRAM, run
 RIGHT = re.compile(r"pie: [^:]+: (event \d+ (is recorded as|sets parameters) |the rules (give|allow) |pie explain --event \d+ )")
 
 
+# the line about a joint at which two texts do not fit together
+JOINT = re.compile(r"pie: (\d+): at the joint: (.*)")
+
+
 def audited(texts, *words):
     """Returns the status of one run of `pie audit` over files, and the finding and the error of each of these
     texts."""
+    return audited_with_joints(texts, *words)[:2]
+
+
+def audited_with_joints(texts, *words):
+    """Returns the status of one run of `pie audit` over files, the finding and the error of each of these texts, and
+    the line about the joint before each text that has one, by its place."""
     with tempfile.TemporaryDirectory() as folder:
         for place, text in enumerate(texts):
             (Path(folder) / str(place)).write_bytes(text.encode())
         ran = subprocess.run([PROGRAM, "audit", *words, *map(str, range(len(texts)))], cwd=folder, capture_output=True, text=True, check=False)
         lines = [line.split(": ", 1) for line in ran.stdout.splitlines()]
-        told = dict(line.removeprefix("pie: ").split(": ", 1) for line in ran.stderr.splitlines() if not RIGHT.match(line))
+        joints = [JOINT.fullmatch(line) for line in ran.stderr.splitlines()]
+        told = dict(line.removeprefix("pie: ").split(": ", 1) for line in ran.stderr.splitlines() if not RIGHT.match(line) and not JOINT.match(line))
         found = {place: [what for name, what in lines if name == str(place)] for place in range(len(texts))}
-        return ran.returncode, [(" ".join(found[place]), told.get(str(place), "")) for place in range(len(texts))]
+        found = [(" ".join(found[place]), told.get(str(place), "")) for place in range(len(texts))]
+        return ran.returncode, found, [(int(joint[1]), joint[2]) for joint in joints if joint]
 
 
 def explained(text, *words):

@@ -7,7 +7,9 @@ use Rattle.pie_commands.proofs.Names.{flat_map-append, list_any, Text, Joined, E
 use Rattle.pie_commands.proofs.Names.{sym, map, End, HaveOutcomes, AuditsFiles, EndsAudit, EndsFileAudits, HasReadOutcome}
 use Rattle.pie_commands.specs.Ends.{EndsInputAudit}
 use Rattle.std.specs.Prelude.{◌==◌}
-use Rattle.pie_commands.proofs.Names.{HasFileOutcome, FileOutcome, is_broken, is_unfound, lines_of, outcome_lines, worst}
+use Rattle.pie_commands.proofs.Names.{HasFileOutcome, FileOutcome, is_broken, is_unfound, outcome_lines, worst}
+use Rattle.pie_commands.specs.AuditJson.{EventTexts}
+use Rattle.pie_commands.specs.FileAudits.{written_lines}
 use Rattle.pie_commands.proofs.FileFacts.{IsLeft, left-stays, opens-left, reads-given}
 use Rattle.pie_commands.specs.Files.{CanOpen}
 use Rattle.pie_commands.specs.declared.audit.Unaudited.{Unaudited}
@@ -34,9 +36,11 @@ any-more : {X : Type 0} (test : X → Bool) (xs : List X) (x : X) (before : Bool
 any-more test xs x before is = grind (arith, nat_tests, list_any-append)
 
 -- the lines of the files, with one more
-lines-more : (outcomes : List FileOutcome) (one : FileOutcome) → flat_map outcome_lines (outcomes ++ one ∷ []) ≡ flat_map outcome_lines outcomes ++ outcome_lines one
-lines-more outcomes one =
-    flat_map-append outcome_lines outcomes (one ∷ []) ∙ ap (λ (line : List ℕ). flat_map outcome_lines outcomes ++ line) (append-nil (outcome_lines one))
+lines-more : (json : Bool) (outcomes : List FileOutcome) (one : FileOutcome)
+    → flat_map (outcome_lines json) (outcomes ++ one ∷ []) ≡ flat_map (outcome_lines json) outcomes ++ outcome_lines json one
+lines-more json outcomes one =
+    flat_map-append (outcome_lines json) outcomes (one ∷ [])
+    ∙ ap (λ (line : List ℕ). flat_map (outcome_lines json) outcomes ++ line) (append-nil (outcome_lines json one))
 
 -- one file more at the end
 outcomes-more : (works joined : Bool) (input : Option (List ℕ)) (files : Text → Option (List ℕ)) (earlier : List Text) (before : Option EndView)
@@ -53,30 +57,30 @@ outcomes-more works joined input files earlier before (first ∷ more) between o
     (sym (append_assoc earlier (first.0 ∷ []) (map (λ t. t.0) more))) is in
     (have.0, have.1, outcomes-more works joined input files (earlier ++ first.0 ∷ []) have.0 more between one after have.2 next)
 
-pub audits-more : (works joined : Bool) (input : Option (List ℕ)) (files : Text → Option (List ℕ)) (names : List Text) (unfound broken : Bool)
-    (end after : Option EndView) (before mid now : Option (List ℕ)) (name : Text) (outcome : Result Joined Unaudited)
-    → AuditsFiles works joined input files names unfound broken end before mid
+pub audits-more : (works joined json : Bool) (input : Option (List ℕ)) (files : Text → Option (List ℕ)) (names : List Text) (unfound broken : Bool)
+    (end after : Option EndView) (before mid now : Option (List ℕ)) (name : Text) (outcome : Result Joined Unaudited) (texts : EventTexts)
+    → AuditsFiles works joined json input files names unfound broken end before mid
     → HasFileOutcome works joined input files names name end outcome after
-    → Appends mid now (lines_of name outcome)
-    → AuditsFiles works joined input files (names ++ name ∷ []) (unfound || is_unfound outcome) (broken || is_broken outcome) after before now
-audits-more works joined input files names unfound broken end after before mid now name outcome audits has written = record {
-  outcomes = audits.outcomes ++ (name, outcome) ∷ [];
-  in_order = map-append (λ (t : FileOutcome). t.0) audits.outcomes ((name, outcome) ∷ []) ∙ ap (λ (all : List Text). all ++ name ∷ []) audits.in_order;
-  audited = outcomes-more works joined input files [] None audits.outcomes end (name, outcome) after audits.audited
+    → Appends mid now (written_lines json name outcome texts)
+    → AuditsFiles works joined json input files (names ++ name ∷ []) (unfound || is_unfound outcome) (broken || is_broken outcome) after before now
+audits-more works joined json input files names unfound broken end after before mid now name outcome texts audits has written = record {
+  outcomes = audits.outcomes ++ (name, outcome, texts) ∷ [];
+  in_order = map-append (λ (t : FileOutcome). t.0) audits.outcomes ((name, outcome, texts) ∷ []) ∙ ap (λ (all : List Text). all ++ name ∷ []) audits.in_order;
+  audited = outcomes-more works joined input files [] None audits.outcomes end (name, outcome, texts) after audits.audited
       (subst (λ (e : List Text). HasFileOutcome works joined input files e name end outcome after) (sym audits.in_order) has);
-  written = rw (lines-more audits.outcomes (name, outcome)) (Appends-trans before mid now (flat_map outcome_lines audits.outcomes) (lines_of name outcome)
+  written = rw (lines-more json audits.outcomes (name, outcome, texts)) (Appends-trans before mid now (flat_map (outcome_lines json) audits.outcomes) (written_lines json name outcome texts)
       audits.written written);
-  any_unaudited = any-more (λ (t : FileOutcome). is_unfound t.1) audits.outcomes (name, outcome) unfound audits.any_unaudited;
-  any_broken = any-more (λ (t : FileOutcome). is_broken t.1) audits.outcomes (name, outcome) broken audits.any_broken;
+  any_unaudited = any-more (λ (t : FileOutcome). is_unfound t.1) audits.outcomes (name, outcome, texts) unfound audits.any_unaudited;
+  any_broken = any-more (λ (t : FileOutcome). is_broken t.1) audits.outcomes (name, outcome, texts) broken audits.any_broken;
 }
 
 -- the audits of the first names
-pub audits-taken : (works joined : Bool) (input : Option (List ℕ)) (files : Text → Option (List ℕ)) (names : List Text) (place : ℕ) (name : Text)
+pub audits-taken : (works joined json : Bool) (input : Option (List ℕ)) (files : Text → Option (List ℕ)) (names : List Text) (place : ℕ) (name : Text)
     (unfound broken : Bool) (end : Option EndView) (before now : Option (List ℕ)) → place < length names
-    → name ≡ get_or names place [] → AuditsFiles works joined input files (take place names ++ name ∷ []) unfound broken end before now
-    → AuditsFiles works joined input files (take (place + 1) names) unfound broken end before now
-audits-taken works joined input files names place name unfound broken end before now within is audits =
-    rw (add-one place, take-suc names place [] within) (subst (λ (n : Text). AuditsFiles works joined input files (take place names ++ n ∷ []) unfound
+    → name ≡ get_or names place [] → AuditsFiles works joined json input files (take place names ++ name ∷ []) unfound broken end before now
+    → AuditsFiles works joined json input files (take (place + 1) names) unfound broken end before now
+audits-taken works joined json input files names place name unfound broken end before now within is audits =
+    rw (add-one place, take-suc names place [] within) (subst (λ (n : Text). AuditsFiles works joined json input files (take place names ++ n ∷ []) unfound
     broken end before now) is audits)
 
 -- the reader after the first names
@@ -87,12 +91,12 @@ left-taken {R} first names place name input within is left =
 
 -- ---- the end
 
-pub ends-unwritten : (works joined : Bool) (input : Option (List ℕ)) (files : Text → Option (List ℕ)) (names : List Text) (place : ℕ) (name : Text)
+pub ends-unwritten : (works joined json : Bool) (input : Option (List ℕ)) (files : Text → Option (List ℕ)) (names : List Text) (place : ℕ) (name : Text)
     (unfound broken : Bool) (end after : Option EndView) (found : Joined) (before written now : Option (List ℕ)) → place < length names
-    → name ≡ get_or names place [] → AuditsFiles works joined input files (take place names) unfound broken end before written
+    → name ≡ get_or names place [] → AuditsFiles works joined json input files (take place names) unfound broken end before written
     → HasFileOutcome works joined input files (take place names) name end (Ok found) after
-    → EndsFileAudits works joined input files names (Fault trace_fault.Write) before now
-ends-unwritten works joined input files names place name unfound broken end after found before written now within is audits has = inl (
+    → EndsFileAudits works joined json input files names (Fault trace_fault.Write) before now
+ends-unwritten works joined json input files names place name unfound broken end after found before written now within is audits has = inl (
   refl,
   record {
     place = place;
@@ -108,17 +112,17 @@ ends-unwritten works joined input files names place name unfound broken end afte
   },
 )
 
--- the options name no file, so the caller's reader was audited
-pub audits-input : {A : Type 0} (text_of : A → Text) (works joined : Bool) (input : Option (List ℕ)) (files : Text → Option (List ℕ)) (names : List A)
-    (end : End) (before now : Option (List ℕ)) → (length names == 0) ≡ true → EndsInputAudit input end before now
-    → EndsAudit works joined input files (map text_of names) end before now
-audits-input text_of works joined input files [] end before now none promise = promise
-audits-input text_of works joined input files (name ∷ names) end before now none promise =
+-- the options name no file
+pub audits-input : {A : Type 0} (text_of : A → Text) (works joined json : Bool) (input : Option (List ℕ)) (files : Text → Option (List ℕ)) (names : List A)
+    (end : End) (before now : Option (List ℕ)) → (length names == 0) ≡ true → EndsAudit works joined json input files [] end before now
+    → EndsAudit works joined json input files (map text_of names) end before now
+audits-input text_of works joined json input files [] end before now none promise = promise
+audits-input text_of works joined json input files (name ∷ names) end before now none promise =
     let wrong : ⊥ = grind (arith, nat_tests, none) in absurd wrong
 
 -- the options name some files, which were audited
-pub audits-files : {A : Type 0} (text_of : A → Text) (works joined : Bool) (input : Option (List ℕ)) (files : Text → Option (List ℕ)) (names : List A)
-    (end : End) (before now : Option (List ℕ)) → (length names == 0) ≡ false → EndsFileAudits works joined input files (map text_of names) end before now
-    → EndsAudit works joined input files (map text_of names) end before now
-audits-files text_of works joined input files [] end before now some promise = let wrong : true ≡ false = some in cc
-audits-files text_of works joined input files (name ∷ names) end before now some promise = promise
+pub audits-files : {A : Type 0} (text_of : A → Text) (works joined json : Bool) (input : Option (List ℕ)) (files : Text → Option (List ℕ)) (names : List A)
+    (end : End) (before now : Option (List ℕ)) → (length names == 0) ≡ false → EndsFileAudits works joined json input files (map text_of names) end before now
+    → EndsAudit works joined json input files (map text_of names) end before now
+audits-files text_of works joined json input files [] end before now some promise = let wrong : true ≡ false = some in cc
+audits-files text_of works joined json input files (name ∷ names) end before now some promise = promise

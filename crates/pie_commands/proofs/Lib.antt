@@ -9,3 +9,4 @@ mod SubcommandFacts
 mod TextKindFacts
 mod WordFacts
 mod WhatIfFacts
+pub mod AuditJsonFacts

@@ -6,7 +6,8 @@ use Rattle.pie_commands.proofs.Names.{HasMatchesOf, Text, kind_of, subcommand_na
 use Rattle.pie_commands.proofs.Names.{files_in, is_forced, is_joined, options_in, pie_app, subcommand_in, Joined, EndView, text_given, Held, Keeps}
 use Rattle.pie_commands.proofs.Names.{AuditsFiles, HaveOutcomes, FileOutcome, HasFileOutcome, EndsAudit, EndsFileAudits, LacksFinding, Answers, EndsAs, EndsSubcommand, FindsMatches}
 use Rattle.pie_commands.proofs.Names.{may_differ, output_for, JoinsText, records_of, ◌++◌, false}
-use Rattle.pie_commands.proofs.Names.{IfSome}
+use Rattle.pie_commands.proofs.Names.{IfSome, codes}
+use Rattle.pie_commands.specs.Explanations.{is_json}
 use Rattle.pie_commands.proofs.Names.{end_of_explain, explain_ends, output_kind_of, output_text, Selection, Explained}
 unfoldable use Rattle.pie_commands.specs.Explanations.{selection_of}
 use Rattle.pie_commands.specs.FileAudits.{FindsInHistory}
@@ -74,10 +75,10 @@ all-kept works joined input old new keeps earlier before (one ∷ more) after ha
   all-kept works joined input old new keeps (earlier ++ one.0 ∷ []) have.0 more after have.2,
 )
 
-audits-kept : (works joined : Bool) (input : Option (List ℕ)) (old new : Held) → Keeps old new → (names : List Text) (unfound broken : Bool)
-    (end : Option EndView) (before now : Option (List ℕ)) → AuditsFiles works joined input new names unfound broken end before now
-    → AuditsFiles works joined input old names unfound broken end before now
-audits-kept works joined input old new keeps names unfound broken end before now audits =
+audits-kept : (works joined json : Bool) (input : Option (List ℕ)) (old new : Held) → Keeps old new → (names : List Text) (unfound broken : Bool)
+    (end : Option EndView) (before now : Option (List ℕ)) → AuditsFiles works joined json input new names unfound broken end before now
+    → AuditsFiles works joined json input old names unfound broken end before now
+audits-kept works joined json input old new keeps names unfound broken end before now audits =
     record {
       outcomes = audits.outcomes;
       in_order = audits.in_order;
@@ -87,33 +88,35 @@ audits-kept works joined input old new keeps names unfound broken end before now
       any_broken = audits.any_broken;
     }
 
-lacks-kept : (works joined : Bool) (input : Option (List ℕ)) (old new : Held) → Keeps old new → (names : List Text) (before : Option (List ℕ))
-    → LacksFinding works joined input new names before → LacksFinding works joined input old names before
-lacks-kept works joined input old new keeps names before lacks = record {
+lacks-kept : (works joined json : Bool) (input : Option (List ℕ)) (old new : Held) → Keeps old new → (names : List Text) (before : Option (List ℕ))
+    → LacksFinding works joined json input new names before → LacksFinding works joined json input old names before
+lacks-kept works joined json input old new keeps names before lacks = record {
   place = lacks.place;
   within = lacks.within;
   unfound = lacks.unfound;
   broken = lacks.broken;
   end = lacks.end;
   written = lacks.written;
-  audited = audits-kept works joined input old new keeps (take lacks.place names) lacks.unfound lacks.broken lacks.end before lacks.written lacks.audited;
+  audited = audits-kept works joined json input old new keeps (take lacks.place names) lacks.unfound lacks.broken lacks.end before lacks.written lacks.audited;
   found = lacks.found;
   after = lacks.after;
   finding = outcome-kept works joined input old new keeps (take lacks.place names) (get_or names lacks.place []) lacks.end (Ok lacks.found) lacks.after
       lacks.finding;
 }
 
-files-kept : (works joined : Bool) (input : Option (List ℕ)) (old new : Held) (names : List Text) (end : End) (before now : Option (List ℕ))
-    → Keeps old new → EndsFileAudits works joined input new names end before now → EndsFileAudits works joined input old names end before now
-files-kept works joined input old new names end before now keeps (inl (is, lacks)) = inl (is, lacks-kept works joined input old new keeps names before lacks)
-files-kept works joined input old new names end before now keeps (inr (unfound, broken, last, is, audits)) =
-    inr (unfound, broken, last, is, audits-kept works joined input old new keeps names unfound broken last before now audits)
+files-kept : (works joined json : Bool) (input : Option (List ℕ)) (old new : Held) (names : List Text) (end : End) (before now : Option (List ℕ))
+    → Keeps old new → EndsFileAudits works joined json input new names end before now → EndsFileAudits works joined json input old names end before now
+files-kept works joined json input old new names end before now keeps (inl (is, lacks)) = inl (is, lacks-kept works joined json input old new keeps names before lacks)
+files-kept works joined json input old new names end before now keeps (inr (unfound, broken, last, is, audits)) =
+    inr (unfound, broken, last, is, audits-kept works joined json input old new keeps names unfound broken last before now audits)
 
-either-kept : (works joined : Bool) (input : Option (List ℕ)) (old new : Held) (names : List Text) (end : End) (before now : Option (List ℕ))
-    → Keeps old new → EndsAudit works joined input new names end before now → EndsAudit works joined input old names end before now
-either-kept works joined input old new [] end before now keeps promise = promise
-either-kept works joined input old new (name ∷ names) end before now keeps promise =
-    files-kept works joined input old new (name ∷ names) end before now keeps promise
+either-kept : (works joined json : Bool) (input : Option (List ℕ)) (old new : Held) (names : List Text) (end : End) (before now : Option (List ℕ))
+    → Keeps old new → EndsAudit works joined json input new names end before now → EndsAudit works joined json input old names end before now
+either-kept works joined false input old new [] end before now keeps promise = promise
+either-kept works joined true input old new [] end before now keeps promise =
+    files-kept works joined true input old new (codes "-" ∷ []) end before now keeps promise
+either-kept works joined json input old new (name ∷ names) end before now keeps promise =
+    files-kept works joined json input old new (name ∷ names) end before now keeps promise
 
 -- a comparison of histories, and the other history
 compared-kept : (alteration : Alteration) (old new : Option (List ℕ)) (end : End) (before now : Option (List ℕ)) → IsRetained old new
@@ -160,7 +163,7 @@ pub EndsAs-kept : (subcommand : Subcommand) (options : List Row) (works : Bool) 
     (before now : Option (List ℕ)) → Keeps old new → EndsAs subcommand options works input new end before now
     → EndsAs subcommand options works input old end before now
 EndsAs-kept Audit options works input old new end before now keeps promise =
-    either-kept works (is_joined options) input old new (files_in options) end before now keeps promise
+    either-kept works (is_joined options) (is_json options) input old new (files_in options) end before now keeps promise
 EndsAs-kept WhatIf options works input old new end before now keeps promise =
     what_if-kept (Opens works old (file_in options)) (Opens works new (file_in options)) (alteration_of options) (writes_other options)
     (text_given input old (file_in options)) (text_given input new (file_in options)) end before now

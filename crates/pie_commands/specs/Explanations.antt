@@ -15,7 +15,7 @@ use Rattle.pie_units.specs.Time.{moment_in, when_in}
 use Rattle.pie_units.specs.declared.when.When.{When}
 use Rattle.pie_units.specs.declared.when.WhenFault.{WhenFault}
 use Rattle.pie_explain.specs.Output.{as_records, in_words, pages}
-use Rattle.pie_json.specs.Rows.{objects_of}
+use Rattle.pie_json.specs.Rows.{converted, objects_of}
 use Rattle.pie_summary.specs.ByFlow.{flows_whole}
 use Rattle.pie_summary.specs.Summary.{without_packets, summary_of}
 use Rattle.pie_summary.specs.IntervalLines.{lines_whole}
@@ -86,9 +86,9 @@ is_summary options =
 abbrev pub is_json : List Row → Bool
 is_json options = flag_given (codes "json") options
 
--- true unless a digest is requested together with sums by flow, or JSON together with CSV, a digest or sums by flow
+-- true unless a digest is requested together with sums by flow, or JSON together with CSV or a digest
 abbrev pub may_combine : Bool → Option ℕ → Bool → Bool → Bool
-may_combine digest flows json csv = not (digest && is_some flows) && not (json && (csv || (digest || is_some flows)))
+may_combine digest flows json csv = not (digest && is_some flows) && not (json && (csv || digest))
 
 -- the chosen events, if at most one of the five options chooses some; without any of them all events
 abbrev pub chosen : Option ℕ → Option ℕ → Bool → Bool → Bool → Option EventChoice
@@ -146,7 +146,8 @@ sums_kind full style (Some every) form =
 -- the kind of output about the chosen events: each event; sums by flow; or summaries, with or without a digest of
 -- lost and marked packets. Sums and summaries cover all events or each interval
 abbrev pub output_kind_by : Bool → Bool → Option ℕ → Bool → LineStyle → Option ℕ → Form → OutputKind
-output_kind_by true packets (Some most) full style every form = Flows (record { form = form; every = every; most = most })
+output_kind_by true packets (Some most) full style every form =
+    Flows (record { report = record { form = form; every = every; most = most }; is_json = false })
 output_kind_by true true None full style every form = Digest (record { form = form; every = every; packets = true })
 output_kind_by true false None full style every form = sums_kind full style every form
 output_kind_by false packets flows full style every form = each_kind form
@@ -161,6 +162,7 @@ plain_kind_of style options csv =
 abbrev pub as_json : OutputKind → OutputKind
 as_json (Records records) = JsonRecords records
 as_json (Sums sums) = JsonSums sums
+as_json (Flows flows) = Flows (record { report = flows.report; is_json = true })
 as_json kind = kind
 
 abbrev pub output_kind_of : LineStyle → List Row → OutputKind
@@ -174,7 +176,7 @@ output_text (Words words) = pages (in_words words.by_wall)
 output_text (Sums sums) = summary_of (without_packets sums)
 output_text (Lines lines) = lines_whole lines
 output_text (Digest summaries) = summary_of summaries
-output_text (Flows by_flow) = flows_whole by_flow
+output_text (Flows flows) = λ all. converted flows.is_json (flows_whole flows.report all)
 output_text (JsonRecords records) = λ all. objects_of (pages (as_records records.by_wall) all)
 output_text (JsonSums sums) = λ all. objects_of (summary_of (without_packets sums) all)
 

@@ -14,6 +14,7 @@ use Rattle.pie_cut.specs.declared.joint_audit.Joined.{Joined}
 use Rattle.pie_cut.specs.declared.joint_audit.Joint.{Joint}
 use Rattle.pie_cut.specs.declared.joint_audit.Joint.TheVariants.{Follows, Gap, Unlike}
 use Rattle.pie_cut.specs.Joined.{EndView, IsLeftBy, JoinsText}
+use Rattle.pie_commands.specs.AuditJson.{EventTexts, json_line}
 use Rattle.pie_commands.specs.Files.{opens_after, text_given}
 use Rattle.pie_commands.specs.declared.audit.Unaudited.{Unaudited}
 use Rattle.pie_commands.specs.declared.audit.Unaudited.TheVariants.{Unopened, Faulty, Unfit}
@@ -44,12 +45,18 @@ abbrev pub lines_of : Text → Result Joined Unaudited → List ℕ
 lines_of name (Err why) = []
 lines_of name (Ok joined) = named_line name joined.finding ++ line_of_joint name joined.joint
 
--- a file's name, with its finding and joint, or the reason why it was not audited
-abbrev pub FileOutcome : Type 0
-FileOutcome = Text × Result Joined Unaudited
+-- the lines of a file's result, or the line with its object of JSON. `texts` are those of an event that differs
+abbrev pub written_lines : Bool → Text → Result Joined Unaudited → EventTexts → List ℕ
+written_lines false name outcome texts = lines_of name outcome
+written_lines true name (Err why) texts = []
+written_lines true name (Ok joined) texts = json_line name joined texts
 
-abbrev pub outcome_lines : FileOutcome → List ℕ
-outcome_lines outcome = lines_of outcome.0 outcome.1
+-- a file's name, with its finding and joint, or the reason why it was not audited, and the texts of an event that differs
+abbrev pub FileOutcome : Type 0
+FileOutcome = Text × Result Joined Unaudited × EventTexts
+
+abbrev pub outcome_lines : Bool → FileOutcome → List ℕ
+outcome_lines json outcome = written_lines json outcome.0 outcome.1 outcome.2
 
 -- ---- the status
 
@@ -130,37 +137,38 @@ HaveOutcomes works joined input files earlier before (first ∷ more) after = (b
     × HaveOutcomes works joined input files (earlier ++ first.0 ∷ []) between more after
 
 -- each of these files was audited in turn, and the lines of each were written; no end comes before the first
-pub record AuditsFiles (works joined : Bool) (input : Option (List ℕ)) (files : Text → Option (List ℕ)) (names : List Text) (unfound broken : Bool)
+pub record AuditsFiles (works joined json : Bool) (input : Option (List ℕ)) (files : Text → Option (List ℕ)) (names : List Text) (unfound broken : Bool)
     (end : Option EndView) (before now : Option (List ℕ)) : Type 0 where
   pub outcomes : List FileOutcome
   pub in_order : map (λ t. t.0) outcomes ≡ names
   pub audited : HaveOutcomes works joined input files [] None outcomes end
-  pub written : Appends before now (flat_map outcome_lines outcomes)
+  pub written : Appends before now (flat_map (outcome_lines json) outcomes)
   pub any_unaudited : unfound ≡ list_any (λ t. is_unfound t.1) outcomes
   pub any_broken : broken ≡ list_any (λ t. is_broken t.1) outcomes
 
 -- the files before one of these were audited and their lines were written, and the finding of this one could not be
 -- written
-pub record LacksFinding (works joined : Bool) (input : Option (List ℕ)) (files : Text → Option (List ℕ)) (names : List Text) (before : Option (List ℕ)) : Type 0 where
+pub record LacksFinding (works joined json : Bool) (input : Option (List ℕ)) (files : Text → Option (List ℕ)) (names : List Text) (before : Option (List ℕ)) : Type 0 where
   pub place : ℕ
   pub within : place < length names
   pub unfound : Bool
   pub broken : Bool
   pub end : Option EndView
   pub written : Option (List ℕ)
-  pub audited : AuditsFiles works joined input files (take place names) unfound broken end before written
+  pub audited : AuditsFiles works joined json input files (take place names) unfound broken end before written
   pub found : Joined
   pub after : Option EndView
   pub finding : HasFileOutcome works joined input files (take place names) (get_or names place []) end (Ok found) after
 
 -- the end of an audit of files: the worst end; or the lines of a finding could not be written
-abbrev pub EndsFileAudits : Bool → Bool → Option (List ℕ) → (Text → Option (List ℕ)) → List Text → End → Option (List ℕ) → Option (List ℕ) → Type 0
-EndsFileAudits works joined input files names end before now =
-    ((end ≡ Fault trace_fault.Write) × LacksFinding works joined input files names before)
+abbrev pub EndsFileAudits : Bool → Bool → Bool → Option (List ℕ) → (Text → Option (List ℕ)) → List Text → End → Option (List ℕ) → Option (List ℕ) → Type 0
+EndsFileAudits works joined json input files names end before now =
+    ((end ≡ Fault trace_fault.Write) × LacksFinding works joined json input files names before)
     ⊎ ((unfound : Bool) × (broken : Bool) × (last : Option EndView) × (end ≡ worst unfound broken)
-    × AuditsFiles works joined input files names unfound broken last before now)
+    × AuditsFiles works joined json input files names unfound broken last before now)
 
--- without a file: an audit of the caller's reader, which has no joint
-abbrev pub EndsAudit : Bool → Bool → Option (List ℕ) → (Text → Option (List ℕ)) → List Text → End → Option (List ℕ) → Option (List ℕ) → Type 0
-EndsAudit works joined input files [] = EndsInputAudit input
-EndsAudit works joined input files (name ∷ names) = EndsFileAudits works joined input files (name ∷ names)
+-- without a file: an audit of the caller's reader, which has no joint; for JSON as that of the file `-`
+abbrev pub EndsAudit : Bool → Bool → Bool → Option (List ℕ) → (Text → Option (List ℕ)) → List Text → End → Option (List ℕ) → Option (List ℕ) → Type 0
+EndsAudit works joined false input files [] = EndsInputAudit input
+EndsAudit works joined true input files [] = EndsFileAudits works joined true input files (codes "-" ∷ [])
+EndsAudit works joined json input files (name ∷ names) = EndsFileAudits works joined json input files (name ∷ names)

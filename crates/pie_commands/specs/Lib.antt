@@ -1,3 +1,4 @@
+pub mod AuditJson
 pub mod Advising
 pub mod Explanations
 pub mod Nearest

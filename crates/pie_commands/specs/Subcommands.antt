@@ -15,7 +15,7 @@ use Rattle.pie_commands.specs.declared.end.End.{End}
 use Rattle.pie_commands.specs.declared.end.End.TheVariants.{CannotStart, Differs}
 use Rattle.pie_commands.specs.CutEnds.{EndsCut}
 use Rattle.pie_commands.specs.Ends.{EndsMigrate, EndsRead, EndsRun, status_of}
-use Rattle.pie_commands.specs.Explanations.{EndsExplain}
+use Rattle.pie_commands.specs.Explanations.{EndsExplain, is_json}
 use Rattle.pie_commands.specs.FileAudits.{EndsAudit}
 use Rattle.pie_commands.specs.Files.{EndsWithOutput}
 use Rattle.pie_commands.specs.StormEnds.{EndsStorm}
@@ -28,7 +28,7 @@ use Rattle.pie_commands.specs.Advising.{EndsAdvise}
 -- memory, or a storm a thread, before they write anything
 abbrev pub EndsAs : Subcommand → List Row → Bool → Option (List ℕ) → Held → End → Option (List ℕ) → Option (List ℕ) → Type 0
 EndsAs Run options works input files = EndsRead (Opens works files (file_in options)) (EndsRun (text_given input files (file_in options)))
-EndsAs Audit options works input files = EndsAudit works (is_joined options) input files (files_in options)
+EndsAs Audit options works input files = EndsAudit works (is_joined options) (is_json options) input files (files_in options)
 EndsAs Explain options works input files =
     EndsRead (Opens works files (file_in options)) (EndsExplain options (text_given input files (file_in options)))
 EndsAs Cut options works input files =

@@ -4,6 +4,8 @@ use Rattle.std.specs.Result.{result_ok}
 use Rattle.clap.specs.Words.{Row, Text, first_of}
 use Rattle.pie_params.specs.Params.{default_profile, first_bad}
 use Rattle.pie_record.specs.Text.{records_of}
+use Rattle.pie_record.specs.declared.fault.TraceFault.{TraceFault}
+use Rattle.pie_record.specs.declared.fault.TraceFault.TheVariants as trace_fault
 use Rattle.pie_units.specs.Opening.{gain_of}
 use Rattle.pie_what_if.specs.Params.{over}
 use Rattle.pie_what_if.specs.Result.{IsDecidedAgain}
@@ -65,6 +67,11 @@ end_of_what_if (Ok end) = Done
 end_of_what_if (Err (fault.Trace why)) = Fault why
 end_of_what_if (Err (fault.Differs event)) = Failed
 end_of_what_if (Err fault.NoEvents) = Failed
+
+-- the fault of a text whose output is collected in memory: a failed write is a lack of memory
+abbrev pub fault_in_memory : TraceFault → TraceFault
+fault_in_memory trace_fault.Write = trace_fault.Memory
+fault_in_memory why = why
 
 -- the end of a comparison: if it is done, the text is a history that has another history
 abbrev pub EndsCompared : Alteration → Option (List ℕ) → End → Option (List ℕ) → Option (List ℕ) → Type 0

@@ -3,8 +3,9 @@ ghost use Rattle.std.specs.Prelude.{◌≡◌, ◌<◌, ◌||◌, [], Err, IfErr
 ghost use Rattle.std.specs.Io.KnownBytes.{Appends};
 ghost use Rattle.clap.specs.Words.{found_of, rows_of};
 ghost use Rattle.pie_audit.specs.Text.{Finds};
+ghost use Rattle.pie_commands.specs.AuditJson.{json_line};
 ghost use Rattle.pie_commands.specs.Ends.{EndsInputAudit, WritesFinding, end_found};
-ghost use Rattle.pie_commands.specs.FileAudits.{EndsFileAudits, FindsJoined, HasReadOutcome, HasTextOutcome, IsFoundEnd, is_broken, line_of_joint, lines_of, named_line, worst};
+ghost use Rattle.pie_commands.specs.FileAudits.{EndsAudit, EndsFileAudits, FindsJoined, HasReadOutcome, HasTextOutcome, IsFoundEnd, is_broken, line_of_joint, lines_of, named_line, worst, written_lines};
 ghost use Rattle.pie_commands.specs.Files.{CanOpen, ReadsNamed, left_for};
 ghost use Rattle.pie_commands.specs.Subcommands.{EndsAs};
 ghost use Rattle.pie_commands.specs.declared.audit.Unaudited.{Unaudited};
@@ -12,17 +13,19 @@ ghost use Rattle.pie_commands.specs.declared.options.subcommand.Subcommand.{Subc
 ghost use Rattle.pie_cut.specs.declared.joint_audit.Joined.{Joined};
 ghost use Rattle.pie_record.specs.Text.{records_of};
 
-use crate::difference::report_difference;
+use crate::audit_json::put_object;
+use crate::difference::{EventTexts, event_texts, report_difference};
 use crate::end::{End, end_with_fault, named_fault};
 use crate::fault_report::{AUDIT, report_cause};
 use crate::files::{NamedFiles, reader_named};
+use crate::joint::report_joint;
 use crate::options::flag;
 use crate::progress::{ProgressReader, Screen, shows_progress};
 use crate::steps::{audit_steps, finding_of, report_audit, report_finding};
 use clap::ArgMatches;
 use either::{Either, Left};
 use pie_audit::{Finding, write_finding};
-use pie_cut::{Joined, Joint, TextEnd, audit_joined};
+use pie_cut::{Joined, Joint, TextEnd, UnlikeRecords, audit_joined};
 use pie_linux_history::{StepsFault, StepsFinding};
 use pie_trace::TraceFault;
 use std::alloc::Global;
@@ -73,13 +76,23 @@ pub enum Unaudited {
 /// The message for recorded steps of Linux that are to be joined.
 const NOT_JOINED: &str = "--joined is not for a text of pie-watch";
 
+/// The details of a file's result for lines on the error stream.
+#[derive(Drop)]
+struct Details {
+    /// The finding of recorded steps of Linux.
+    steps: Option<StepsFinding>,
+    /// The records that differ at a joint.
+    unlike: Option<UnlikeRecords>,
+}
+
 /// Audits one history. If `are_joined`, also compares its beginning with `end`, the end of the text before it, and
-/// stores the end of this text in `end`.
+/// stores the end of this text in `end`, and the records that differ at the joint in `unlike`.
 fn found_in<R: Read + Drop>(
     alloc: Global,
     are_joined: bool,
     reader: R,
     end: &mut Option<TextEnd>,
+    unlike: &mut Option<UnlikeRecords>,
 ) -> Result<Joined, TraceFault>
     ensures finds { IfOk result (λ joined. IfSome (R.remaining reader) (λ text. FindsJoined are_joined (records_of text) end.old joined end.new)) }
     ensures end { IfOk result (λ joined. IsFoundEnd are_joined joined end.new) }
@@ -87,7 +100,7 @@ fn found_in<R: Read + Drop>(
     ensures none { OnErr result (are_joined ≡ true → end.new ≡ None) }
 {
     if are_joined {
-        return audit_joined(alloc, reader, end);
+        return audit_joined(alloc, reader, end, unlike);
     }
     match pie_audit::audit(alloc, reader) {
         Ok(finding) => Ok(Joined {
@@ -170,20 +183,20 @@ fn audit_opened<H: NamedFiles + Clock, R: Read + Drop, E: Write>(
     name: &str,
     reader: R,
     end: &mut Option<TextEnd>,
-    steps: &mut Option<StepsFinding>,
+    details: &mut Details,
     errors: &mut E,
 ) -> Result<Joined, Unaudited>
     ensures { HasTextOutcome are_joined ⊤ (R.remaining reader) end.old result end.new }
 {
     let (watched, kind) = ProgressReader::recognizing(reader, &mut *errors, rt, is_shown);
     match kind {
-        Ok(false) => match found_in(alloc, are_joined, watched, end) {
+        Ok(false) => match found_in(alloc, are_joined, watched, end, &mut details.unlike) {
             Ok(joined) => Ok(joined),
             Err(why) => Err(report_unaudited(rt, alloc, name, why, errors)),
         },
         Ok(true) => {
             *end = None;
-            match found_in_steps(alloc, are_joined, watched, steps) {
+            match found_in_steps(alloc, are_joined, watched, &mut details.steps) {
                 Ok(joined) => Ok(joined),
                 Err(why) => Err(report_unaudited_steps(name, why, errors)),
             }
@@ -197,8 +210,8 @@ fn audit_opened<H: NamedFiles + Clock, R: Read + Drop, E: Write>(
 }
 
 /// Audits the file of this name. If `are_joined`, also compares its beginning with `end`, the end of the file before it.
-/// If it can't be opened or read, or has a fault, returns the reason, and writes a line to `errors`. Stores the finding of
-/// recorded steps of Linux in `steps`.
+/// If it can't be opened or read, or has a fault, returns the reason, and writes a line to `errors`. Stores the details of the
+/// result in `details`.
 fn audit_named<H: NamedFiles + Clock, R: Read + Drop, E: Write>(
     rt: &H,
     alloc: Global,
@@ -207,20 +220,21 @@ fn audit_named<H: NamedFiles + Clock, R: Read + Drop, E: Write>(
     name: &str,
     input: &mut Option<R>,
     end: &mut Option<TextEnd>,
-    steps: &mut Option<StepsFinding>,
+    details: &mut Details,
     errors: &mut E,
 ) -> Result<Joined, Unaudited>
     ensures writes_line { HasReadOutcome are_joined ((H.works ≡ true) × CanOpen input.old (H.holds rt.now name.now) name.now)
         (ReadsNamed R.remaining input.old (H.holds rt.now) name.now) end.old result end.new }
     ensures input { input.new ≡ left_for name.now input.old }
 {
-    *steps = None;
+    details.steps = None;
+    details.unlike = None;
     let Some(reader) = reader_named(rt, name, input, errors) else {
         *end = None;
         return Err(Unaudited::Unopened);
     };
     audit_opened(
-        rt, alloc, is_shown, are_joined, name, reader, end, steps, errors,
+        rt, alloc, is_shown, are_joined, name, reader, end, details, errors,
     )
 }
 
@@ -255,32 +269,74 @@ fn write_joined<W: Write>(name: &str, joined: Joined, output: &mut W) -> io::Res
     output.flush()
 }
 
-/// Writes the lines of a file's result: none if the file was not audited.
+/// Writes the object of a file's finding and joint, with the texts of an event that differs, and flushes the writer.
+fn write_object<W: Write>(
+    name: &str,
+    joined: Joined,
+    recorded: &[u8],
+    right: &[u8],
+    output: &mut W,
+) -> io::Result<()>
+    ensures { OnOk result (Appends (W.contents output.old) (W.contents output.new) (json_line name.now joined (recorded.now, right.now))) }
+{
+    put_object(name, joined, recorded, right, output)?;
+    output.flush()
+}
+
+/// Writes the lines of a file's result, or its object if it `is_json`: none if the file was not audited.
 fn write_outcome<W: Write>(
     name: &str,
     outcome: Result<Joined, Unaudited>,
+    is_json: bool,
+    recorded: &[u8],
+    right: &[u8],
     output: &mut W,
 ) -> io::Result<()>
-    ensures written { OnOk result (Appends (W.contents output.old) (W.contents output.new) (lines_of name.now outcome)) }
+    ensures written { OnOk result (Appends (W.contents output.old) (W.contents output.new)
+        (written_lines is_json name.now outcome (recorded.now, right.now))) }
     ensures audited { IfErr result (λ _. (joined : Joined) × (outcome ≡ Ok joined)) }
 {
     match outcome {
-        Ok(joined) => write_joined(name, joined, output),
+        Ok(joined) => {
+            if is_json {
+                write_object(name, joined, recorded, right, output)
+            } else {
+                write_joined(name, joined, output)
+            }
+        }
         Err(_) => Ok(()),
     }
 }
 
-/// Writes the lines about the event of a file that differs, if there is one; for recorded steps of Linux, with the finding
-/// `steps`, also the line about lost ones.
+/// Returns the texts of the event of a file that differs, if there is one and they are to be written.
+fn texts_of<H: NamedFiles>(
+    rt: &H,
+    alloc: Global,
+    is_json: bool,
+    name: &str,
+    outcome: Result<Joined, Unaudited>,
+) -> EventTexts {
+    if let Ok(joined) = outcome {
+        if let Finding::Differs { event } = joined.finding {
+            if is_json {
+                return event_texts(rt, alloc, name, event);
+            }
+        }
+    }
+    EventTexts::none()
+}
+
+/// Writes the lines about the event of a file that differs, if there is one, and about a joint that does not fit; for recorded
+/// steps of Linux also the line about lost ones.
 fn report_outcome<H: NamedFiles, E: Write>(
     rt: &H,
     alloc: Global,
     name: &str,
     outcome: Result<Joined, Unaudited>,
-    steps: Option<StepsFinding>,
+    details: &Details,
     errors: &mut E,
 ) {
-    if let Some(found) = steps {
+    if let Some(found) = details.steps {
         report_finding(errors, Some(name), found);
         return;
     }
@@ -288,6 +344,7 @@ fn report_outcome<H: NamedFiles, E: Write>(
         if let Finding::Differs { event } = joined.finding {
             report_difference(rt, alloc, name, event, false, errors);
         }
+        report_joint(errors, name, joined, &details.unlike);
     }
 }
 
@@ -335,32 +392,46 @@ fn audit_files<H: NamedFiles + Clock, R: Read + Drop, W: Write, E: Write>(
     alloc: Global,
     is_shown: bool,
     are_joined: bool,
+    is_json: bool,
     names: &[&str],
     input: R,
     output: &mut W,
     errors: &mut E,
 ) -> End
-    ensures { EndsFileAudits H.works are_joined (R.remaining input) (H.holds rt.now) (map (λ name. name.now) names.now) result (W.contents output.old)
+    ensures { EndsFileAudits H.works are_joined is_json (R.remaining input) (H.holds rt.now) (map (λ name. name.now) names.now) result (W.contents output.old)
         (W.contents output.new) }
 {
     let mut stdin = Some(input);
     let mut end: Option<TextEnd> = None;
-    let mut steps: Option<StepsFinding> = None;
+    let mut details = Details {
+        steps: None,
+        unlike: None,
+    };
     let mut unfound = false;
     let mut broken = false;
     for place in 0..names.len() {
         let name = name_at(names, place);
         let outcome = audit_named(
-            rt, alloc, is_shown, are_joined, name, &mut stdin, &mut end, &mut steps, errors,
+            rt,
+            alloc,
+            is_shown,
+            are_joined,
+            name,
+            &mut stdin,
+            &mut end,
+            &mut details,
+            errors,
         );
-        match write_outcome(name, outcome, output) {
+        let texts = texts_of(rt, alloc, is_json, name, outcome);
+        let (recorded, right) = (texts.recorded(), texts.right());
+        match write_outcome(name, outcome, is_json, recorded, right, output) {
             Ok(()) => {}
             Err(_) => {
                 drop(end);
                 return end_with_fault(errors, TraceFault::Write);
             }
         }
-        report_outcome(rt, alloc, name, outcome, steps, errors);
+        report_outcome(rt, alloc, name, outcome, &details, errors);
         unfound |= outcome.is_err();
         broken |= is_broken(outcome);
     }
@@ -398,6 +469,35 @@ fn audit_input<H: NamedFiles + Clock, R: Read + Drop, W: Write, E: Write>(
     }
 }
 
+/// Audits `input`, and writes its finding, or its object if it `is_json`: that of the file `-`.
+fn audit_alone<H: NamedFiles + Clock, R: Read + Drop, W: Write, E: Write>(
+    rt: &H,
+    alloc: Global,
+    is_shown: bool,
+    are_joined: bool,
+    is_json: bool,
+    input: R,
+    output: &mut W,
+    errors: &mut E,
+) -> End
+    ensures { EndsAudit H.works are_joined is_json (R.remaining input) (H.holds rt.now) [] result (W.contents output.old) (W.contents output.new) }
+{
+    if is_json {
+        return audit_files(
+            rt,
+            alloc,
+            is_shown,
+            are_joined,
+            true,
+            &["-"],
+            input,
+            output,
+            errors,
+        );
+    }
+    audit_input(rt, alloc, is_shown, input, output, errors)
+}
+
 /// `pie audit`: audits the files that the options name, or `input` if they name none. With `--joined` they are the files
 /// of one history, in its order.
 pub(crate) fn audit<H: NamedFiles + Screen, R: Read + Drop, W: Write, E: Write>(
@@ -412,14 +512,19 @@ pub(crate) fn audit<H: NamedFiles + Screen, R: Read + Drop, W: Write, E: Write>(
         (W.contents output.new) }
 {
     let is_shown = shows_progress(rt, options, false);
+    let are_joined = flag(options, "joined");
+    let is_json = flag(options, "json");
     let Some(names) = options.get_strs("file") else {
-        return audit_input(rt, alloc, is_shown, input, output, errors);
+        return audit_alone(
+            rt, alloc, is_shown, are_joined, is_json, input, output, errors,
+        );
     };
     if names.is_empty() {
-        return audit_input(rt, alloc, is_shown, input, output, errors);
+        return audit_alone(
+            rt, alloc, is_shown, are_joined, is_json, input, output, errors,
+        );
     }
-    let are_joined = flag(options, "joined");
     audit_files(
-        rt, alloc, is_shown, are_joined, names, input, output, errors,
+        rt, alloc, is_shown, are_joined, is_json, names, input, output, errors,
     )
 }

@@ -1,4 +1,6 @@
 //! The comparison of a history with the other history of `pie what-if`, by the numbers of their summaries.
+ghost use Rattle.std.specs.Prelude.{◌≡◌};
+ghost use Rattle.pie_commands.specs.WhatIfEnds.{fault_in_memory};
 
 use pie_explain::{EventChoice, ExplainFault, Form, Selection, explain};
 use pie_summary::Digest;
@@ -34,6 +36,16 @@ const TIMES: [&str; 15] = [
 /// The fields of a summary that are probabilities, in units of `10^-12`.
 const PROBABILITIES: [&str; 2] = ["greatest_probability", "last_probability"];
 
+/// Returns the fault of a text whose output is collected in memory: a failed write is a lack of memory.
+pub(crate) fn fault_in_memory(why: TraceFault) -> TraceFault
+    ensures { result ≡ fault_in_memory why }
+{
+    match why {
+        TraceFault::Write => TraceFault::Memory,
+        _ => why,
+    }
+}
+
 /// Returns the summary of the events of a text from this moment on, as a CSV text of a header and a record.
 fn summary_of(alloc: Global, text: &[u8], from: u64) -> Result<Vec<u8>, ExplainFault> {
     let mut written = Vec::new(alloc);
@@ -53,6 +65,10 @@ fn summary_of(alloc: Global, text: &[u8], from: u64) -> Result<Vec<u8>, ExplainF
     };
     match explain(alloc, text, &mut written, selection, sums) {
         Ok(_) => Ok(written),
+        Err(ExplainFault::Trace(why)) => {
+            drop(written);
+            Err(ExplainFault::Trace(fault_in_memory(why)))
+        }
         Err(why) => {
             drop(written);
             Err(why)

@@ -2,17 +2,55 @@
 
 use crate::files::NamedFiles;
 use pie_book::Event;
-use pie_explain::{EventDecision, decide_event, push_words};
+use pie_explain::{DecidedEvent, EventDecision, decide_event, push_words};
 use pie_record::Line;
 use pie_text::{Page, RowBuffer, put_event};
 use std::alloc::Global;
 use std::io;
 use std::io::Write;
 
+/// The texts of an event that differs, without line feeds: its record, and the record that the rules give there. Each is
+/// empty if it is not known or there is none.
+#[derive(Drop)]
+pub(crate) struct EventTexts {
+    recorded: RowBuffer,
+    right: RowBuffer,
+}
+
+impl EventTexts {
+    /// Returns empty texts.
+    pub(crate) fn none() -> EventTexts {
+        EventTexts {
+            recorded: RowBuffer::new(),
+            right: RowBuffer::new(),
+        }
+    }
+
+    /// Returns the record.
+    pub(crate) fn recorded(&self) -> &[u8] {
+        without_end(self.recorded.as_bytes())
+    }
+
+    /// Returns the record that the rules give.
+    pub(crate) fn right(&self) -> &[u8] {
+        without_end(self.right.as_bytes())
+    }
+}
+
+/// Returns the bytes without the last one.
+fn without_end(bytes: &[u8]) -> &[u8] {
+    &bytes[..bytes.len().saturating_sub(1)]
+}
+
+/// Makes `row` the record of an event.
+fn put(row: &mut RowBuffer, event: &Event) {
+    put_event(row, event.caller, event.command, event.answer);
+}
+
 /// Writes the record of an event.
 fn write_event<E: Write>(errors: &mut E, event: &Event) -> io::Result<()> {
     let mut row = RowBuffer::new();
-    put_event(&mut row, event.caller, event.command, event.answer);
+    put(&mut row, event);
     errors.write_all(row.as_bytes())
 }
 
@@ -65,6 +103,44 @@ fn write_explanation<E: Write>(errors: &mut E, alloc: Global, decision: &EventDe
     }
 }
 
+/// Decides the event with this number again. The text is in the file `name`, which is read again. `None` if the file can't be
+/// read again, or is standard input (`-`).
+fn decided_in<H: NamedFiles>(
+    rt: &H,
+    alloc: Global,
+    name: &str,
+    number: u64,
+) -> Option<DecidedEvent> {
+    if name == "-" {
+        return None;
+    }
+    let reader = rt.open_again(name)?;
+    match decide_event(alloc, reader, number) {
+        Ok(decided) => decided,
+        Err(_) => None,
+    }
+}
+
+/// Returns the texts of the event with this number, which differs. The text is in the file `name`, which is read again. The
+/// texts are empty if the file can't be read again.
+pub(crate) fn event_texts<H: NamedFiles>(
+    rt: &H,
+    alloc: Global,
+    name: &str,
+    number: u64,
+) -> EventTexts {
+    let mut texts = EventTexts::none();
+    if let Some(decided) = decided_in(rt, alloc, name, number) {
+        if let Line::Valid(event) = &decided.recorded {
+            put(&mut texts.recorded, event);
+        }
+        if let EventDecision::Answered(right) = &decided.decision {
+            put(&mut texts.right, &right.explanation.event);
+        }
+    }
+    texts
+}
+
 /// Writes the lines about the event with this number, which differs: its record, and the record that the rules give there.
 /// The text is in the file `name`, which is read again. If the event `is_explained`, the explanation of the right event
 /// follows, otherwise the command that explains it. If the file can't be read again, or is standard input (`-`), nothing
@@ -77,13 +153,7 @@ pub(crate) fn report_difference<H: NamedFiles, E: Write>(
     is_explained: bool,
     errors: &mut E,
 ) {
-    if name == "-" {
-        return;
-    }
-    let Some(reader) = rt.open_again(name) else {
-        return;
-    };
-    let Ok(Some(decided)) = decide_event(alloc, reader, number) else {
+    let Some(decided) = decided_in(rt, alloc, name, number) else {
         return;
     };
     // A name that is not UTF-8 has a NUL behind it.

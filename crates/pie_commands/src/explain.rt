@@ -33,7 +33,7 @@ const NO_PERIOD: &str = "--every: the interval must be at least 1 ns";
 const NOT_BOTH: &str = "--flows cannot be combined with --digest";
 
 /// The message for `--json` together with an option that it excludes.
-const JSON_ALONE: &str = "--json cannot be combined with --csv, --digest or --flows";
+const JSON_ALONE: &str = "--json cannot be combined with --csv or --digest";
 
 /// Returns the length of an interval in these options, if it is valid.
 fn every_of(options: &ArgMatches<'_>) -> Option<u64>
@@ -127,8 +127,7 @@ fn selection_of<E: Write>(options: &ArgMatches<'_>, errors: &mut E) -> Option<Se
         fault(errors, NOT_BOTH);
         return None;
     }
-    let is_other = flag(options, "digest") || number(options, "flows").is_some();
-    if flag(options, "json") && (flag(options, "csv") || is_other) {
+    if flag(options, "json") && (flag(options, "csv") || flag(options, "digest")) {
         fault(errors, JSON_ALONE);
         return None;
     }
@@ -151,8 +150,9 @@ pub(crate) enum OutputKind {
     Lines(IntervalLines),
     /// Summaries, and between them the words for lost and marked packets.
     Digest(Digest),
-    /// Sums by flow, with rows for a limited number of flows.
-    Flows(ByFlow),
+    /// Sums by flow, with rows for a limited number of flows; in CSV also as objects of JSON. One type for both, so that
+    /// the sums have one copy of their code.
+    Flows(AsJson<ByFlow>),
     /// `EventRecords` as objects of JSON.
     JsonRecords(EventRecords),
     /// `Sums` in CSV as objects of JSON.
@@ -166,6 +166,10 @@ fn as_json(kind: OutputKind) -> OutputKind
     match kind {
         OutputKind::Records(each) => OutputKind::JsonRecords(each),
         OutputKind::Sums(sums) => OutputKind::JsonSums(sums),
+        OutputKind::Flows(AsJson { report, .. }) => OutputKind::Flows(AsJson {
+            report,
+            is_json: true,
+        }),
         _ => kind,
     }
 }
@@ -200,7 +204,10 @@ fn plain_kind_of(options: &ArgMatches<'_>, style: LineStyle, csv: bool) -> Outpu
     let (packets, flows) = (flag(options, "digest"), number(options, "flows"));
     let (every, form) = (every_of(options), Form { csv, by_wall });
     match (is_summary(options), packets, flows) {
-        (true, _, Some(most)) => OutputKind::Flows(ByFlow { form, every, most }),
+        (true, _, Some(most)) => OutputKind::Flows(AsJson {
+            report: ByFlow { form, every, most },
+            is_json: false,
+        }),
         (true, true, None) => OutputKind::Digest(Digest {
             form,
             every,
@@ -247,10 +254,14 @@ fn explain_with<R: Read + Drop, W: Write>(
         OutputKind::Digest(digest) => pie_explain::explain(alloc, input, output, selection, digest),
         OutputKind::Flows(flows) => pie_explain::explain(alloc, input, output, selection, flows),
         OutputKind::JsonRecords(report) => {
-            pie_explain::explain(alloc, input, output, selection, AsJson { report })
+            let is_json = true;
+            let objects = AsJson { report, is_json };
+            pie_explain::explain(alloc, input, output, selection, objects)
         }
         OutputKind::JsonSums(report) => {
-            pie_explain::explain(alloc, input, output, selection, AsJson { report })
+            let is_json = true;
+            let objects = AsJson { report, is_json };
+            pie_explain::explain(alloc, input, output, selection, objects)
         }
     }
 }

@@ -20,6 +20,7 @@
 
 mod advise;
 mod audit;
+mod audit_json;
 mod comparison;
 mod cut;
 mod difference;
@@ -29,6 +30,7 @@ mod explain;
 mod fault_report;
 mod files;
 mod head;
+mod joint;
 mod migrate;
 mod options;
 mod params;

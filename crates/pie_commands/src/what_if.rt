@@ -11,7 +11,7 @@ ghost use Rattle.pie_commands.specs.WhatIfEnds.{EndsCompared, alteration_of, che
 ghost use Rattle.pie_commands.specs.declared.end.End.{End};
 ghost use Rattle.pie_commands.specs.declared.options.subcommand.Subcommand.{Subcommand};
 
-use crate::comparison::{NO_REACTION, comparison};
+use crate::comparison::{NO_REACTION, comparison, fault_in_memory};
 use crate::difference::report_difference;
 use crate::end::{End, end_failed, end_with_fault, fault};
 use crate::fault_report::{WHAT_IF, end_with_fault_in};
@@ -220,6 +220,10 @@ fn compare_text<H: NamedFiles, W: Write, E: Write>(
             }
             let page = comparison(alloc, text, &other, alteration.from, csv);
             end_of_comparison(page, output, errors)
+        }
+        Err(WhatIfFault::Trace(why)) => {
+            let why = WhatIfFault::Trace(fault_in_memory(why));
+            report_end(rt, alloc, errors, file(options), Err(why))
         }
         Err(why) => report_end(rt, alloc, errors, file(options), Err(why)),
     }

@@ -1,6 +1,9 @@
 -- Worked selections, segments of a text and joints: each theorem computes.
-use Rattle.pie_cut.proofs.Names.{CoreView, EndView, Gap, None, Opening, Option, Position, Some, Span, Unlike, ap, arith, false, refl, true, ℕ, ◌≡◌}
+use Rattle.pie_cut.proofs.Names.{[], CoreView, EndView, Gap, None, Opening, Option, Position, Some, Span, Unlike, ap, arith, false, refl, true, ℕ, ◌≡◌}
 use Rattle.pie_cut.specs.{Excerpt.is_past, Excerpt.is_reached, Joined.JoinsBy, Excerpt.segment, declared.joint_audit.Joint.TheVariants.Follows}
+use Rattle.pie_cut.specs.Unlike.{IsFirstDifference, field_name, field_of}
+use Rattle.pie_cut.specs.declared.unlike.UnlikeRecords.TheVariants.{Queued, Resume}
+use Rattle.std.proofs.Common.{codes}
 use Rattle.pie_record.specs.Field.{number}
 use Rattle.pie_units.specs.declared.{when.When.When, when.When.TheVariants.Moment, when.When.TheVariants.Unix}
 
@@ -67,3 +70,22 @@ joints opening core = (
   (refl, refl, λ e. omega (arith, e)),
   (refl, refl, λ opening core. omega (arith, ap (λ c. c.capacity) core)),
 )
+
+-- ---- fields that differ at a joint
+
+-- the fields of a record, from its kind on; none follows the last
+fields : (field_of 0 (codes "queued,7,1500\n") ≡ codes "queued") × (field_of 2 (codes "queued,7,1500\n") ≡ codes "1500")
+    × (field_of 3 (codes "queued,7,1500\n") ≡ codes "") × (field_of 1 (codes "resume,,5\n") ≡ codes "")
+fields = (refl, refl, refl, refl)
+
+-- the first field that differs is the second of these
+difference : IsFirstDifference (codes "queued,7,1500\n") (codes "queued,8,40\n") (Some (1, codes "7", codes "8"))
+    → field_of 0 (codes "queued,7,1500\n") ≡ field_of 0 (codes "queued,8,40\n")
+difference is = is.3 0 (omega arith)
+
+-- the numbers of fields on docs/FORMATS.md, less one: `prob` is field 35, or 36 behind a field `decay`
+names : (field_name (Resume [] [] false) 34 ≡ codes "prob") × (field_name (Resume [] [] true) 35 ≡ codes "prob")
+    × (field_name (Resume [] [] false) 6 ≡ codes "mode") × (field_name (Resume [] [] true) 6 ≡ codes "decay")
+    × (field_name (Resume [] [] false) 59 ≡ codes "waited") × (field_name (Resume [] [] true) 60 ≡ codes "waited")
+    × (field_name (Queued 1 [] []) 4 ≡ codes "since")
+names = (refl, refl, refl, refl, refl, refl, refl)

@@ -3,3 +3,4 @@ pub mod PartFacts
 pub mod TextFacts
 mod Examples
 pub mod JoinedFacts
+mod UnlikeFacts

@@ -1,4 +1,5 @@
 pub mod Names
 pub mod Excerpt
 pub mod Joined
-unfoldable pub use Rattle.pie_cut.specs.{Names.*, Excerpt.*, Joined.*}
+pub mod Unlike
+unfoldable pub use Rattle.pie_cut.specs.{Names.*, Excerpt.*, Joined.*, Unlike.*}

@@ -3,7 +3,7 @@ use Rattle.std.proofs.Common.{ℕ, ◌≡◌, ◌==◌, ◌&&◌, ◌∙◌, Boo
 use Rattle.std.specs.List.{flat_map}
 use Rattle.pie_json.specs.Lines.{fields_from, fields_of, lines_from, lines_of}
 use Rattle.pie_json.specs.Rows.{members, names_from, object, objects, objects_of}
-use Rattle.pie_json.specs.Law.{RowsAreObjects, are_rows, is_field, is_row, lacks, object_for, row_line, row_text}
+use Rattle.pie_json.specs.Law.{RowsAreObjects, are_rows, is_field, is_row, lacks, row_line, row_text}
 
 both : (a b : Bool) → a && b ≡ true → (a ≡ true) × (b ≡ true)
 both true b h = (refl, h)

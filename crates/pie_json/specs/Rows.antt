@@ -53,3 +53,8 @@ objects lines = flat_map (object (names_in lines)) (rows_in lines)
 -- the objects for the complete lines of a text
 unfoldable pub objects_of : List ℕ → List ℕ
 objects_of text = objects (lines_of text)
+
+-- the objects of a text, or the text itself
+abbrev pub converted : Bool → List ℕ → List ℕ
+converted true text = objects_of text
+converted false text = text

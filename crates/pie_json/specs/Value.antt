@@ -45,6 +45,7 @@ escaped byte =
     if byte == 34 then 92 ∷ 34 ∷ [] else if byte == 92 then 92 ∷ 92 ∷ []
     else if nat_lt byte 32 then 92 ∷ 117 ∷ 48 ∷ 48 ∷ (48 + byte / 16) ∷ hex_digit (byte % 16) ∷ [] else byte ∷ []
 
+-- a string with these bytes, in quotes
 abbrev pub string : List ℕ → List ℕ
 string bytes = codes "\"" ++ (flat_map escaped bytes ++ codes "\"")
 

@@ -12,6 +12,8 @@ pub mod law;
 mod object;
 mod report;
 mod rows;
+mod text;
 mod value;
 
 pub use report::AsJson;
+pub use text::write_string;

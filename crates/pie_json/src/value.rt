@@ -55,6 +55,15 @@ fn hex_digit(number: u8) -> u8
     }
 }
 
+/// Returns the escape of a control character.
+#[inline(always)]
+pub(crate) fn control_code(byte: u8) -> [u8; 6]
+    requires { byte < 32 }
+    ensures { result ≡ escaped byte }
+{
+    [92, 117, 48, 48, 48 + byte / 16, hex_digit(byte % 16)]
+}
+
 /// Writes a byte of a string. Quotes, backslashes and control characters are escaped.
 fn push_escaped(out: &mut Vec<u8>, byte: u8) -> Result<(), AllocError>
     ensures { OnOk result (out.new.items ≡ out.old.items ++ escaped byte) }
@@ -62,10 +71,7 @@ fn push_escaped(out: &mut Vec<u8>, byte: u8) -> Result<(), AllocError>
     match byte {
         34 => out.extend_from_slice(b"\\\""),
         92 => out.extend_from_slice(b"\\\\"),
-        0..=31 => {
-            let code = [92, 117, 48, 48, 48 + byte / 16, hex_digit(byte % 16)];
-            out.extend_from_slice(&code)
-        }
+        0..=31 => out.extend_from_slice(&control_code(byte)),
         _ => out.extend_from_slice(&[byte]),
     }
 }

@@ -42,8 +42,14 @@ If the file before is clean, a second line follows the line of each file except 
                             missing, or are in both files. Status 2.
   NAME: unlike,<last>       The numbers meet after event <last>, but the opening, a register, a
                             statistic or a queued packet differs. Status 2.
-If all files are clean and follow each other, they are one history with the opening of the first
-file.
+For a gap, standard error has the numbers of the events that are missing or in both files; for
+unlike, the first field of the records resume and queued that differs, with both values. If all
+files are clean and follow each other, they are one history with the opening of the first file.
+
+With --json each file that could be audited has one object of JSON on a line, with the members file,
+finding, events or event, and with --joined joint, last and first. For an event of a named file that
+differs, recorded and right are its record and the record that the rules give there. Without a file,
+file is -.
 
 A text that pie-watch wrote has the steps of pie and fq_pie of a Linux kernel. Each step is decided
 again by the kernel's rules. The events are the rows after the first, numbered from 1. After
@@ -62,6 +68,7 @@ The audit finds a changed verdict, and the line is differs,1:
     pie run | sed s/enqueue/mark/ | pie audit",
     arguments: &[
         row!("joined": Nothing, "The files are the segments of one history, in order: report if they fit together. Default: off"),
+        row!("json": Nothing, "Write an object of JSON for each file. Default: text"),
         PROGRESS,
         row!("file": Files, "Files to audit; - is standard input. Default: standard input"),
     ],

@@ -1,18 +1,17 @@
 -- Worked rows: ranges, the opening for a link, margins, the conditions of warnings, and the mean wait.
-use Rattle.std.proofs.Common.{ℕ, ◌≡◌, ◌≤◌, ◌<◌, ◌*◌, ◌+◌, ◌^◌, [], codes, refl, arith}
-use Rattle.std.specs.Prelude.{None, Some, true, false, ⊤, map, ◌∷◌}
+use Rattle.std.proofs.Common.{ℕ, ◌≡◌, ◌*◌, ◌^◌, [], codes, refl, arith}
+use Rattle.std.specs.Prelude.{None, Some, true, false, map, ◌∷◌}
 use Rattle.std.specs.Fmt.{digits}
 use Rattle.pie_units.specs.declared.layer.Overhead.TheVariants.{Added, Removed}
 use Rattle.pie_units.specs.declared.unit.Quantity.TheVariants.{Packets, Time}
 use Rattle.pie_units.specs.Number.{digit_count, is_word, number_after, time_scale}
 use Rattle.pie_advise.specs.Advice.{opening_for_link}
 use Rattle.pie_advise.specs.Margins.{margin_at}
-use Rattle.pie_advise.specs.Outlook.{IsRoot, is_crowded, is_predicted, is_unstable, squared_wait}
+use Rattle.pie_advise.specs.Outlook.{IsRoot, is_predicted, squared_wait}
 use Rattle.pie_advise.specs.Request.{range_in}
 use Rattle.pie_advise.specs.Settings.{full_packets}
 use Rattle.pie_advise.specs.declared.margin.Margin.TheVariants.{Outside, Stable, Unstable}
 use Rattle.pie_advise.specs.declared.margin_table.TheConstants.{RATES, TRIPS}
-use Rattle.pie_advise.specs.declared.request.Range.{Range}
 use Rattle.pie_advise.specs.declared.request.Request.{Request}
 
 -- one value is both ends; the ends are in order, and there are two at most

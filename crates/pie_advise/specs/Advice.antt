@@ -1,5 +1,5 @@
 -- The opening for a link, and the text of an advice about it.
-use Rattle.std.specs.Prelude.{ℕ, ◌≡◌, ◌++◌, List, [], ◌∷◌, codes, false}
+use Rattle.std.specs.Prelude.{ℕ, ◌≡◌, ◌++◌, List, [], ◌∷◌, false}
 use Rattle.pie_event.specs.declared.opening.Opening.{Opening}
 use Rattle.pie_params.specs.declared.elements.Decay.TheVariants.{Zero}
 use Rattle.pie_record.specs.Text.{text_of}

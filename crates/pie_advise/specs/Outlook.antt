@@ -1,5 +1,5 @@
 -- What to expect: the margins of stability, the mean wait, and a warning for each condition that holds.
-use Rattle.std.specs.Prelude.{ℕ, ◌+◌, ◌*◌, ◌/◌, ◌^◌, ◌-◌, ◌<◌, ◌≤◌, ◌==◌, ◌++◌, ◌||◌, Bool, true, false, List, [], ◌∷◌, codes, if◌then◌else◌, max, min, nat_le, nat_lt, not}
+use Rattle.std.specs.Prelude.{ℕ, ◌+◌, ◌*◌, ◌/◌, ◌^◌, ◌-◌, ◌<◌, ◌≤◌, ◌||◌, Bool, true, false, List, [], ◌∷◌, codes, if◌then◌else◌, max, min, nat_le, nat_lt, not}
 use Rattle.std.specs.Fmt.{decimal}
 use Rattle.pie_params.specs.declared.raw.RawParams.{RawParams}
 use Rattle.pie_advise.specs.declared.request.Request.{Request}

@@ -55,6 +55,26 @@ fn turn(
     Ok(())
 }
 
+/// Does what `turn` does. After most events there is no text.
+#[inline(always)]
+fn turn_if_any(
+    is_json: bool,
+    rows: &mut JsonRows,
+    csv: &mut Page,
+    json: &mut Vec<u8>,
+    page: &mut Page,
+) -> Result<(), AllocError>
+    ensures read { (text : List ℕ) → Converts is_json rows.old text → OnOk result (Converts is_json rows.new (text ++ csv.old)) }
+    ensures grown { (text : List ℕ) → Converts is_json rows.old text
+        → OnOk result (Grows (converted is_json text) (converted is_json (text ++ csv.old)) page.old page.new) }
+    ensures csv { OnOk result (csv.new ≡ []) }
+{
+    if csv.as_bytes().is_empty() {
+        return Ok(());
+    }
+    turn(is_json, rows, csv, json, page)
+}
+
 impl<P: Report> Report for AsJson<P> {
     type State = JsonState<P>;
 
@@ -83,6 +103,7 @@ impl<P: Report> Report for AsJson<P> {
         })
     }
 
+    #[inline(always)]
     fn report_event(
         &self,
         state: &mut JsonState<P>,
@@ -91,7 +112,7 @@ impl<P: Report> Report for AsJson<P> {
     ) -> Result<(), AllocError> {
         self.report
             .report_event(&mut state.report, explained, &mut state.csv)?;
-        turn(
+        turn_if_any(
             self.is_json,
             &mut state.rows,
             &mut state.csv,

@@ -6,4 +6,4 @@ pub returns : goal.returns
 returns g c =
     let read = c.new-watched.ensures ∙ c.in-Some.ensures.reads in
     let done = c.migrate-outcome.ensures in
-    inr (c.migrate-outcome.result, c.report_end.ensures, if-all _ _ _ _ (rw read at done.ends) (rw read at done.faults) (rw read at done.writes))
+    inr (c.migrate-outcome.result, c.end_with_result.ensures, if-all _ _ _ _ (rw read at done.ends) (rw read at done.faults) (rw read at done.writes))

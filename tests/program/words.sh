@@ -135,6 +135,7 @@ hint "pie: 'stampp' is no value of --delay; a similar value is 'stamp'" storm --
 hint "pie: 'uncaped' is no value of --step; a similar value is 'uncapped'" storm --step uncaped
 hint "pie: 'often' is no value of --picking" storm --picking often
 hint "pie: 'hal' is no value of --decay; a similar value is 'half'" params --decay hal
+hint "pie: 'adls' is no value of --linklayer; a similar value is 'adsl'" params --linklayer adls
 hint "pie: 'ether' is no value of --linklayer" params --linklayer ether
 hint 'pie: --tag and --lost are both given' explain --lost --tag 2
 hint 'pie: --event and --last are both given' cut --last 3 --event 3

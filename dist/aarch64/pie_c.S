@@ -1171,10 +1171,10 @@
 .Lfunc_end7:
 	.size	"pie_units::number::read", .Lfunc_end7-"pie_units::number::read"
 
-	.section	".text.pie_text::row::Row::prepend_number","ax",@progbits
+	.section	".text.pie_text::row_buffer::RowBuffer::prepend_number","ax",@progbits
 	.p2align	2
-	.type	"pie_text::row::Row::prepend_number",@function
-"pie_text::row::Row::prepend_number":
+	.type	"pie_text::row_buffer::RowBuffer::prepend_number",@function
+"pie_text::row_buffer::RowBuffer::prepend_number":
 	ldr	x10, [x0, #512]
 	lsr	x11, x1, #4
 	mov	w9, #44
@@ -1257,7 +1257,7 @@
 	str	x8, [x0, #512]
 	ret
 .Lfunc_end8:
-	.size	"pie_text::row::Row::prepend_number", .Lfunc_end8-"pie_text::row::Row::prepend_number"
+	.size	"pie_text::row_buffer::RowBuffer::prepend_number", .Lfunc_end8-"pie_text::row_buffer::RowBuffer::prepend_number"
 
 	.section	".text.pie_text::note::put_lost","ax",@progbits
 	.p2align	2
@@ -1365,7 +1365,7 @@
 	mov	x0, x19
 	ldp	x20, x19, [sp, #16]
 	ldr	x30, [sp], #32
-	b	"pie_text::row::Row::prepend_number"
+	b	"pie_text::row_buffer::RowBuffer::prepend_number"
 .LBB10_2:
 	ret
 .Lfunc_end10:
@@ -3396,7 +3396,7 @@
 .LBB24_22:
 	mov	x0, x19
 	mov	x1, x6
-	bl	"pie_text::row::Row::prepend_number"
+	bl	"pie_text::row_buffer::RowBuffer::prepend_number"
 	ldr	x8, [x19, #512]
 	mov	w9, #44
 	sub	x8, x8, #1
@@ -3477,16 +3477,16 @@
 .LBB24_36:
 	mov	w1, w23
 	mov	x0, x19
-	bl	"pie_text::row::Row::prepend_number"
+	bl	"pie_text::row_buffer::RowBuffer::prepend_number"
 	mov	x0, x19
 	mov	x1, x22
-	bl	"pie_text::row::Row::prepend_number"
+	bl	"pie_text::row_buffer::RowBuffer::prepend_number"
 	mov	x0, x19
 	mov	x1, x21
-	bl	"pie_text::row::Row::prepend_number"
+	bl	"pie_text::row_buffer::RowBuffer::prepend_number"
 	and	x1, x20, #0xffff
 	mov	x0, x19
-	bl	"pie_text::row::Row::prepend_number"
+	bl	"pie_text::row_buffer::RowBuffer::prepend_number"
 	ldr	x8, [x19, #512]
 	mov	w9, #44
 	adrp	x10, .Lstatic.39
@@ -3674,10 +3674,10 @@
 	b.ne	.LBB26_12
 	mov	x0, x19
 	mov	x1, x21
-	bl	"pie_text::row::Row::prepend_number"
+	bl	"pie_text::row_buffer::RowBuffer::prepend_number"
 	and	x1, x20, #0xffff
 	mov	x0, x19
-	bl	"pie_text::row::Row::prepend_number"
+	bl	"pie_text::row_buffer::RowBuffer::prepend_number"
 	ldr	x8, [x19, #512]
 	mov	w9, #44
 	adrp	x10, .Lstatic.42
@@ -3702,7 +3702,7 @@
 	mov	x0, x19
 	cbnz	w8, .LBB26_14
 	mov	x1, x24
-	bl	"pie_text::row::Row::prepend_number"
+	bl	"pie_text::row_buffer::RowBuffer::prepend_number"
 	ldr	x8, [x19, #512]
 	mov	w9, #44
 	cmp	w25, #1
@@ -3728,10 +3728,10 @@
 .LBB26_10:
 	mov	x0, x19
 	mov	x1, x21
-	bl	"pie_text::row::Row::prepend_number"
+	bl	"pie_text::row_buffer::RowBuffer::prepend_number"
 	and	x1, x20, #0xffff
 	mov	x0, x19
-	bl	"pie_text::row::Row::prepend_number"
+	bl	"pie_text::row_buffer::RowBuffer::prepend_number"
 	ldr	x8, [x19, #512]
 	mov	w9, #44
 	adrp	x10, .Lstatic.41
@@ -3763,7 +3763,7 @@
 	ubfx	x8, x22, #32, #16
 	mov	w22, w22
 	add	x1, x8, #1
-	bl	"pie_text::row::Row::prepend_number"
+	bl	"pie_text::row_buffer::RowBuffer::prepend_number"
 	mov	x1, sp
 	mov	x0, x19
 	mov	w2, #8
@@ -3774,10 +3774,10 @@
 	bl	"pie_text::words::put_numbers"
 	mov	x0, x19
 	mov	x1, x21
-	bl	"pie_text::row::Row::prepend_number"
+	bl	"pie_text::row_buffer::RowBuffer::prepend_number"
 	and	x1, x20, #0xffff
 	mov	x0, x19
-	bl	"pie_text::row::Row::prepend_number"
+	bl	"pie_text::row_buffer::RowBuffer::prepend_number"
 	ldr	x8, [x19, #512]
 	mov	w9, #44
 	adrp	x10, .Lstatic.43
@@ -3798,10 +3798,10 @@
 	b	.LBB26_32
 .LBB26_14:
 	mov	x1, x21
-	bl	"pie_text::row::Row::prepend_number"
+	bl	"pie_text::row_buffer::RowBuffer::prepend_number"
 	and	x1, x20, #0xffff
 	mov	x0, x19
-	bl	"pie_text::row::Row::prepend_number"
+	bl	"pie_text::row_buffer::RowBuffer::prepend_number"
 	ldr	x8, [x19, #512]
 	mov	w9, #44
 	adrp	x10, .Lstatic.40
@@ -3898,16 +3898,16 @@
 .LBB26_30:
 	mov	x0, x19
 	mov	x1, x23
-	bl	"pie_text::row::Row::prepend_number"
+	bl	"pie_text::row_buffer::RowBuffer::prepend_number"
 	mov	x0, x19
 	mov	x1, x22
-	bl	"pie_text::row::Row::prepend_number"
+	bl	"pie_text::row_buffer::RowBuffer::prepend_number"
 	mov	x0, x19
 	mov	x1, x21
-	bl	"pie_text::row::Row::prepend_number"
+	bl	"pie_text::row_buffer::RowBuffer::prepend_number"
 	and	x1, x20, #0xffff
 	mov	x0, x19
-	bl	"pie_text::row::Row::prepend_number"
+	bl	"pie_text::row_buffer::RowBuffer::prepend_number"
 	ldr	x8, [x19, #512]
 	mov	w9, #44
 	adrp	x10, .Lstatic.39
@@ -4062,10 +4062,10 @@
 .LBB27_16:
 	mov	w1, w4
 	mov	x0, x22
-	bl	"pie_text::row::Row::prepend_number"
+	bl	"pie_text::row_buffer::RowBuffer::prepend_number"
 	mov	x0, x22
 	mov	x1, x21
-	bl	"pie_text::row::Row::prepend_number"
+	bl	"pie_text::row_buffer::RowBuffer::prepend_number"
 	ldr	x8, [x22, #512]
 	mov	w9, #44
 	mov	w10, #1
@@ -4181,10 +4181,10 @@
 	mov	x0, x22
 	mov	x1, x4
 	str	x9, [x22, #512]
-	bl	"pie_text::row::Row::prepend_number"
+	bl	"pie_text::row_buffer::RowBuffer::prepend_number"
 	mov	x0, x22
 	mov	x1, x21
-	bl	"pie_text::row::Row::prepend_number"
+	bl	"pie_text::row_buffer::RowBuffer::prepend_number"
 	mov	w8, #2
 	mov	x2, sp
 	mov	x0, x22
@@ -5115,7 +5115,7 @@ pie_write_clock:
 	mov	x1, x8
 	str	x10, [sp, #512]
 	mov	x21, sp
-	bl	"pie_text::row::Row::prepend_number"
+	bl	"pie_text::row_buffer::RowBuffer::prepend_number"
 	ldr	x8, [sp, #512]
 	mov	w9, #44
 	adrp	x10, .Lstatic.51
@@ -5487,18 +5487,18 @@ pie_write_opening:
 	bl	"pie_text::words::put_numbers"
 	add	x0, sp, #112
 	mov	x1, x21
-	bl	"pie_text::row::Row::prepend_number"
+	bl	"pie_text::row_buffer::RowBuffer::prepend_number"
 .LBB47_24:
 	add	x0, sp, #112
 	mov	x1, x24
 	add	x24, sp, #112
-	bl	"pie_text::row::Row::prepend_number"
+	bl	"pie_text::row_buffer::RowBuffer::prepend_number"
 	add	x0, sp, #112
 	mov	x1, x22
-	bl	"pie_text::row::Row::prepend_number"
+	bl	"pie_text::row_buffer::RowBuffer::prepend_number"
 	add	x0, sp, #112
 	mov	x1, x23
-	bl	"pie_text::row::Row::prepend_number"
+	bl	"pie_text::row_buffer::RowBuffer::prepend_number"
 	ldr	w8, [sp, #20]
 	cbnz	w8, .LBB47_34
 	ldr	w8, [sp, #16]
@@ -6938,10 +6938,10 @@ pie_write_queued:
 	mov	w1, w1
 	mov	x0, sp
 	mov	x23, sp
-	bl	"pie_text::row::Row::prepend_number"
+	bl	"pie_text::row_buffer::RowBuffer::prepend_number"
 	mov	x0, sp
 	mov	x1, x19
-	bl	"pie_text::row::Row::prepend_number"
+	bl	"pie_text::row_buffer::RowBuffer::prepend_number"
 	ldr	x8, [sp, #512]
 	mov	w9, #44
 	adrp	x10, .Lstatic.77
@@ -7059,7 +7059,7 @@ pie_write_refused:
 	strb	w10, [sp, #510]
 	mov	x21, sp
 	str	x9, [sp, #512]
-	bl	"pie_text::row::Row::prepend_number"
+	bl	"pie_text::row_buffer::RowBuffer::prepend_number"
 	ldr	x8, [sp, #512]
 	mov	w9, #44
 	adrp	x10, .Lstatic.47
@@ -7277,7 +7277,7 @@ pie_write_params:
 	add	x0, sp, #32
 	str	x2, [sp, #8]
 	str	w9, [x8]
-	bl	"pie_text::row::Row::prepend_number"
+	bl	"pie_text::row_buffer::RowBuffer::prepend_number"
 	add	x0, sp, #32
 	add	x1, sp, #560
 	mov	w2, #8
@@ -7292,10 +7292,10 @@ pie_write_params:
 	bl	"pie_text::words::put_numbers"
 	add	x0, sp, #32
 	mov	x1, x20
-	bl	"pie_text::row::Row::prepend_number"
+	bl	"pie_text::row_buffer::RowBuffer::prepend_number"
 	add	x0, sp, #32
 	mov	x1, x19
-	bl	"pie_text::row::Row::prepend_number"
+	bl	"pie_text::row_buffer::RowBuffer::prepend_number"
 	ldr	x8, [sp, #544]
 	mov	w9, #44
 	adrp	x10, .Lstatic.43

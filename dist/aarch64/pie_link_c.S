@@ -2033,10 +2033,10 @@
 .Lfunc_end15:
 	.size	"pie_text::long_row::LongRow::number", .Lfunc_end15-"pie_text::long_row::LongRow::number"
 
-	.section	".text.pie_text::row::Row::prepend_number","ax",@progbits
+	.section	".text.pie_text::row_buffer::RowBuffer::prepend_number","ax",@progbits
 	.p2align	2
-	.type	"pie_text::row::Row::prepend_number",@function
-"pie_text::row::Row::prepend_number":
+	.type	"pie_text::row_buffer::RowBuffer::prepend_number",@function
+"pie_text::row_buffer::RowBuffer::prepend_number":
 	ldr	x10, [x0, #512]
 	lsr	x11, x1, #4
 	mov	w9, #44
@@ -2119,7 +2119,7 @@
 	str	x8, [x0, #512]
 	ret
 .Lfunc_end16:
-	.size	"pie_text::row::Row::prepend_number", .Lfunc_end16-"pie_text::row::Row::prepend_number"
+	.size	"pie_text::row_buffer::RowBuffer::prepend_number", .Lfunc_end16-"pie_text::row_buffer::RowBuffer::prepend_number"
 
 	.section	".text.pie_text::words::put_numbers","ax",@progbits
 	.p2align	2
@@ -2137,7 +2137,7 @@
 	mov	x0, x19
 	ldp	x20, x19, [sp, #16]
 	ldr	x30, [sp], #32
-	b	"pie_text::row::Row::prepend_number"
+	b	"pie_text::row_buffer::RowBuffer::prepend_number"
 .LBB17_2:
 	ret
 .Lfunc_end17:
@@ -9489,10 +9489,10 @@ pie_link_write_excerpt:
 .LBB35_63:
 	add	x0, sp, #480
 	add	x19, sp, #480
-	bl	"pie_text::row::Row::prepend_number"
+	bl	"pie_text::row_buffer::RowBuffer::prepend_number"
 	add	x0, sp, #480
 	mov	x1, x20
-	bl	"pie_text::row::Row::prepend_number"
+	bl	"pie_text::row_buffer::RowBuffer::prepend_number"
 	ldr	x8, [sp, #992]
 	mov	w9, #44
 	adrp	x10, .Lstatic.20
@@ -9731,10 +9731,10 @@ pie_link_write_excerpt:
 .LBB35_99:
 	add	x0, sp, #480
 	str	x9, [sp, #992]
-	bl	"pie_text::row::Row::prepend_number"
+	bl	"pie_text::row_buffer::RowBuffer::prepend_number"
 	add	x0, sp, #480
 	mov	x1, x20
-	bl	"pie_text::row::Row::prepend_number"
+	bl	"pie_text::row_buffer::RowBuffer::prepend_number"
 	mov	x20, xzr
 	movi	v1.2d, #0000000000000000
 	mov	x27, xzr
@@ -9832,10 +9832,10 @@ pie_link_write_excerpt:
 	mov	w1, w9
 	add	x0, sp, #480
 	add	x27, sp, #480
-	bl	"pie_text::row::Row::prepend_number"
+	bl	"pie_text::row_buffer::RowBuffer::prepend_number"
 	add	x0, sp, #480
 	mov	x1, x20
-	bl	"pie_text::row::Row::prepend_number"
+	bl	"pie_text::row_buffer::RowBuffer::prepend_number"
 	ldr	x8, [sp, #992]
 	mov	w9, #44
 	adrp	x10, .Lstatic.30
@@ -9873,10 +9873,10 @@ pie_link_write_excerpt:
 	add	x0, sp, #480
 	mov	x1, x29
 	add	x19, sp, #480
-	bl	"pie_text::row::Row::prepend_number"
+	bl	"pie_text::row_buffer::RowBuffer::prepend_number"
 	ldr	x1, [sp, #440]
 	add	x0, sp, #480
-	bl	"pie_text::row::Row::prepend_number"
+	bl	"pie_text::row_buffer::RowBuffer::prepend_number"
 	ldr	x8, [sp, #992]
 	mov	w9, #44
 	adrp	x10, .Lstatic.39
@@ -9908,7 +9908,7 @@ pie_link_write_excerpt:
 	add	x0, sp, #480
 	mov	x1, x25
 	add	x20, sp, #480
-	bl	"pie_text::row::Row::prepend_number"
+	bl	"pie_text::row_buffer::RowBuffer::prepend_number"
 	ldr	x8, [sp, #992]
 	mov	w9, #44
 	sub	x8, x8, #1
@@ -9938,10 +9938,10 @@ pie_link_write_excerpt:
 	add	x0, sp, #480
 	mov	x1, x29
 	add	x19, sp, #480
-	bl	"pie_text::row::Row::prepend_number"
+	bl	"pie_text::row_buffer::RowBuffer::prepend_number"
 	ldr	x1, [sp, #440]
 	add	x0, sp, #480
-	bl	"pie_text::row::Row::prepend_number"
+	bl	"pie_text::row_buffer::RowBuffer::prepend_number"
 	ldr	x8, [sp, #992]
 	mov	w9, #44
 	adrp	x10, .Lstatic.38
@@ -9968,7 +9968,7 @@ pie_link_write_excerpt:
 	add	x24, sp, #480
 	str	q1, [sp, #416]
 	add	x1, x8, #1
-	bl	"pie_text::row::Row::prepend_number"
+	bl	"pie_text::row_buffer::RowBuffer::prepend_number"
 	ldr	q0, [sp, #416]
 	add	x8, sp, #2057
 	add	x0, sp, #480
@@ -9985,10 +9985,10 @@ pie_link_write_excerpt:
 	bl	"pie_text::words::put_numbers"
 	add	x0, sp, #480
 	mov	x1, x29
-	bl	"pie_text::row::Row::prepend_number"
+	bl	"pie_text::row_buffer::RowBuffer::prepend_number"
 	ldr	x1, [sp, #440]
 	add	x0, sp, #480
-	bl	"pie_text::row::Row::prepend_number"
+	bl	"pie_text::row_buffer::RowBuffer::prepend_number"
 	ldr	x8, [sp, #992]
 	mov	w9, #44
 	adrp	x10, .Lstatic.40
@@ -10014,10 +10014,10 @@ pie_link_write_excerpt:
 	add	x0, sp, #480
 	mov	x1, x29
 	add	x19, sp, #480
-	bl	"pie_text::row::Row::prepend_number"
+	bl	"pie_text::row_buffer::RowBuffer::prepend_number"
 	ldr	x1, [sp, #440]
 	add	x0, sp, #480
-	bl	"pie_text::row::Row::prepend_number"
+	bl	"pie_text::row_buffer::RowBuffer::prepend_number"
 	ldr	x8, [sp, #992]
 	mov	w9, #44
 	adrp	x10, .Lstatic.37
@@ -10138,16 +10138,16 @@ pie_link_write_excerpt:
 	mov	w1, w19
 	add	x0, sp, #480
 	add	x19, sp, #480
-	bl	"pie_text::row::Row::prepend_number"
+	bl	"pie_text::row_buffer::RowBuffer::prepend_number"
 	add	x0, sp, #480
 	mov	x1, x24
-	bl	"pie_text::row::Row::prepend_number"
+	bl	"pie_text::row_buffer::RowBuffer::prepend_number"
 	add	x0, sp, #480
 	mov	x1, x29
-	bl	"pie_text::row::Row::prepend_number"
+	bl	"pie_text::row_buffer::RowBuffer::prepend_number"
 	add	x0, sp, #480
 	mov	x1, x20
-	bl	"pie_text::row::Row::prepend_number"
+	bl	"pie_text::row_buffer::RowBuffer::prepend_number"
 	ldr	x8, [sp, #992]
 	mov	w9, #44
 	adrp	x10, .Lstatic.36

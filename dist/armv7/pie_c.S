@@ -2016,11 +2016,11 @@
 	.cantunwind
 	.fnend
 
-	.section	".text.pie_text::row::Row::prepend_number","ax",%progbits
+	.section	".text.pie_text::row_buffer::RowBuffer::prepend_number","ax",%progbits
 	.p2align	2
-	.type	"pie_text::row::Row::prepend_number",%function
+	.type	"pie_text::row_buffer::RowBuffer::prepend_number",%function
 	.code	32
-"pie_text::row::Row::prepend_number":
+"pie_text::row_buffer::RowBuffer::prepend_number":
 	.fnstart
 	.save	{r4, r5, r6, r7, r8, r9, r10, r11, lr}
 	push	{r4, r5, r6, r7, r8, r9, r10, r11, lr}
@@ -2135,7 +2135,7 @@
 .LCPI9_0:
 	.long	.Lstatic.34-(.LPC9_0+8)
 .Lfunc_end9:
-	.size	"pie_text::row::Row::prepend_number", .Lfunc_end9-"pie_text::row::Row::prepend_number"
+	.size	"pie_text::row_buffer::RowBuffer::prepend_number", .Lfunc_end9-"pie_text::row_buffer::RowBuffer::prepend_number"
 	.cantunwind
 	.fnend
 
@@ -2204,7 +2204,7 @@
 	ldrd	r2, r3, [r5]
 	mov	r0, r4
 	pop	{r4, r5, r11, lr}
-	b	"pie_text::row::Row::prepend_number"
+	b	"pie_text::row_buffer::RowBuffer::prepend_number"
 .LBB11_2:
 	pop	{r4, r5, r11, pc}
 .Lfunc_end11:
@@ -2978,7 +2978,7 @@
 	ldr	r6, [r0, #60]
 	mov	r0, r4
 	str	r1, [sp]
-	bl	"pie_text::row::Row::prepend_number"
+	bl	"pie_text::row_buffer::RowBuffer::prepend_number"
 	add	r0, sp, #88
 	add	r1, sp, #48
 	stm	r0, {r5, r8, r9, r10, r11}
@@ -3010,12 +3010,12 @@
 	ldr	r2, [sp, #36]
 	mov	r0, r4
 	ldr	r3, [sp, #40]
-	bl	"pie_text::row::Row::prepend_number"
+	bl	"pie_text::row_buffer::RowBuffer::prepend_number"
 	ldr	r0, [sp, #44]
 	mov	r3, #0
 	uxth	r2, r0
 	mov	r0, r4
-	bl	"pie_text::row::Row::prepend_number"
+	bl	"pie_text::row_buffer::RowBuffer::prepend_number"
 	ldr	r0, [r4, #512]
 	ldr	r1, [r4, #516]
 	subs	r0, r0, #1
@@ -6397,7 +6397,7 @@
 .LBB27_18:
 	mov	r0, r4
 	mov	r6, lr
-	bl	"pie_text::row::Row::prepend_number"
+	bl	"pie_text::row_buffer::RowBuffer::prepend_number"
 	ldrd	r0, r1, [r9]
 	uxtb	r2, r6
 	subs	r0, r0, #1
@@ -6470,19 +6470,19 @@
 	mov	r2, r7
 	mov	r3, #0
 	mov	r6, #0
-	bl	"pie_text::row::Row::prepend_number"
+	bl	"pie_text::row_buffer::RowBuffer::prepend_number"
 	mov	r0, r4
 	mov	r2, r8
 	mov	r3, r10
-	bl	"pie_text::row::Row::prepend_number"
+	bl	"pie_text::row_buffer::RowBuffer::prepend_number"
 	ldr	r2, [sp]
 	mov	r0, r4
 	mov	r3, r11
-	bl	"pie_text::row::Row::prepend_number"
+	bl	"pie_text::row_buffer::RowBuffer::prepend_number"
 	uxth	r2, r5
 	mov	r0, r4
 	mov	r3, #0
-	bl	"pie_text::row::Row::prepend_number"
+	bl	"pie_text::row_buffer::RowBuffer::prepend_number"
 	ldrd	r0, r1, [r9]
 	subs	r0, r0, #1
 	sbc	r1, r1, #0
@@ -6668,7 +6668,7 @@
 	str	r3, [sp, #20]
 	mov	r2, r6
 	mov	r3, lr
-	bl	"pie_text::row::Row::prepend_number"
+	bl	"pie_text::row_buffer::RowBuffer::prepend_number"
 	mov	r6, r4
 	ldr	r1, [r4, #516]
 	ldr	r0, [r6, #512]!
@@ -6754,12 +6754,12 @@
 	pop	{r4, r5, r6, r7, r8, r9, r10, r11, pc}
 .LBB29_6:
 	mov	r0, r4
-	bl	"pie_text::row::Row::prepend_number"
+	bl	"pie_text::row_buffer::RowBuffer::prepend_number"
 	uxth	r2, r8
 	mov	r0, r4
 	mov	r3, #0
 	mov	r5, #0
-	bl	"pie_text::row::Row::prepend_number"
+	bl	"pie_text::row_buffer::RowBuffer::prepend_number"
 	ldr	r0, [r4, #512]
 	ldr	r1, [r4, #516]
 	subs	r0, r0, #1
@@ -6791,12 +6791,12 @@
 	pop	{r4, r5, r6, r7, r8, r9, r10, r11, pc}
 .LBB29_7:
 	mov	r0, r4
-	bl	"pie_text::row::Row::prepend_number"
+	bl	"pie_text::row_buffer::RowBuffer::prepend_number"
 	uxth	r2, r8
 	mov	r0, r4
 	mov	r3, #0
 	mov	r5, #0
-	bl	"pie_text::row::Row::prepend_number"
+	bl	"pie_text::row_buffer::RowBuffer::prepend_number"
 	ldr	r0, [r4, #512]
 	ldr	r1, [r4, #516]
 	subs	r0, r0, #1
@@ -6828,12 +6828,12 @@
 	pop	{r4, r5, r6, r7, r8, r9, r10, r11, pc}
 .LBB29_8:
 	mov	r0, r4
-	bl	"pie_text::row::Row::prepend_number"
+	bl	"pie_text::row_buffer::RowBuffer::prepend_number"
 	uxth	r2, r8
 	mov	r0, r4
 	mov	r3, #0
 	mov	r5, #0
-	bl	"pie_text::row::Row::prepend_number"
+	bl	"pie_text::row_buffer::RowBuffer::prepend_number"
 	ldr	r0, [r4, #512]
 	ldr	r1, [r4, #516]
 	subs	r0, r0, #1
@@ -6902,19 +6902,19 @@
 	mov	r3, #0
 	ldr	r7, [sp, #28]
 	mov	r5, #0
-	bl	"pie_text::row::Row::prepend_number"
+	bl	"pie_text::row_buffer::RowBuffer::prepend_number"
 	mov	r0, r4
 	mov	r2, r9
 	mov	r3, r7
-	bl	"pie_text::row::Row::prepend_number"
+	bl	"pie_text::row_buffer::RowBuffer::prepend_number"
 	ldr	r2, [sp, #16]
 	mov	r0, r4
 	ldr	r3, [sp, #20]
-	bl	"pie_text::row::Row::prepend_number"
+	bl	"pie_text::row_buffer::RowBuffer::prepend_number"
 	uxth	r2, r8
 	mov	r0, r4
 	mov	r3, #0
-	bl	"pie_text::row::Row::prepend_number"
+	bl	"pie_text::row_buffer::RowBuffer::prepend_number"
 	ldrd	r0, r1, [r6]
 	subs	r0, r0, #1
 	sbc	r1, r1, #0
@@ -7115,11 +7115,11 @@
 	mov	r0, r5
 	mov	r3, #0
 	mov	r11, #0
-	bl	"pie_text::row::Row::prepend_number"
+	bl	"pie_text::row_buffer::RowBuffer::prepend_number"
 	mov	r0, r5
 	mov	r2, r6
 	mov	r3, r7
-	bl	"pie_text::row::Row::prepend_number"
+	bl	"pie_text::row_buffer::RowBuffer::prepend_number"
 	ldrd	r0, r1, [r4]
 	subs	r0, r0, #1
 	sbc	r1, r1, #0
@@ -7196,11 +7196,11 @@
 	ldr	r2, [sp, #104]
 	mov	r0, r5
 	ldr	r3, [sp, #108]
-	bl	"pie_text::row::Row::prepend_number"
+	bl	"pie_text::row_buffer::RowBuffer::prepend_number"
 	ldr	r2, [sp, #96]
 	mov	r0, r5
 	ldr	r3, [sp, #100]
-	bl	"pie_text::row::Row::prepend_number"
+	bl	"pie_text::row_buffer::RowBuffer::prepend_number"
 	mov	r0, #2
 	mov	r1, r4
 	str	r0, [sp]
@@ -8533,7 +8533,7 @@ pie_write_clock:
 	ldr	r2, [sp, #4]
 	mov	r0, r10
 	mov	r3, r7
-	bl	"pie_text::row::Row::prepend_number"
+	bl	"pie_text::row_buffer::RowBuffer::prepend_number"
 	ldrd	r0, r1, [r11]
 	subs	r0, r0, #1
 	sbc	r1, r1, #0
@@ -8824,21 +8824,21 @@ pie_write_opening:
 	ldr	r2, [sp, #68]
 	mov	r0, r5
 	mov	r3, r4
-	bl	"pie_text::row::Row::prepend_number"
+	bl	"pie_text::row_buffer::RowBuffer::prepend_number"
 .LBB50_7:
 	add	r6, sp, #184
 	ldr	r2, [sp, #28]
 	mov	r3, #0
 	mov	r0, r6
-	bl	"pie_text::row::Row::prepend_number"
+	bl	"pie_text::row_buffer::RowBuffer::prepend_number"
 	ldr	r2, [sp, #80]
 	mov	r0, r6
 	mov	r3, #0
-	bl	"pie_text::row::Row::prepend_number"
+	bl	"pie_text::row_buffer::RowBuffer::prepend_number"
 	ldr	r2, [sp, #32]
 	mov	r0, r6
 	ldr	r3, [sp, #36]
-	bl	"pie_text::row::Row::prepend_number"
+	bl	"pie_text::row_buffer::RowBuffer::prepend_number"
 	ldr	r10, [sp, #56]
 	add	r9, sp, #184
 	ldr	r12, [sp, #48]
@@ -10663,11 +10663,11 @@ pie_write_queued:
 	mov	r2, r10
 	mov	r3, #0
 	mov	r5, #0
-	bl	"pie_text::row::Row::prepend_number"
+	bl	"pie_text::row_buffer::RowBuffer::prepend_number"
 	mov	r0, r9
 	mov	r2, r7
 	mov	r3, r6
-	bl	"pie_text::row::Row::prepend_number"
+	bl	"pie_text::row_buffer::RowBuffer::prepend_number"
 	ldrd	r0, r1, [r11]
 	ldr	r6, [sp, #588]
 	subs	r0, r0, #1
@@ -10800,7 +10800,7 @@ pie_write_refused:
 	mov	r0, r8
 	mov	r2, r6
 	mov	r3, r7
-	bl	"pie_text::row::Row::prepend_number"
+	bl	"pie_text::row_buffer::RowBuffer::prepend_number"
 	ldrd	r0, r1, [r11]
 	subs	r0, r0, #1
 	sbc	r1, r1, #0

@@ -1468,10 +1468,10 @@
 	.p2align	3, 0x0
 .LCPI9_0:
 	.quad	3777893186295716171
-	.section	".text.pie_text::row::Row::prepend_number","ax",@progbits
+	.section	".text.pie_text::row_buffer::RowBuffer::prepend_number","ax",@progbits
 	.p2align	1
-	.type	"pie_text::row::Row::prepend_number",@function
-"pie_text::row::Row::prepend_number":
+	.type	"pie_text::row_buffer::RowBuffer::prepend_number",@function
+"pie_text::row_buffer::RowBuffer::prepend_number":
 	ld	a4, 512(a0)
 	li	a3, 44
 	srli	a6, a1, 4
@@ -1574,7 +1574,7 @@
 	sd	a2, 512(a0)
 	ret
 .Lfunc_end9:
-	.size	"pie_text::row::Row::prepend_number", .Lfunc_end9-"pie_text::row::Row::prepend_number"
+	.size	"pie_text::row_buffer::RowBuffer::prepend_number", .Lfunc_end9-"pie_text::row_buffer::RowBuffer::prepend_number"
 
 	.section	".text.pie_text::note::put_lost","ax",@progbits
 	.p2align	1
@@ -1631,7 +1631,7 @@
 	ld	s0, 16(sp)
 	ld	s1, 8(sp)
 	addi	sp, sp, 32
-	tail	"pie_text::row::Row::prepend_number"
+	tail	"pie_text::row_buffer::RowBuffer::prepend_number"
 .LBB11_2:
 	ret
 .Lfunc_end11:
@@ -2282,7 +2282,7 @@
 	ld	s10, 56(a3)
 	ld	a1, 64(a3)
 	mv	s1, a0
-	call	"pie_text::row::Row::prepend_number"
+	call	"pie_text::row_buffer::RowBuffer::prepend_number"
 	sd	s0, 0(sp)
 	sd	s4, 8(sp)
 	sd	s5, 16(sp)
@@ -2297,11 +2297,11 @@
 	call	"pie_text::words::put_numbers"
 	mv	a0, s1
 	mv	a1, s3
-	call	"pie_text::row::Row::prepend_number"
+	call	"pie_text::row_buffer::RowBuffer::prepend_number"
 	slli	a1, s2, 48
 	srli	a1, a1, 48
 	mv	a0, s1
-	call	"pie_text::row::Row::prepend_number"
+	call	"pie_text::row_buffer::RowBuffer::prepend_number"
 	ld	a0, 512(s1)
 	li	a1, 44
 	addi	a0, a0, -1
@@ -4199,24 +4199,24 @@
 .LBB28_20:
 	mv	a0, s0
 	mv	a1, a6
-	call	"pie_text::row::Row::prepend_number"
+	call	"pie_text::row_buffer::RowBuffer::prepend_number"
 	mv	a0, s0
 	mv	a1, s1
 	call	"pie_text::words::put_ecn"
 	slli	a1, s5, 32
 	srli	a1, a1, 32
 	mv	a0, s0
-	call	"pie_text::row::Row::prepend_number"
+	call	"pie_text::row_buffer::RowBuffer::prepend_number"
 	mv	a0, s0
 	mv	a1, s4
-	call	"pie_text::row::Row::prepend_number"
+	call	"pie_text::row_buffer::RowBuffer::prepend_number"
 	mv	a0, s0
 	mv	a1, s3
-	call	"pie_text::row::Row::prepend_number"
+	call	"pie_text::row_buffer::RowBuffer::prepend_number"
 	slli	a1, s2, 48
 	srli	a1, a1, 48
 	mv	a0, s0
-	call	"pie_text::row::Row::prepend_number"
+	call	"pie_text::row_buffer::RowBuffer::prepend_number"
 	ld	a0, 512(s0)
 	li	a1, 44
 	addi	a0, a0, -1
@@ -4344,24 +4344,24 @@
 .LBB30_1:
 	srli	s3, s5, 32
 	mv	s1, a0
-	call	"pie_text::row::Row::prepend_number"
+	call	"pie_text::row_buffer::RowBuffer::prepend_number"
 	mv	a0, s1
 	mv	a1, s3
 	call	"pie_text::words::put_ecn"
 	slli	a1, s5, 32
 	srli	a1, a1, 32
 	mv	a0, s1
-	call	"pie_text::row::Row::prepend_number"
+	call	"pie_text::row_buffer::RowBuffer::prepend_number"
 	mv	a0, s1
 	mv	a1, s0
-	call	"pie_text::row::Row::prepend_number"
+	call	"pie_text::row_buffer::RowBuffer::prepend_number"
 	mv	a0, s1
 	mv	a1, s4
-	call	"pie_text::row::Row::prepend_number"
+	call	"pie_text::row_buffer::RowBuffer::prepend_number"
 	slli	a1, s2, 48
 	srli	a1, a1, 48
 	mv	a0, s1
-	call	"pie_text::row::Row::prepend_number"
+	call	"pie_text::row_buffer::RowBuffer::prepend_number"
 	ld	a0, 512(s1)
 	li	a1, 44
 	addi	a0, a0, -1
@@ -4411,11 +4411,11 @@
 .LBB30_4:
 	mv	s0, a0
 	mv	a1, s4
-	call	"pie_text::row::Row::prepend_number"
+	call	"pie_text::row_buffer::RowBuffer::prepend_number"
 	slli	a1, s2, 48
 	srli	a1, a1, 48
 	mv	a0, s0
-	call	"pie_text::row::Row::prepend_number"
+	call	"pie_text::row_buffer::RowBuffer::prepend_number"
 	ld	a0, 512(s0)
 	li	a1, 44
 	addi	a0, a0, -1
@@ -4440,11 +4440,11 @@
 .LBB30_6:
 	mv	s0, a0
 	mv	a1, s4
-	call	"pie_text::row::Row::prepend_number"
+	call	"pie_text::row_buffer::RowBuffer::prepend_number"
 	slli	a1, s2, 48
 	srli	a1, a1, 48
 	mv	a0, s0
-	call	"pie_text::row::Row::prepend_number"
+	call	"pie_text::row_buffer::RowBuffer::prepend_number"
 	ld	a0, 512(s0)
 	li	a1, 44
 	addi	a0, a0, -1
@@ -4470,11 +4470,11 @@
 .LBB30_8:
 	mv	s0, a0
 	mv	a1, s4
-	call	"pie_text::row::Row::prepend_number"
+	call	"pie_text::row_buffer::RowBuffer::prepend_number"
 	slli	a1, s2, 48
 	srli	a1, a1, 48
 	mv	a0, s0
-	call	"pie_text::row::Row::prepend_number"
+	call	"pie_text::row_buffer::RowBuffer::prepend_number"
 	ld	a0, 512(s0)
 	li	a1, 44
 	addi	a0, a0, -1
@@ -4657,10 +4657,10 @@
 	slli	a1, a4, 32
 	srli	a1, a1, 32
 	mv	a0, s1
-	call	"pie_text::row::Row::prepend_number"
+	call	"pie_text::row_buffer::RowBuffer::prepend_number"
 	mv	a0, s1
 	mv	a1, s0
-	call	"pie_text::row::Row::prepend_number"
+	call	"pie_text::row_buffer::RowBuffer::prepend_number"
 	ld	a0, 512(s1)
 	li	a1, 44
 	addi	a0, a0, -1
@@ -4722,10 +4722,10 @@
 	call	"pie_text::words::put_last"
 	mv	a0, s1
 	mv	a1, s0
-	call	"pie_text::row::Row::prepend_number"
+	call	"pie_text::row_buffer::RowBuffer::prepend_number"
 	mv	a0, s1
 	mv	a1, s4
-	call	"pie_text::row::Row::prepend_number"
+	call	"pie_text::row_buffer::RowBuffer::prepend_number"
 	li	a0, 2
 	sd	a0, 0(sp)
 	sd	s2, 8(sp)
@@ -5650,7 +5650,7 @@ pie_write_clock:
 	call	"pie_text::words::put_last"
 	mv	a0, sp
 	mv	a1, s0
-	call	"pie_text::row::Row::prepend_number"
+	call	"pie_text::row_buffer::RowBuffer::prepend_number"
 	ld	a0, 512(sp)
 	li	a1, 44
 	addi	a0, a0, -1
@@ -5924,18 +5924,18 @@ pie_write_opening:
 	addi	a0, sp, 160
 	mv	s7, s5
 	mv	a1, s5
-	call	"pie_text::row::Row::prepend_number"
+	call	"pie_text::row_buffer::RowBuffer::prepend_number"
 .LBB51_16:
 	addi	a0, sp, 160
 	ld	a1, 0(sp)
-	call	"pie_text::row::Row::prepend_number"
+	call	"pie_text::row_buffer::RowBuffer::prepend_number"
 	addi	a0, sp, 160
 	ld	s5, 16(sp)
 	mv	a1, s5
-	call	"pie_text::row::Row::prepend_number"
+	call	"pie_text::row_buffer::RowBuffer::prepend_number"
 	addi	a0, sp, 160
 	ld	a1, 8(sp)
-	call	"pie_text::row::Row::prepend_number"
+	call	"pie_text::row_buffer::RowBuffer::prepend_number"
 	ld	s6, 32(sp)
 	ld	s3, 24(sp)
 	mv	s2, s4
@@ -7212,10 +7212,10 @@ pie_write_queued:
 	call	"pie_text::words::put_ecn"
 	mv	a0, sp
 	mv	a1, s5
-	call	"pie_text::row::Row::prepend_number"
+	call	"pie_text::row_buffer::RowBuffer::prepend_number"
 	mv	a0, sp
 	mv	a1, s4
-	call	"pie_text::row::Row::prepend_number"
+	call	"pie_text::row_buffer::RowBuffer::prepend_number"
 	ld	a0, 512(sp)
 	li	a1, 44
 	addi	a0, a0, -1
@@ -7315,7 +7315,7 @@ pie_write_refused:
 	call	"pie_text::words::put_last"
 	addi	a0, sp, 8
 	mv	a1, s0
-	call	"pie_text::row::Row::prepend_number"
+	call	"pie_text::row_buffer::RowBuffer::prepend_number"
 	ld	a0, 520(sp)
 	li	a1, 44
 	addi	a0, a0, -1

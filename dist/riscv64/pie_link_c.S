@@ -2602,10 +2602,10 @@
 	.p2align	3, 0x0
 .LCPI18_0:
 	.quad	3777893186295716171
-	.section	".text.pie_text::row::Row::prepend_number","ax",@progbits
+	.section	".text.pie_text::row_buffer::RowBuffer::prepend_number","ax",@progbits
 	.p2align	1
-	.type	"pie_text::row::Row::prepend_number",@function
-"pie_text::row::Row::prepend_number":
+	.type	"pie_text::row_buffer::RowBuffer::prepend_number",@function
+"pie_text::row_buffer::RowBuffer::prepend_number":
 	ld	a4, 512(a0)
 	li	a3, 44
 	srli	a6, a1, 4
@@ -2708,7 +2708,7 @@
 	sd	a2, 512(a0)
 	ret
 .Lfunc_end18:
-	.size	"pie_text::row::Row::prepend_number", .Lfunc_end18-"pie_text::row::Row::prepend_number"
+	.size	"pie_text::row_buffer::RowBuffer::prepend_number", .Lfunc_end18-"pie_text::row_buffer::RowBuffer::prepend_number"
 
 	.section	".text.pie_text::words::put_numbers","ax",@progbits
 	.p2align	1
@@ -2731,7 +2731,7 @@
 	ld	s0, 16(sp)
 	ld	s1, 8(sp)
 	addi	sp, sp, 32
-	tail	"pie_text::row::Row::prepend_number"
+	tail	"pie_text::row_buffer::RowBuffer::prepend_number"
 .LBB19_2:
 	ret
 .Lfunc_end19:
@@ -9168,10 +9168,10 @@ pie_link_write_excerpt:
 	call	"pie_text::words::put_ecn"
 	addi	a0, sp, 456
 	mv	a1, s1
-	call	"pie_text::row::Row::prepend_number"
+	call	"pie_text::row_buffer::RowBuffer::prepend_number"
 	addi	a0, sp, 456
 	mv	a1, s2
-	call	"pie_text::row::Row::prepend_number"
+	call	"pie_text::row_buffer::RowBuffer::prepend_number"
 	ld	a0, 968(sp)
 	li	a1, 44
 	addi	a0, a0, -1
@@ -9983,10 +9983,10 @@ pie_link_write_excerpt:
 	call	"pie_text::words::put_last"
 	addi	a0, sp, 456
 	mv	a1, s6
-	call	"pie_text::row::Row::prepend_number"
+	call	"pie_text::row_buffer::RowBuffer::prepend_number"
 	addi	a0, sp, 456
 	mv	a1, s2
-	call	"pie_text::row::Row::prepend_number"
+	call	"pie_text::row_buffer::RowBuffer::prepend_number"
 	mv	a7, s0
 	li	t0, 0
 	li	a2, 0
@@ -10277,10 +10277,10 @@ pie_link_write_excerpt:
 	srli	a1, a0, 32
 	addi	a0, sp, 456
 	addi	s0, sp, 456
-	call	"pie_text::row::Row::prepend_number"
+	call	"pie_text::row_buffer::RowBuffer::prepend_number"
 	addi	a0, sp, 456
 	mv	a1, s2
-	call	"pie_text::row::Row::prepend_number"
+	call	"pie_text::row_buffer::RowBuffer::prepend_number"
 	ld	a0, 968(sp)
 	li	a1, 44
 	addi	a0, a0, -1
@@ -10335,10 +10335,10 @@ pie_link_write_excerpt:
 	addi	a0, sp, 456
 	addi	s0, sp, 456
 	mv	a1, a7
-	call	"pie_text::row::Row::prepend_number"
+	call	"pie_text::row_buffer::RowBuffer::prepend_number"
 	addi	a0, sp, 456
 	mv	a1, s4
-	call	"pie_text::row::Row::prepend_number"
+	call	"pie_text::row_buffer::RowBuffer::prepend_number"
 	ld	a0, 968(sp)
 	li	a1, 44
 	addi	a0, a0, -1
@@ -10376,7 +10376,7 @@ pie_link_write_excerpt:
 	addi	a0, sp, 456
 	addi	s6, sp, 456
 	mv	s8, a7
-	call	"pie_text::row::Row::prepend_number"
+	call	"pie_text::row_buffer::RowBuffer::prepend_number"
 	lui	a0, 1
 	add	a0, a0, sp
 	sd	s10, -1832(a0)
@@ -10408,10 +10408,10 @@ pie_link_write_excerpt:
 	call	"pie_text::words::put_numbers"
 	addi	a0, sp, 456
 	mv	a1, s8
-	call	"pie_text::row::Row::prepend_number"
+	call	"pie_text::row_buffer::RowBuffer::prepend_number"
 	addi	a0, sp, 456
 	mv	a1, s4
-	call	"pie_text::row::Row::prepend_number"
+	call	"pie_text::row_buffer::RowBuffer::prepend_number"
 	ld	a0, 968(sp)
 	li	a1, 44
 	addi	a0, a0, -1
@@ -10439,10 +10439,10 @@ pie_link_write_excerpt:
 	addi	a0, sp, 456
 	addi	s0, sp, 456
 	mv	a1, a7
-	call	"pie_text::row::Row::prepend_number"
+	call	"pie_text::row_buffer::RowBuffer::prepend_number"
 	addi	a0, sp, 456
 	mv	a1, s4
-	call	"pie_text::row::Row::prepend_number"
+	call	"pie_text::row_buffer::RowBuffer::prepend_number"
 	ld	a0, 968(sp)
 	li	a1, 44
 	addi	a0, a0, -1
@@ -10474,10 +10474,10 @@ pie_link_write_excerpt:
 	addi	a0, sp, 456
 	addi	s0, sp, 456
 	mv	a1, a7
-	call	"pie_text::row::Row::prepend_number"
+	call	"pie_text::row_buffer::RowBuffer::prepend_number"
 	addi	a0, sp, 456
 	mv	a1, s4
-	call	"pie_text::row::Row::prepend_number"
+	call	"pie_text::row_buffer::RowBuffer::prepend_number"
 	ld	a0, 968(sp)
 	li	a1, 44
 	addi	a0, a0, -1
@@ -10572,23 +10572,23 @@ pie_link_write_excerpt:
 	addi	s0, sp, 456
 	mv	a1, s5
 	mv	s1, a7
-	call	"pie_text::row::Row::prepend_number"
+	call	"pie_text::row_buffer::RowBuffer::prepend_number"
 	addi	a0, sp, 456
 	ld	a1, 424(sp)
 	call	"pie_text::words::put_ecn"
 	slli	a1, s10, 32
 	srli	a1, a1, 32
 	addi	a0, sp, 456
-	call	"pie_text::row::Row::prepend_number"
+	call	"pie_text::row_buffer::RowBuffer::prepend_number"
 	addi	a0, sp, 456
 	mv	a1, s8
-	call	"pie_text::row::Row::prepend_number"
+	call	"pie_text::row_buffer::RowBuffer::prepend_number"
 	addi	a0, sp, 456
 	mv	a1, s1
-	call	"pie_text::row::Row::prepend_number"
+	call	"pie_text::row_buffer::RowBuffer::prepend_number"
 	addi	a0, sp, 456
 	mv	a1, s4
-	call	"pie_text::row::Row::prepend_number"
+	call	"pie_text::row_buffer::RowBuffer::prepend_number"
 	ld	a0, 968(sp)
 	li	a1, 44
 	addi	a0, a0, -1

@@ -1377,10 +1377,10 @@
 	.long	.LBB7_56-.LJTI7_4
 	.long	.LBB7_42-.LJTI7_4
 
-	.section	".text.pie_text::row::Row::prepend_number","ax",@progbits
+	.section	".text.pie_text::row_buffer::RowBuffer::prepend_number","ax",@progbits
 	.p2align	4
-	.type	"pie_text::row::Row::prepend_number",@function
-"pie_text::row::Row::prepend_number":
+	.type	"pie_text::row_buffer::RowBuffer::prepend_number",@function
+"pie_text::row_buffer::RowBuffer::prepend_number":
 	movq	%rsi, %rdx
 	movq	512(%rdi), %rsi
 	movb	$44, -1(%rdi,%rsi)
@@ -1455,7 +1455,7 @@
 	movq	%rsi, 512(%rdi)
 	retq
 .Lfunc_end8:
-	.size	"pie_text::row::Row::prepend_number", .Lfunc_end8-"pie_text::row::Row::prepend_number"
+	.size	"pie_text::row_buffer::RowBuffer::prepend_number", .Lfunc_end8-"pie_text::row_buffer::RowBuffer::prepend_number"
 
 	.section	".text.pie_text::note::put_lost","ax",@progbits
 	.p2align	4
@@ -1563,7 +1563,7 @@
 	addq	$8, %rsp
 	popq	%rbx
 	popq	%r14
-	jmp	"pie_text::row::Row::prepend_number"
+	jmp	"pie_text::row_buffer::RowBuffer::prepend_number"
 .LBB10_1:
 	retq
 .Lfunc_end10:
@@ -1870,7 +1870,7 @@
 	movaps	%xmm0, 16(%rsp)
 	movups	48(%rcx), %xmm0
 	movaps	%xmm0, (%rsp)
-	callq	"pie_text::row::Row::prepend_number"
+	callq	"pie_text::row_buffer::RowBuffer::prepend_number"
 	movaps	48(%rsp), %xmm0
 	movaps	%xmm0, 64(%rsp)
 	movaps	32(%rsp), %xmm0
@@ -1885,10 +1885,10 @@
 	callq	"pie_text::words::put_numbers"
 	movq	%rbx, %rdi
 	movq	%r14, %rsi
-	callq	"pie_text::row::Row::prepend_number"
+	callq	"pie_text::row_buffer::RowBuffer::prepend_number"
 	movzwl	%bp, %esi
 	movq	%rbx, %rdi
-	callq	"pie_text::row::Row::prepend_number"
+	callq	"pie_text::row_buffer::RowBuffer::prepend_number"
 	movq	512(%rbx), %rax
 	leaq	-1(%rax), %rcx
 	movq	%rcx, 512(%rbx)
@@ -3541,7 +3541,7 @@
 	movl	$1970368101, (%rax)
 .LBB25_14:
 	movq	%rbx, %rdi
-	callq	"pie_text::row::Row::prepend_number"
+	callq	"pie_text::row_buffer::RowBuffer::prepend_number"
 	movq	512(%rbx), %rax
 	leaq	-1(%rax), %rcx
 	movq	%rcx, 512(%rbx)
@@ -3604,16 +3604,16 @@
 .LBB25_21:
 	movl	%r12d, %esi
 	movq	%rbx, %rdi
-	callq	"pie_text::row::Row::prepend_number"
+	callq	"pie_text::row_buffer::RowBuffer::prepend_number"
 	movq	%rbx, %rdi
 	movq	%r15, %rsi
-	callq	"pie_text::row::Row::prepend_number"
+	callq	"pie_text::row_buffer::RowBuffer::prepend_number"
 	movq	%rbx, %rdi
 	movq	%r14, %rsi
-	callq	"pie_text::row::Row::prepend_number"
+	callq	"pie_text::row_buffer::RowBuffer::prepend_number"
 	movzwl	%bp, %esi
 	movq	%rbx, %rdi
-	callq	"pie_text::row::Row::prepend_number"
+	callq	"pie_text::row_buffer::RowBuffer::prepend_number"
 	movq	512(%rbx), %rax
 	leaq	-1(%rax), %rcx
 	movq	%rcx, 512(%rbx)
@@ -3719,7 +3719,7 @@
 	movq	%r12, %r13
 	shrq	$32, %r13
 	movq	%rbx, %rdi
-	callq	"pie_text::row::Row::prepend_number"
+	callq	"pie_text::row_buffer::RowBuffer::prepend_number"
 	movq	512(%rbx), %rax
 	leaq	-1(%rax), %rcx
 	movq	%rcx, 512(%rbx)
@@ -3771,10 +3771,10 @@
 .LBB27_14:
 	movq	%rbx, %rdi
 	movq	%r14, %rsi
-	callq	"pie_text::row::Row::prepend_number"
+	callq	"pie_text::row_buffer::RowBuffer::prepend_number"
 	movzwl	%bp, %esi
 	movq	%rbx, %rdi
-	callq	"pie_text::row::Row::prepend_number"
+	callq	"pie_text::row_buffer::RowBuffer::prepend_number"
 	movq	512(%rbx), %rax
 	leaq	-1(%rax), %rcx
 	movq	%rcx, 512(%rbx)
@@ -3795,10 +3795,10 @@
 .LBB27_17:
 	movq	%rbx, %rdi
 	movq	%r14, %rsi
-	callq	"pie_text::row::Row::prepend_number"
+	callq	"pie_text::row_buffer::RowBuffer::prepend_number"
 	movzwl	%bp, %esi
 	movq	%rbx, %rdi
-	callq	"pie_text::row::Row::prepend_number"
+	callq	"pie_text::row_buffer::RowBuffer::prepend_number"
 	movq	512(%rbx), %rax
 	leaq	-1(%rax), %rcx
 	movq	%rcx, 512(%rbx)
@@ -3819,10 +3819,10 @@
 .LBB27_11:
 	movq	%rbx, %rdi
 	movq	%r14, %rsi
-	callq	"pie_text::row::Row::prepend_number"
+	callq	"pie_text::row_buffer::RowBuffer::prepend_number"
 	movzwl	%bp, %esi
 	movq	%rbx, %rdi
-	callq	"pie_text::row::Row::prepend_number"
+	callq	"pie_text::row_buffer::RowBuffer::prepend_number"
 	movq	512(%rbx), %rax
 	leaq	-1(%rax), %rcx
 	movq	%rcx, 512(%rbx)
@@ -3891,16 +3891,16 @@
 .LBB27_8:
 	movl	%r12d, %esi
 	movq	%rbx, %rdi
-	callq	"pie_text::row::Row::prepend_number"
+	callq	"pie_text::row_buffer::RowBuffer::prepend_number"
 	movq	%rbx, %rdi
 	movq	%r15, %rsi
-	callq	"pie_text::row::Row::prepend_number"
+	callq	"pie_text::row_buffer::RowBuffer::prepend_number"
 	movq	%rbx, %rdi
 	movq	%r14, %rsi
-	callq	"pie_text::row::Row::prepend_number"
+	callq	"pie_text::row_buffer::RowBuffer::prepend_number"
 	movzwl	%bp, %esi
 	movq	%rbx, %rdi
-	callq	"pie_text::row::Row::prepend_number"
+	callq	"pie_text::row_buffer::RowBuffer::prepend_number"
 	movq	512(%rbx), %rax
 	leaq	-1(%rax), %rcx
 	movq	%rcx, 512(%rbx)
@@ -4022,10 +4022,10 @@
 .LBB28_9:
 	movl	%r8d, %esi
 	movq	%r12, %rdi
-	callq	"pie_text::row::Row::prepend_number"
+	callq	"pie_text::row_buffer::RowBuffer::prepend_number"
 	movq	%r12, %rdi
 	movq	%r15, %rsi
-	callq	"pie_text::row::Row::prepend_number"
+	callq	"pie_text::row_buffer::RowBuffer::prepend_number"
 	movq	512(%r12), %rax
 	leaq	-1(%rax), %rcx
 	movq	%rcx, 512(%r12)
@@ -4147,10 +4147,10 @@
 	movq	%rcx, 512(%r12)
 	movq	%r12, %rdi
 	movq	%r8, %rsi
-	callq	"pie_text::row::Row::prepend_number"
+	callq	"pie_text::row_buffer::RowBuffer::prepend_number"
 	movq	%r12, %rdi
 	movq	%r15, %rsi
-	callq	"pie_text::row::Row::prepend_number"
+	callq	"pie_text::row_buffer::RowBuffer::prepend_number"
 	movq	$2, 8(%rsp)
 	movq	%r14, 16(%rsp)
 	leaq	8(%rsp), %rdx
@@ -5013,7 +5013,7 @@ pie_write_clock:
 	movq	%rcx, 528(%rsp)
 	leaq	16(%rsp), %rdi
 	movq	%r12, %rsi
-	callq	"pie_text::row::Row::prepend_number"
+	callq	"pie_text::row_buffer::RowBuffer::prepend_number"
 	movq	528(%rsp), %rax
 	leaq	-1(%rax), %rcx
 	movq	%rcx, 528(%rsp)
@@ -5348,7 +5348,7 @@ pie_write_opening:
 	callq	"pie_text::words::put_numbers"
 	movq	%rbp, %rdi
 	movq	24(%rsp), %rsi
-	callq	"pie_text::row::Row::prepend_number"
+	callq	"pie_text::row_buffer::RowBuffer::prepend_number"
 	jmp	.LBB48_23
 .LBB48_10:
 	movl	%edx, %eax
@@ -5403,13 +5403,13 @@ pie_write_opening:
 	leaq	48(%rsp), %rbp
 	movq	%rbp, %rdi
 	movq	32(%rsp), %rsi
-	callq	"pie_text::row::Row::prepend_number"
+	callq	"pie_text::row_buffer::RowBuffer::prepend_number"
 	movq	%rbp, %rdi
 	movq	%r12, %rsi
-	callq	"pie_text::row::Row::prepend_number"
+	callq	"pie_text::row_buffer::RowBuffer::prepend_number"
 	movq	%rbp, %rdi
 	movq	40(%rsp), %rsi
-	callq	"pie_text::row::Row::prepend_number"
+	callq	"pie_text::row_buffer::RowBuffer::prepend_number"
 	movdqa	656(%rsp), %xmm2
 	movd	%xmm2, %eax
 	movzbl	7(%rsp), %r8d
@@ -6754,10 +6754,10 @@ pie_write_queued:
 	movl	%r13d, %esi
 	leaq	32(%rsp), %r12
 	movq	%r12, %rdi
-	callq	"pie_text::row::Row::prepend_number"
+	callq	"pie_text::row_buffer::RowBuffer::prepend_number"
 	movq	%r12, %rdi
 	movq	16(%rsp), %rsi
-	callq	"pie_text::row::Row::prepend_number"
+	callq	"pie_text::row_buffer::RowBuffer::prepend_number"
 	movq	544(%rsp), %rax
 	leaq	-1(%rax), %rcx
 	movq	%rcx, 544(%rsp)
@@ -6858,7 +6858,7 @@ pie_write_refused:
 	movq	$510, 528(%rsp)
 	leaq	16(%rsp), %rdi
 	movq	%r12, %rsi
-	callq	"pie_text::row::Row::prepend_number"
+	callq	"pie_text::row_buffer::RowBuffer::prepend_number"
 	movq	528(%rsp), %rax
 	leaq	-1(%rax), %rcx
 	movq	%rcx, 528(%rsp)

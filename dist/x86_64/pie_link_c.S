@@ -2415,10 +2415,10 @@
 .Lfunc_end15:
 	.size	"pie_text::long_row::LongRow::number", .Lfunc_end15-"pie_text::long_row::LongRow::number"
 
-	.section	".text.pie_text::row::Row::prepend_number","ax",@progbits
+	.section	".text.pie_text::row_buffer::RowBuffer::prepend_number","ax",@progbits
 	.p2align	4
-	.type	"pie_text::row::Row::prepend_number",@function
-"pie_text::row::Row::prepend_number":
+	.type	"pie_text::row_buffer::RowBuffer::prepend_number",@function
+"pie_text::row_buffer::RowBuffer::prepend_number":
 	movq	%rsi, %rdx
 	movq	512(%rdi), %rsi
 	movb	$44, -1(%rdi,%rsi)
@@ -2493,7 +2493,7 @@
 	movq	%rsi, 512(%rdi)
 	retq
 .Lfunc_end16:
-	.size	"pie_text::row::Row::prepend_number", .Lfunc_end16-"pie_text::row::Row::prepend_number"
+	.size	"pie_text::row_buffer::RowBuffer::prepend_number", .Lfunc_end16-"pie_text::row_buffer::RowBuffer::prepend_number"
 
 	.section	".text.pie_text::words::put_numbers","ax",@progbits
 	.p2align	4
@@ -2515,7 +2515,7 @@
 	addq	$8, %rsp
 	popq	%rbx
 	popq	%r14
-	jmp	"pie_text::row::Row::prepend_number"
+	jmp	"pie_text::row_buffer::RowBuffer::prepend_number"
 .LBB17_1:
 	retq
 .Lfunc_end17:
@@ -9727,10 +9727,10 @@ pie_link_write_excerpt:
 .LBB35_52:
 	leaq	104(%rsp), %r14
 	movq	%r14, %rdi
-	callq	"pie_text::row::Row::prepend_number"
+	callq	"pie_text::row_buffer::RowBuffer::prepend_number"
 	movq	%r14, %rdi
 	movq	%rbx, %rsi
-	callq	"pie_text::row::Row::prepend_number"
+	callq	"pie_text::row_buffer::RowBuffer::prepend_number"
 	movq	616(%rsp), %rax
 	leaq	-1(%rax), %rcx
 	movq	%rcx, 616(%rsp)
@@ -9956,10 +9956,10 @@ pie_link_write_excerpt:
 	movl	%eax, %esi
 	leaq	104(%rsp), %r14
 	movq	%r14, %rdi
-	callq	"pie_text::row::Row::prepend_number"
+	callq	"pie_text::row_buffer::RowBuffer::prepend_number"
 	movq	%r14, %rdi
 	movq	96(%rsp), %rsi
-	callq	"pie_text::row::Row::prepend_number"
+	callq	"pie_text::row_buffer::RowBuffer::prepend_number"
 	movq	616(%rsp), %rax
 	leaq	-1(%rax), %rcx
 	movq	%rcx, 616(%rsp)
@@ -10077,10 +10077,10 @@ pie_link_write_excerpt:
 	movq	%rdi, 616(%rsp)
 	leaq	104(%rsp), %r14
 	movq	%r14, %rdi
-	callq	"pie_text::row::Row::prepend_number"
+	callq	"pie_text::row_buffer::RowBuffer::prepend_number"
 	movq	%r14, %rdi
 	movq	40(%rsp), %rsi
-	callq	"pie_text::row::Row::prepend_number"
+	callq	"pie_text::row_buffer::RowBuffer::prepend_number"
 	pxor	%xmm0, %xmm0
 	xorl	%edi, %edi
 	movzbl	%r12b, %eax
@@ -10097,10 +10097,10 @@ pie_link_write_excerpt:
 	leaq	104(%rsp), %rbx
 	movq	%rbx, %rdi
 	movq	%r10, %r14
-	callq	"pie_text::row::Row::prepend_number"
+	callq	"pie_text::row_buffer::RowBuffer::prepend_number"
 	movq	%rbx, %rdi
 	movq	%r14, %rsi
-	callq	"pie_text::row::Row::prepend_number"
+	callq	"pie_text::row_buffer::RowBuffer::prepend_number"
 	movq	616(%rsp), %rax
 	leaq	-1(%rax), %rcx
 	movq	%rcx, 616(%rsp)
@@ -10138,7 +10138,7 @@ pie_link_write_excerpt:
 	movq	%r14, %rdi
 	movq	%r8, %r12
 	movq	%r9, %r13
-	callq	"pie_text::row::Row::prepend_number"
+	callq	"pie_text::row_buffer::RowBuffer::prepend_number"
 	movq	%rbx, 624(%rsp)
 	movq	%r12, 632(%rsp)
 	movq	%r13, 640(%rsp)
@@ -10154,10 +10154,10 @@ pie_link_write_excerpt:
 	callq	"pie_text::words::put_numbers"
 	movq	%r14, %rdi
 	movq	48(%rsp), %rsi
-	callq	"pie_text::row::Row::prepend_number"
+	callq	"pie_text::row_buffer::RowBuffer::prepend_number"
 	movq	%r14, %rdi
 	movq	24(%rsp), %rsi
-	callq	"pie_text::row::Row::prepend_number"
+	callq	"pie_text::row_buffer::RowBuffer::prepend_number"
 	movq	616(%rsp), %rax
 	leaq	-1(%rax), %rcx
 	movq	%rcx, 616(%rsp)
@@ -10179,10 +10179,10 @@ pie_link_write_excerpt:
 	leaq	104(%rsp), %rbx
 	movq	%rbx, %rdi
 	movq	%r10, %r14
-	callq	"pie_text::row::Row::prepend_number"
+	callq	"pie_text::row_buffer::RowBuffer::prepend_number"
 	movq	%rbx, %rdi
 	movq	%r14, %rsi
-	callq	"pie_text::row::Row::prepend_number"
+	callq	"pie_text::row_buffer::RowBuffer::prepend_number"
 	movq	616(%rsp), %rax
 	leaq	-1(%rax), %rcx
 	movq	%rcx, 616(%rsp)
@@ -10205,10 +10205,10 @@ pie_link_write_excerpt:
 	leaq	104(%rsp), %rbx
 	movq	%rbx, %rdi
 	movq	%r10, %r14
-	callq	"pie_text::row::Row::prepend_number"
+	callq	"pie_text::row_buffer::RowBuffer::prepend_number"
 	movq	%rbx, %rdi
 	movq	%r14, %rsi
-	callq	"pie_text::row::Row::prepend_number"
+	callq	"pie_text::row_buffer::RowBuffer::prepend_number"
 	movq	616(%rsp), %rax
 	leaq	-1(%rax), %rcx
 	movq	%rcx, 616(%rsp)
@@ -10364,7 +10364,7 @@ pie_link_write_excerpt:
 	movq	%rsi, 48(%rsp)
 	leaq	104(%rsp), %rdi
 	movq	%r8, %rsi
-	callq	"pie_text::row::Row::prepend_number"
+	callq	"pie_text::row_buffer::RowBuffer::prepend_number"
 	movq	616(%rsp), %rax
 	leaq	-1(%rax), %rcx
 	movq	%rcx, 616(%rsp)
@@ -10433,16 +10433,16 @@ pie_link_write_excerpt:
 	movl	%ebx, %esi
 	leaq	104(%rsp), %rbx
 	movq	%rbx, %rdi
-	callq	"pie_text::row::Row::prepend_number"
+	callq	"pie_text::row_buffer::RowBuffer::prepend_number"
 	movq	%rbx, %rdi
 	movq	%r14, %rsi
-	callq	"pie_text::row::Row::prepend_number"
+	callq	"pie_text::row_buffer::RowBuffer::prepend_number"
 	movq	%rbx, %rdi
 	movq	48(%rsp), %rsi
-	callq	"pie_text::row::Row::prepend_number"
+	callq	"pie_text::row_buffer::RowBuffer::prepend_number"
 	movq	%rbx, %rdi
 	movq	24(%rsp), %rsi
-	callq	"pie_text::row::Row::prepend_number"
+	callq	"pie_text::row_buffer::RowBuffer::prepend_number"
 	movq	616(%rsp), %rax
 	leaq	-1(%rax), %rcx
 	movq	%rcx, 616(%rsp)

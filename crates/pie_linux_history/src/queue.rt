@@ -164,9 +164,15 @@ impl Queue {
         self.count = self.count.wrapping_add(1);
     }
 
-    /// Finds the last departures that the kernel counts again, since the device returned them, from the recorded bytes.
+    /// Finds the packets that the kernel counts again, since the device returned them, from the recorded bytes: the last
+    /// departures, or segments of the last one, of which the kernel gives each the length of the whole.
     fn count_again(&mut self, recorded: u32) {
         let more = recorded.wrapping_sub(self.numbers.bytes);
+        let last = self.sent[self.count.wrapping_sub(1) % RETURNED];
+        if last > 0 && more > 0 && more % last == 0 {
+            self.numbers.peeked = Some(more);
+            self.numbers.peeked_packets = more / last;
+        }
         let mut bytes: u32 = 0;
         for packets in 0..RETURNED {
             if bytes >= more {

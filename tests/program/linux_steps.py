@@ -1,7 +1,8 @@
 #!/usr/bin/env python3
 """Tests `pie audit` and `pie explain` of a text of pie-watch, with steps that were recorded on Debian 12's kernel 6.1, unmodified
 (tests/rows/linux_steps.csv: four queues, each from its beginning or taken over while it ran; then a pie and an fq_pie with their rows mixed, a queue
-of which steps were lost, and one that a lower limit shortens; and a part of a queue of kernel 6.12, whose device returned 22 of 30 packets).
+of which steps were lost, and one that a lower limit shortens; and parts of two queues of kernel 6.12, whose devices returned 22 of 30 packets, and 7
+segments of one packet).
 
 - Every step is decided as the kernel did.
 - If one recorded number is changed, standard output has the event, and standard error its queue, step and column, the changed number and the right

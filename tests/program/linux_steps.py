@@ -95,7 +95,7 @@ lost = sum(int(row[1]) for row in LOST)
 steps = sum(field(row, "type") not in ("", "flow", "wait") for row in ROWS)
 WERE_LOST = f"pie: steps that were lost when the text was recorded: {lost}\n"
 CLEAN = (0, f"clean,{len(ROWS)}\n", WERE_LOST)
-check(run(ROWS) == CLEAN and steps == 342 and lost == 18829, "the recorded steps:", run(ROWS), steps, lost)
+check(run(ROWS) == CLEAN and steps == 396 and lost == 18829, "the recorded steps:", run(ROWS), steps, lost)
 tried = 0
 for (kind, step), names in COMPARED.items():
     at = first(kind, step)

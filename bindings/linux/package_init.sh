@@ -37,7 +37,8 @@ records() {
     tc -s -j qdisc show dev eth0 > "$name.later"
     pie audit "$name.csv" > "$name.found" 2>&1 || echo "FAILED pie audit $name"
     echo "TOLD pie audit: $(tr '\n' ' ' < "$name.found")"
-    pie explain --lost "$name.csv" > "$name.lost" || echo "FAILED pie explain $name"
+    # (on the console pie would report its progress)
+    pie explain --lost "$name.csv" > "$name.lost" 2> "$name.errors" || { echo "FAILED pie explain $name"; cat "$name.errors"; }
     tc qdisc del dev eth0 root
 }
 records pie $packets pie

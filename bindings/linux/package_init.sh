@@ -43,6 +43,8 @@ records() {
 }
 records pie $packets pie
 records fq_pie $((packets / 4)) fq_pie ecn
+# (in the others a fast machine drops no packet)
+records short $((packets / 4)) pie limit 5
 dmesg | grep -E 'WARNING|BUG|Oops|Call Trace'
 tar -cf - ./*.csv ./*.json ./*.later ./*.lost > /dev/vdb || echo "FAILED tar"
 sync

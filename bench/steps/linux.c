@@ -124,7 +124,7 @@ static bool near(double one, double other, double most) {
 /* ---- the text */
 
 static struct watch_text text;
-static struct pie_vars written; /* the registers by the rows so far */
+static struct pie_vars written; /* the registers after the last row */
 static u32 sequence;
 
 static struct watch_head head_of(enum watch_type type, u64 moment) {

@@ -17,5 +17,5 @@ pub use Rattle.std.specs.{List.cons_option, List.last_or, Option.option_or, Prel
 unfoldable pub use Rattle.pie_aqm.specs.History.{places}
 unfoldable pub use Rattle.pie_audit.specs.{AreLinesOf, agrees, agrees_in, difference_from, event_count, events_of, text_fault, text_lines, history_opening, line_places, opening_of, beginning_of, rows_text, setter_among, version_of, waiting_after}
 unfoldable pub use Rattle.pie_book.specs.{Core.core_along, Statistics.registers_after}
-unfoldable pub use Rattle.pie_excerpt.specs.Reading.{queued_row, resume_row}
+unfoldable pub use Rattle.pie_excerpt.specs.Preamble.{queued_row, resume_row}
 unfoldable pub use Rattle.pie_record.specs.HistoryLines.{after_opening, history_version}

@@ -24,7 +24,7 @@ pub use Rattle.pie_event.specs.declared.command.Event.{Event}
 pub use Rattle.pie_event.specs.declared.opening.Opening.{Opening}
 pub use Rattle.pie_event.specs.declared.setter.Setter.{Setter}
 pub use Rattle.pie_event.specs.declared.verdict.Verdict.TheVariants.{DroppedBytes, DroppedEarly, DroppedPackets, Enqueued, Marked}
-unfoldable pub use Rattle.pie_excerpt.specs.Reading.{queued_row, resume_row}
+unfoldable pub use Rattle.pie_excerpt.specs.Preamble.{queued_row, resume_row}
 pub use Rattle.pie_excerpt.specs.Beginning.{resumed_rows, resume_with}
 pub use Rattle.pie_explain.specs.Explanation.{moment_of, with_after}
 unfoldable pub use Rattle.pie_explain.specs.Explanation.{explanation}

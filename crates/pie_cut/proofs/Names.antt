@@ -10,7 +10,7 @@ pub use Rattle.pie_cut.specs.declared.{joint_audit.Joined.Joined, joint_audit.Jo
 pub use Rattle.pie_cut.specs.declared.joint_audit.Joint.TheVariants.{Gap, Unlike}
 pub use Rattle.pie_event.specs.Event.{CommandFits}
 pub use Rattle.pie_excerpt.proofs.BackFacts.{packets-some, text-back}
-pub use Rattle.pie_excerpt.specs.{Beginning.Beginning, Reading.ResumeFits, declared.resume.Resume.Resume}
+pub use Rattle.pie_excerpt.specs.{Beginning.Beginning, Preamble.ResumeFits, declared.resume.Resume.Resume}
 pub use Rattle.pie_explain.proofs.ExplainFacts.{all-written, appends-more, appends-page, by-lines, moment-represents}
 pub use Rattle.pie_record.proofs.InputFacts.{LineFits, event_count-cons, field-reads, latest_clock-none, latest_clock-push, line-again, lines-fit, lines_from-failed, lines_from-line, lines_from-none, reads-one}
 pub use Rattle.pie_record.specs.{Text.HasField, Write.line_rows, Write.line_unless_note, Write.without_notes}

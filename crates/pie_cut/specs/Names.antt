@@ -8,7 +8,7 @@ pub use Rattle.pie_book.specs.{Snapshot.snapshot_of, Core.CoreView, Core.Represe
 pub use Rattle.pie_book.specs.declared.snapshot.CoreSnapshot.{CoreSnapshot}
 pub use Rattle.pie_event.specs.Event.{are_in_range, opening_refusal}
 pub use Rattle.pie_event.specs.declared.{command.Event.Event, opening.Limits.Limits, opening.Opening.Opening, setter.Setter.Setter}
-pub use Rattle.pie_excerpt.specs.{Beginning.Continues, Beginning.is_set_within, Reading.WaitingFits, Reading.queued_row}
+pub use Rattle.pie_excerpt.specs.{Beginning.Continues, Beginning.is_set_within, Preamble.WaitingFits, Preamble.queued_row}
 pub use Rattle.pie_excerpt.specs.Beginning.{IsWritten, resume_with, resumed_rows, rows_from}
 pub use Rattle.pie_queue.specs.declared.packet.Waiting.{Waiting}
 pub use Rattle.pie_record.specs.{Field.is_io_or_memory, ReadBack.EventFits, Text.Row, Text.records_of, Text.text_of, Write.change_event, Write.line_rows}
@@ -20,5 +20,5 @@ pub use Rattle.std.specs.List.{cons_option, filter_map, find, flat_map}
 pub use Rattle.std.specs.Prelude.{All, Bool, Err, IfErr, IfOk, IfSome, List, None, Ok, OnOk, Option, Result, Some, [], false, length, map, min, nat_le, nat_lt, not, suc, true, zero, ℕ, ⊤}
 unfoldable pub use Rattle.pie_audit.specs.{Replay.difference_from, Replay.events_of, Replay.line_places, Text.text_fault, Text.text_lines}
 unfoldable pub use Rattle.pie_book.specs.{Core.core_along, History.waiting_after}
-unfoldable pub use Rattle.pie_excerpt.specs.Reading.{resume_row}
+unfoldable pub use Rattle.pie_excerpt.specs.Preamble.{resume_row}
 unfoldable pub use Rattle.pie_record.specs.{HistoryLines.event_count, Text.rows_text}

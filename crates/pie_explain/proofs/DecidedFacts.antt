@@ -13,7 +13,7 @@ use Rattle.pie_book.specs.Decision.{decision, refusal_by_rule}
 use Rattle.pie_book.specs.StateAfter.{delay_after}
 use Rattle.pie_book.specs.Statistics.{registers_after, wait_of}
 use Rattle.pie_book.specs.Book.{refused_or}
-use Rattle.pie_book.specs.Snapshot.{step_in}
+use Rattle.pie_book.specs.Book.{step_in}
 use Rattle.pie_event.specs.Event.{effect}
 use Rattle.pie_event.specs.declared.command.Answer.{Answer}
 use Rattle.pie_event.specs.declared.command.Event.{Event}

@@ -8,7 +8,7 @@ use Rattle.pie_audit.specs.declared.auditor.Finding.TheVariants.{Clean, Differs}
 use Rattle.pie_book.specs.Core.{CoreView, answer_in, core_along}
 use Rattle.pie_book.specs.Decision.{decision, refusal_by_rule}
 use Rattle.pie_book.specs.Book.{refused_or}
-use Rattle.pie_book.specs.Snapshot.{step_in}
+use Rattle.pie_book.specs.Book.{step_in}
 use Rattle.pie_book.specs.Statistics.{wait_of}
 use Rattle.pie_event.specs.Event.{effect}
 use Rattle.pie_event.specs.declared.command.Answer.{Answer}

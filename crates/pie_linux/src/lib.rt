@@ -31,7 +31,7 @@
 mod arrival;
 mod cause;
 mod departure;
-mod early;
+mod enqueue;
 mod params;
 mod queue;
 mod state;

@@ -15,7 +15,7 @@ pub use Rattle.std.proofs.KnownBytes.{Appends-nil, Appends-trans, Keeps-refl, ap
 pub use Rattle.std.proofs.lemmas.List.Elements.{All-append, All-cons, All-nil, filter_map-append}
 pub use Rattle.std.specs.{List.filter_map, Prelude.All, Prelude.OnErr, Prelude.codes, Prelude.nat_lt, Prelude.option_map}
 unfoldable pub use Rattle.csv.specs.Records.{field_at}
-unfoldable pub use Rattle.pie_excerpt.specs.{Beginning.beginning_of, Reading.resume_of}
+unfoldable pub use Rattle.pie_excerpt.specs.{Beginning.beginning_of, Preamble.resume_of}
 unfoldable pub use Rattle.pie_record.specs.{Command.command_kind, Field.number, ReadBack.AreLinesOf, Write.command_fields}
 unfoldable pub use Rattle.pie_record.specs.FirstRecord.{draft_at, limits_at, version_one_fields}
 unfoldable pub use Rattle.pie_record.specs.HistoryLines.{event_count, fault_from, lines_from}

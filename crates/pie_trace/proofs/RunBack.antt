@@ -3,7 +3,7 @@ use Rattle.pie_trace.proofs.Names.{All, All-append, All-cons, All-nil, AreLegal,
 use Rattle.pie_audit.specs.{Replay.event_in, Replay.events_of, Replay.EventsAreLines}
 use Rattle.pie_audit.specs.Text.{IsTextAfter, IsFound, text_fault, text_lines, fault_after, whole_finding}
 use Rattle.pie_event.specs.Event.{CommandFits, ParamsFit}
-use Rattle.pie_excerpt.specs.{Beginning.IsWellBegun, Beginning.Continues, Reading.resume_of, Reading.queued_row, declared.resume.Resume.Resume}
+use Rattle.pie_excerpt.specs.{Beginning.IsWellBegun, Beginning.Continues, Preamble.resume_of, Preamble.queued_row, declared.resume.Resume.Resume}
 use Rattle.pie_queue.specs.declared.packet.Waiting.{Waiting}
 use Rattle.pie_record.specs.{FirstRecord.opening_by, declared.history_record.Line.TheVariants.Note, declared.history_record.Line.TheVariants.Valid}
 use Rattle.pie_text.specs.Plain.{lost_row}

@@ -7,7 +7,7 @@ use Rattle.pie_trace.specs.declared.run.RunEnd.{RunEnd}
 use Rattle.std.specs.Prelude.{if◌then◌else◌, ◌+◌, ◌∷◌, ◌≡◌, ◌++◌, ◌==◌}
 use Rattle.pie_record.specs.declared.trace_record.Request.TheVariants as request
 use Rattle.pie_excerpt.specs.Beginning.{fault_within}
-use Rattle.pie_excerpt.specs.Reading.{resume_of}
+use Rattle.pie_excerpt.specs.Preamble.{resume_of}
 use Rattle.pie_excerpt.specs.declared.resume.Resume.{Resume}
 use Rattle.pie_trace.specs.declared.session.Session.{Session}
 use Rattle.pie_record.specs.declared.fault.TraceFault.TheVariants as fault

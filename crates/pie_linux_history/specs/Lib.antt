@@ -1,2 +1,4 @@
 pub mod Differences
 pub mod Decisions
+pub mod Audit
+pub mod Columns

@@ -1,5 +1,8 @@
 //! The columns of a text of steps, and the fields of its rows.
 ghost use Rattle.std.specs.Prelude.{◌≡◌, ◌<◌, ◌∷◌, codes, get_or, map};
+ghost use Rattle.pie_record.specs.declared.fault.TraceFault.TheVariants.{Memory};
+ghost use Rattle.pie_record.specs.Field.{fault_at};
+ghost use Rattle.pie_linux_history.specs.declared.fault.StepsFault.TheVariants.{Trace};
 ghost use Rattle.pie_linux_history.specs.Columns.{collected, column_at, columns_of, decimal_at, field_or, flow_at, has_flows_at, hex_digit, hexadecimal_after, hexadecimal_at, kind_at, most_of, name_of, narrow, lost_in, numbers_of, params_of, place_from, state_of, step_in, step_of};
 
 use crate::fault::StepsFault;
@@ -474,11 +477,15 @@ pub(crate) fn lost_at(fields: &Record) -> Result<Option<(QueueName, u64)>, Recor
 }
 
 /// Returns the fault of record `row`.
-pub(crate) fn fault_at(row: u64, why: RecordFault) -> StepsFault {
+pub(crate) fn fault_at(row: u64, why: RecordFault) -> StepsFault
+    ensures { result ≡ Trace (fault_at row why) }
+{
     StepsFault::Trace(why.at(row))
 }
 
 /// Returns the fault of a failed allocation.
-pub(crate) fn out_of_memory() -> StepsFault {
+pub(crate) fn out_of_memory() -> StepsFault
+    ensures { result ≡ Trace Memory }
+{
     StepsFault::Trace(TraceFault::Memory)
 }

@@ -1,0 +1,3 @@
+pub mod ColumnFacts
+pub mod QueueFacts
+pub mod AuditFacts

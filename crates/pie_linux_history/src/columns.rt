@@ -1,4 +1,10 @@
 //! The columns of a text of steps, and the fields of its rows.
+ghost use Rattle.std.specs.Prelude.{◌≡◌, ◌<◌, ◌∷◌, codes, get_or, map};
+ghost use Rattle.pie_record.specs.declared.fault.TraceFault.TheVariants.{Memory};
+ghost use Rattle.pie_record.specs.Field.{fault_at};
+ghost use Rattle.pie_linux_history.specs.declared.fault.StepsFault.TheVariants.{Trace};
+ghost use Rattle.pie_linux_history.specs.Columns.{collected, column_at, columns_of, decimal_at, field_or, flow_at, has_flows_at, hex_digit, hexadecimal_after, hexadecimal_at, kind_at, most_of, name_of, narrow, lost_in, numbers_of, params_of, place_from, state_of, step_in, step_of};
+
 use crate::fault::StepsFault;
 use crate::step::{Kind, QueueName, Step};
 use pie_linux::{LinuxParams, LinuxState, LinuxStats, MarkLimit};
@@ -81,22 +87,6 @@ const NAMES: [&str; COUNT] = [
     "kind",
 ];
 
-/// The words of the column `type`.
-const KINDS: [(&str, Kind); 12] = [
-    ("enq", Kind::Enqueue),
-    ("deq", Kind::Dequeue),
-    ("calc", Kind::Update),
-    ("timer", Kind::Timer),
-    ("wait", Kind::Wait),
-    ("flow", Kind::Flow),
-    ("init", Kind::Init),
-    ("resume", Kind::Resume),
-    ("change", Kind::Change),
-    ("reset", Kind::Reset),
-    ("destroy", Kind::Destroy),
-    ("empty", Kind::Empty),
-];
-
 /// The places of the columns in a row.
 #[derive(Drop)]
 pub(crate) struct Columns {
@@ -106,13 +96,28 @@ pub(crate) struct Columns {
 }
 
 /// Returns the name of the column with this place in [`NAMES`]; of the place behind them, `qid`.
-pub(crate) fn name_of(place: usize) -> &'static str {
-    NAMES.get(place).copied().unwrap_or("qid")
+pub(crate) fn name_of(place: usize) -> &'static str
+    ensures { result.now ≡ name_of place }
+{
+    name_in(&NAMES, place)
+}
+
+/// Returns the name with this place in a table; of a place behind it, `qid`.
+fn name_in(table: &[&'static str], place: usize) -> &'static str
+    ensures { result.now ≡ get_or (map (λ name. name.now) table.now) place (codes "qid") }
+{
+    if place < table.len() {
+        table[place]
+    } else {
+        "qid"
+    }
 }
 
 /// Returns the place of the column with this name.
 #[inline(never)]
-fn place_of(names: &Record, name: &str) -> Option<usize> {
+fn place_of(names: &Record, name: &str) -> Option<usize>
+    ensures { result ≡ place_from 0 name.now names.now }
+{
     for place in 0..names.len() {
         if has_word(names, place, name.as_bytes()) {
             return Some(place);
@@ -121,55 +126,167 @@ fn place_of(names: &Record, name: &str) -> Option<usize> {
     None
 }
 
+/// Returns the place of the column with this number in [`NAMES`].
+fn column_at(names: &Record, column: usize) -> Result<usize, StepsFault>
+    ensures { result ≡ column_at names.now column }
+{
+    match place_of(names, name_of(column)) {
+        Some(place) => Ok(place),
+        None => Err(StepsFault::NoColumn(column)),
+    }
+}
+
+/// Returns the place of each column.
+fn places_of(names: &Record) -> Result<[usize; COUNT], StepsFault>
+    ensures { result ≡ collected (column_at names.now) 52 }
+{
+    let mut places = [0; COUNT];
+    for column in 0..COUNT {
+        match column_at(names, column) {
+            Ok(place) => places[column] = place,
+            Err(why) => return Err(why),
+        }
+    }
+    Ok(places)
+}
+
+/// Returns the field at a place, empty if there is none.
+fn field_or(fields: &Record, place: usize) -> &[u8]
+    ensures { result.now ≡ field_or fields.now place }
+{
+    match fields.get(place) {
+        Some(field) => field,
+        None => &[],
+    }
+}
+
 /// Returns the number of a field, at most `most`. An empty field is 0.
 #[inline(never)]
-fn decimal(fields: &Record, place: usize, most: u64) -> Result<u64, RecordFault> {
-    let field = fields.get(place).unwrap_or(&[]);
-    if field.is_empty() {
-        return Ok(0);
+#[tactic(auto, unfolding(crate::specs::Columns::decimal_at))]
+fn decimal(fields: &Record, place: usize, most: u64) -> Result<u64, RecordFault>
+    ensures { result ≡ decimal_at fields.now place most }
+{
+    let field = field_or(fields, place);
+    match field {
+        [] => Ok(0),
+        _ => number(field, most).ok_or(RecordFault::Number),
     }
-    number(field, most).ok_or(RecordFault::Number)
+}
+
+/// Returns the value of a hexadecimal digit in a small letter.
+fn hex_digit(byte: u8) -> Option<u8>
+    ensures { result ≡ hex_digit byte }
+{
+    match byte {
+        b'0'..=b'9' => Some(byte - b'0'),
+        b'a'..=b'f' => Some(byte - b'a' + 10),
+        _ => None,
+    }
+}
+
+/// Returns the number that hexadecimal digits write after those of `value`.
+#[tactic(auto, unfolding(crate::specs::Columns::hexadecimal_after))]
+fn hexadecimal_after(value: u16, digits: &[u8]) -> Result<u16, RecordFault>
+    ensures { result ≡ hexadecimal_after value digits.now }
+{
+    match digits {
+        [] => Ok(value),
+        [byte, rest @ ..] => match hex_digit(*byte) {
+            Some(digit) => {
+                hexadecimal_after(value.wrapping_mul(16).wrapping_add(u16::from(digit)), rest)
+            }
+            None => Err(RecordFault::Number),
+        },
+    }
+}
+
+/// Returns the greatest number of a column.
+#[inline(always)]
+fn most_of(column: usize) -> u64
+    ensures { result ≡ most_of column }
+{
+    if column < WIDE {
+        u64::MAX
+    } else {
+        u64::from(u32::MAX)
+    }
 }
 
 /// Returns the number of a field with at most four hexadecimal digits. An empty field is 0.
-fn hexadecimal(fields: &Record, place: usize) -> Result<u16, RecordFault> {
-    let field = fields.get(place).unwrap_or(&[]);
+#[tactic(auto, unfolding(crate::specs::Columns::hexadecimal_at))]
+fn hexadecimal(fields: &Record, place: usize) -> Result<u16, RecordFault>
+    ensures { result ≡ hexadecimal_at fields.now place }
+{
+    let field = field_or(fields, place);
     if field.len() > 4 {
         return Err(RecordFault::Number);
     }
-    let mut value: u16 = 0;
-    for byte in field {
-        let digit = match *byte {
-            b'0'..=b'9' => *byte - b'0',
-            b'a'..=b'f' => *byte - b'a' + 10,
-            _ => return Err(RecordFault::Number),
-        };
-        value = value.wrapping_mul(16).wrapping_add(u16::from(digit));
-    }
-    Ok(value)
+    hexadecimal_after(0, field)
 }
 
 /// Returns the flow in a field, `None` for -1.
-fn flow_at(fields: &Record, place: usize) -> Result<Option<u32>, RecordFault> {
+#[tactic(auto, unfolding(crate::specs::Columns::flow_at))]
+fn flow_at(fields: &Record, place: usize) -> Result<Option<u32>, RecordFault>
+    ensures { result ≡ flow_at fields.now place }
+{
     if has_word(fields, place, b"-1") {
         return Ok(None);
     }
-    let flow = decimal(fields, place, u64::from(u32::MAX))?;
-    Ok(Some(narrow(flow)))
+    match decimal(fields, place, u64::from(u32::MAX)) {
+        Ok(flow) => Ok(Some(narrow(flow))),
+        Err(why) => Err(why),
+    }
 }
 
 /// Returns the kind of a step with the word of this field.
-fn kind_at(fields: &Record, place: usize) -> Result<Kind, RecordFault> {
-    for (word, kind) in KINDS {
-        if has_word(fields, place, word.as_bytes()) {
-            return Ok(kind);
-        }
+#[tactic(auto, unfolding(crate::specs::Columns::kind_at))]
+fn kind_at(fields: &Record, place: usize) -> Result<Kind, RecordFault>
+    ensures { result ≡ kind_at fields.now place }
+{
+    if has_word(fields, place, b"enq") {
+        return Ok(Kind::Enqueue);
+    }
+    if has_word(fields, place, b"deq") {
+        return Ok(Kind::Dequeue);
+    }
+    if has_word(fields, place, b"calc") {
+        return Ok(Kind::Update);
+    }
+    if has_word(fields, place, b"timer") {
+        return Ok(Kind::Timer);
+    }
+    if has_word(fields, place, b"wait") {
+        return Ok(Kind::Wait);
+    }
+    if has_word(fields, place, b"flow") {
+        return Ok(Kind::Flow);
+    }
+    if has_word(fields, place, b"init") {
+        return Ok(Kind::Init);
+    }
+    if has_word(fields, place, b"resume") {
+        return Ok(Kind::Resume);
+    }
+    if has_word(fields, place, b"change") {
+        return Ok(Kind::Change);
+    }
+    if has_word(fields, place, b"reset") {
+        return Ok(Kind::Reset);
+    }
+    if has_word(fields, place, b"destroy") {
+        return Ok(Kind::Destroy);
+    }
+    if has_word(fields, place, b"empty") {
+        return Ok(Kind::Empty);
     }
     Err(RecordFault::Word)
 }
 
 /// Returns true for `fq_pie` and false for `pie`.
-fn has_flows_at(fields: &Record, place: usize) -> Result<bool, RecordFault> {
+#[tactic(auto, unfolding(crate::specs::Columns::has_flows_at))]
+fn has_flows_at(fields: &Record, place: usize) -> Result<bool, RecordFault>
+    ensures { result ≡ has_flows_at fields.now place }
+{
     if has_word(fields, place, b"pie") {
         return Ok(false);
     }
@@ -181,39 +298,39 @@ fn has_flows_at(fields: &Record, place: usize) -> Result<bool, RecordFault> {
 
 impl Columns {
     /// Finds the columns in the first row.
-    pub(crate) fn find(names: &Record) -> Result<Columns, StepsFault> {
-        let mut places = [0; COUNT];
-        for column in 0..COUNT {
-            match place_of(names, NAMES[column]) {
-                Some(place) => places[column] = place,
-                None => return Err(StepsFault::NoColumn(column)),
-            }
-        }
-        match place_of(names, "qid") {
-            Some(queue) => Ok(Columns {
+    #[tactic(auto, unfolding(crate::specs::Columns::columns_of))]
+    pub(crate) fn find(names: &Record) -> Result<Columns, StepsFault>
+        ensures { result ≡ columns_of names.now }
+    {
+        let places = match places_of(names) {
+            Ok(places) => places,
+            Err(why) => return Err(why),
+        };
+        match column_at(names, COUNT) {
+            Ok(queue) => Ok(Columns {
                 queue,
                 places,
                 count: names.len(),
             }),
-            None => Err(StepsFault::NoColumn(COUNT)),
+            Err(why) => Err(why),
         }
     }
 
     /// Returns the name of the queue of a row.
-    pub(crate) fn queue<'f>(&self, fields: &'f Record) -> &'f [u8] {
-        fields.get(self.queue).unwrap_or(&[])
+    pub(crate) fn queue<'f>(&self, fields: &'f Record) -> &'f [u8]
+        ensures { result.now ≡ field_or fields.now self.now.queue }
+    {
+        field_or(fields, self.queue)
     }
 
     /// Reads the numbers of a row.
-    fn numbers(&self, fields: &Record) -> Result<[u64; NUMBERS], RecordFault> {
+    #[tactic(auto, unfolding(crate::specs::Columns::numbers_of))]
+    fn numbers(&self, fields: &Record) -> Result<[u64; NUMBERS], RecordFault>
+        ensures { result ≡ numbers_of self.now fields.now }
+    {
         let mut numbers = [0; NUMBERS];
         for column in 0..NUMBERS {
-            let most = if column < WIDE {
-                u64::MAX
-            } else {
-                u64::from(u32::MAX)
-            };
-            match decimal(fields, self.places[column], most) {
+            match decimal(fields, self.places[column], most_of(column)) {
                 Ok(number) => numbers[column] = number,
                 Err(why) => return Err(why),
             }
@@ -223,7 +340,10 @@ impl Columns {
 
     /// Reads a row.
     #[inline(never)]
-    pub(crate) fn read(&self, fields: &Record) -> Result<Step, RecordFault> {
+    #[tactic(auto, unfolding(crate::specs::Columns::step_in, crate::specs::Columns::place_from))]
+    pub(crate) fn read(&self, fields: &Record) -> Result<Step, RecordFault>
+        ensures { result ≡ step_in self.now fields.now }
+    {
         if fields.len() != self.count {
             return Err(RecordFault::Fields);
         }
@@ -233,31 +353,36 @@ impl Columns {
         let protocol = hexadecimal(fields, self.places[PROTOCOL])?;
         let header = hexadecimal(fields, self.places[HEADER])?;
         let numbers = self.numbers(fields)?;
-        Ok(Step {
-            kind,
-            has_flows,
-            flow,
-            protocol,
-            header,
-            ..step_of(&numbers, has_flows)
-        })
+        Ok(step_of(&numbers, kind, has_flows, flow, protocol, header))
     }
 }
 
 /// Returns a number of a column of 32 bits, which is at most 2^32 - 1.
 #[inline(always)]
-fn narrow(number: u64) -> u32 {
+fn narrow(number: u64) -> u32
+    ensures { result ≡ narrow number }
+{
     u32::try_from(number).unwrap_or(u32::MAX)
 }
 
-/// Returns the step with these numbers. Its kind, its flow and the numbers of the header are left open.
-fn step_of(numbers: &[u64; NUMBERS], has_flows: bool) -> Step {
+/// Returns the step with these numbers.
+#[tactic(auto, unfolding(crate::specs::Columns::place_from, crate::specs::Columns::step_of))]
+fn step_of(
+    numbers: &[u64; NUMBERS],
+    kind: Kind,
+    has_flows: bool,
+    flow: Option<u32>,
+    protocol: u16,
+    header: u16,
+) -> Step
+    ensures { result ≡ step_of numbers.now kind has_flows flow protocol header }
+{
     Step {
-        kind: Kind::Empty,
+        kind,
         has_flows,
         number: numbers[0],
         moment: numbers[1],
-        flow: None,
+        flow,
         backlog: narrow(numbers[15]),
         size: narrow(numbers[16]),
         packet_length: narrow(numbers[17]),
@@ -268,8 +393,8 @@ fn step_of(numbers: &[u64; NUMBERS], has_flows: bool) -> Step {
         bytes_after: narrow(numbers[22]),
         limit: narrow(numbers[23]),
         returned: narrow(numbers[24]),
-        protocol: 0,
-        header: 0,
+        protocol,
+        header,
         contained: numbers[25] != 0,
         early: narrow(numbers[26]),
         draws: narrow(numbers[27]),
@@ -294,7 +419,10 @@ fn step_of(numbers: &[u64; NUMBERS], has_flows: bool) -> Step {
 }
 
 /// Returns the state in these numbers.
-fn state_of(numbers: &[u64; NUMBERS]) -> LinuxState {
+#[tactic(auto, unfolding(crate::specs::Columns::place_from))]
+fn state_of(numbers: &[u64; NUMBERS]) -> LinuxState
+    ensures { result ≡ state_of numbers.now }
+{
     LinuxState {
         qdelay: numbers[7],
         qdelay_old: numbers[8],
@@ -309,7 +437,10 @@ fn state_of(numbers: &[u64; NUMBERS]) -> LinuxState {
 }
 
 /// Returns the parameters in these numbers.
-fn params_of(numbers: &[u64; NUMBERS], has_flows: bool) -> LinuxParams {
+#[tactic(auto, unfolding(crate::specs::Columns::place_from))]
+fn params_of(numbers: &[u64; NUMBERS], has_flows: bool) -> LinuxParams
+    ensures { result ≡ params_of numbers.now has_flows }
+{
     LinuxParams {
         target: numbers[14],
         tupdate: narrow(numbers[35]),
@@ -328,26 +459,33 @@ fn params_of(numbers: &[u64; NUMBERS], has_flows: bool) -> LinuxParams {
 }
 
 /// Steps that the recorder lost: the name of their queue, and their number.
-pub(crate) fn lost_at(fields: &Record) -> Result<Option<(QueueName, u64)>, RecordFault> {
+#[tactic(auto, unfolding(crate::specs::Columns::lost_in))]
+pub(crate) fn lost_at(fields: &Record) -> Result<Option<(QueueName, u64)>, RecordFault>
+    ensures { result ≡ lost_in fields.now }
+{
     if !has_word(fields, 0, b"lost") {
         return Ok(None);
     }
-    let (Some(queue), 3) = (fields.get(2), fields.len()) else {
+    if fields.len() != 3 {
         return Err(RecordFault::Fields);
-    };
+    }
     let count = decimal(fields, 1, u64::MAX)?;
-    match QueueName::new(queue) {
+    match QueueName::new(field_or(fields, 2)) {
         Some(queue) => Ok(Some((queue, count))),
         None => Err(RecordFault::Word),
     }
 }
 
 /// Returns the fault of record `row`.
-pub(crate) fn fault_at(row: u64, why: RecordFault) -> StepsFault {
+pub(crate) fn fault_at(row: u64, why: RecordFault) -> StepsFault
+    ensures { result ≡ Trace (fault_at row why) }
+{
     StepsFault::Trace(why.at(row))
 }
 
 /// Returns the fault of a failed allocation.
-pub(crate) fn out_of_memory() -> StepsFault {
+pub(crate) fn out_of_memory() -> StepsFault
+    ensures { result ≡ Trace Memory }
+{
     StepsFault::Trace(TraceFault::Memory)
 }

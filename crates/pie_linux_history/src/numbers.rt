@@ -4,7 +4,7 @@
 //! only; no decision reads them, with the exception of the clock of a departure (`a_dq_tstamp`).
 ghost use Rattle.std.specs.Prelude.{◌≡◌, if◌then◌else◌};
 ghost use Rattle.pie_linux.specs.Queue.{excess};
-ghost use Rattle.pie_linux_history.specs.Decisions.{arrival_difference, arrival_of, arrival_state_difference, arrived, arrived_by, arrived_flow, bytes_at, cause_of, change_difference, changed, counts_memory, decision_difference, departed_flow, departed_queue, departure_difference, departure_of, early_result, flow_arrived_by, is_taken, length_at, memory_difference, memory_exceeded, over_memory_after, removed, removed_flow, reset_difference, reset_flow, reset_queue, returned_value, round_begun, round_difference, settled, update_difference, updated_flow, waiting_added, waiting_of};
+ghost use Rattle.pie_linux_history.specs.Decisions.{arrival_difference, arrival_of, arrival_state_difference, arrived, arrived_by, arrived_flow, bytes_at, bytes_before, cause_of, change_difference, changed, counts_memory, decision_difference, departed_flow, departed_queue, departure_difference, departure_of, early_result, flow_arrived_by, is_taken, length_at, length_before, memory_difference, memory_exceeded, over_memory_after, removed, removed_flow, reset_difference, reset_flow, reset_queue, returned_value, round_begun, round_difference, settled, update_difference, updated_flow, waiting_added, waiting_of};
 
 use crate::difference::{
     Column, Difference, compared, compared_32, state_difference, stats_difference,
@@ -254,6 +254,8 @@ impl QueueNumbers {
     #[inline(never)]
     pub(crate) fn arrive(&mut self, flow: &mut FlowNumbers, step: &Step) -> Arrived
         ensures cause { result.cause ≡ cause_of self.old flow.old step.now }
+        ensures length { result.length ≡ length_before self.old step.now }
+        ensures bytes { result.bytes ≡ bytes_before self.old step.now }
         ensures difference { result.difference ≡ arrival_difference self.old flow.old step.now self.new }
         ensures queue { self.new ≡ arrived self.old flow.old step.now }
         ensures flow { flow.new ≡ arrived_flow self.old flow.old step.now }

@@ -1,4 +1,9 @@
 //! A queue whose steps are decided again: its numbers, its flows and their waiting packets.
+ghost use Rattle.std.specs.Prelude.{◌≡◌, ◌++◌, ◌<◌, IfOk, if◌then◌else◌, length, map};
+ghost use Rattle.pie_linux.specs.Enqueue.{is_queued};
+ghost use Rattle.pie_linux_history.specs.Decisions.{arrival_difference, arrived, bytes_before, cause_of, length_before, waiting_of};
+ghost use Rattle.pie_linux_history.specs.Queue.{arrival_packet, counted_again, dropped, flow_arrived, flow_count, last_departures, no_flow, place_of, sent, sent_before};
+
 use crate::difference::{Column, Difference};
 use crate::explained::{DecidedPacket, Decision, Fate};
 use crate::numbers::{FlowNumbers, QueueNumbers, Waiting, waiting_of};
@@ -6,6 +11,7 @@ use crate::step::{Kind, Step};
 use pie_linux::{LinuxState, LinuxStats, flow_of};
 use std::alloc::{AllocError, Global};
 use std::collections::VecDeque;
+use std::marker::Model;
 
 /// The most flows of fq_pie (`fq_pie_init`).
 const MAX_FLOWS: u32 = 65536;
@@ -20,6 +26,14 @@ struct Flow {
     waiting: VecDeque<Waiting>,
 }
 
+impl Model for Flow {
+    ghost use Rattle.pie_linux_history.specs.Views.{FlowView};
+
+    ghost Value = { FlowView };
+
+    ghost view = { λ flow. record { numbers = flow.numbers; waiting = flow.waiting.items } };
+}
+
 /// A queue.
 #[derive(Drop)]
 pub(crate) struct Queue {
@@ -28,6 +42,41 @@ pub(crate) struct Queue {
     /// The lengths of the last departures, and the number of all.
     sent: [u32; RETURNED],
     count: usize,
+}
+
+impl Model for Queue {
+    ghost use Rattle.pie_linux_history.specs.Views.{QueueView};
+
+    ghost Value = { QueueView };
+
+    ghost view = { λ queue. record { numbers = queue.numbers; flows = queue.flows.items; sent = queue.sent; count = queue.count } };
+}
+
+impl Flow {
+    /// Decides an arrival in this flow of a queue with the numbers `queue` again.
+    fn arrive(&mut self, queue: &mut QueueNumbers, step: &Step) -> Result<Decision, AllocError>
+        ensures flow { IfOk result (λ _. self.new ≡ flow_arrived queue.old self.old step.now) }
+        ensures queue { queue.new ≡ arrived queue.old self.old.numbers step.now }
+        ensures difference { IfOk result (λ decision. decision.difference ≡ arrival_difference queue.old self.old.numbers step.now queue.new) }
+        ensures packet { IfOk result (λ decision. decision.arrival ≡ Some (arrival_packet queue.old self.old step.now)) }
+    {
+        let (state, limit) = (self.numbers.state, queue.params.limit);
+        let arrived = queue.arrive(&mut self.numbers, step);
+        if arrived.cause.is_queued() {
+            self.waiting.push_back(waiting_of(step))?;
+        }
+        Ok(Decision {
+            difference: arrived.difference,
+            arrival: Some(DecidedPacket {
+                bytes: step.packet_length,
+                fate: Fate::Arrival(arrived.cause),
+                state,
+                length: arrived.length,
+                backlog: arrived.bytes,
+                limit,
+            }),
+        })
+    }
 }
 
 /// Returns the numbers of a queue after its first step.
@@ -101,7 +150,7 @@ impl Queue {
             Kind::Dequeue => Ok(Decision::other(self.depart(step))),
             Kind::Update => Ok(Decision::other(self.update(step))),
             Kind::Timer => {
-                let flows = u32::try_from(self.flows.len()).unwrap_or(u32::MAX);
+                let flows = self.flow_count();
                 Ok(Decision::other(self.numbers.begin_round(flows, step)))
             }
             Kind::Change => self.change(step, lost),
@@ -140,13 +189,21 @@ impl Queue {
         Ok(Decision::other(None))
     }
 
+    /// Returns the number of flows.
+    fn flow_count(&self) -> u32
+        ensures { result ≡ flow_count self.now }
+    {
+        u32::try_from(self.flows.len()).unwrap_or(u32::MAX)
+    }
+
     /// Returns the place of the flow of a step: the recorded one, or the hash's if the limit came before it was known.
-    fn place(&self, step: &Step) -> usize {
+    fn place(&self, step: &Step) -> usize
+        ensures { result ≡ place_of self.now step.now }
+    {
         if !self.numbers.has_flows {
             return 0;
         }
-        let flows = u32::try_from(self.flows.len()).unwrap_or(u32::MAX);
-        step.flow.unwrap_or(flow_of(step.hash, flows)) as usize
+        step.flow.unwrap_or(flow_of(step.hash, self.flow_count())) as usize
     }
 
     /// Adds the packet of a step at the end of its flow.
@@ -159,31 +216,52 @@ impl Queue {
     }
 
     /// Keeps the length of a departure.
-    fn send(&mut self, length: u32) {
+    fn send(&mut self, length: u32)
+        ensures { self.new ≡ sent self.old length }
+    {
         self.sent[self.count % RETURNED] = length;
         self.count = self.count.wrapping_add(1);
     }
 
-    /// Finds the packets that the kernel counts again, since the device returned them, from the recorded bytes: the last
-    /// departures, or segments of the last one, of which the kernel gives each the length of the whole.
-    fn count_again(&mut self, recorded: u32) {
-        let more = recorded.wrapping_sub(self.numbers.bytes);
-        let last = self.sent[self.count.wrapping_sub(1) % RETURNED];
-        if last > 0 && more > 0 && more % last == 0 {
-            self.numbers.peeked = Some(more);
-            self.numbers.peeked_packets = more / last;
-        }
+    /// Returns the length of the departure after which `packets` others came.
+    fn sent_before(&self, packets: usize) -> u32
+        ensures { result ≡ sent_before self.now packets }
+    {
+        self.sent[self.count.wrapping_sub(packets).wrapping_sub(1) % RETURNED]
+    }
+
+    /// Returns the number of the last departures that have `more` bytes together.
+    fn last_departures(&self, more: u32) -> Option<u32>
+        ensures { result ≡ last_departures self.now more 0 0 256 }
+    {
         let mut bytes: u32 = 0;
         for packets in 0..RETURNED {
             if bytes >= more {
-                break;
+                return None;
             }
-            let at = self.count.wrapping_sub(packets).wrapping_sub(1) % RETURNED;
-            bytes = bytes.saturating_add(self.sent[at]);
+            bytes = bytes.saturating_add(self.sent_before(packets));
             if bytes == more {
-                self.numbers.peeked = Some(bytes);
-                self.numbers.peeked_packets = (packets as u32).wrapping_add(1);
+                return Some(packets as u32 + 1);
             }
+        }
+        None
+    }
+
+    /// Finds the packets that the kernel counts again, since the device returned them, from the recorded bytes: the last
+    /// departures, or segments of the last one, of which the kernel gives each the length of the whole.
+    fn count_again(&mut self, recorded: u32)
+        ensures { self.new ≡ counted_again self.old recorded }
+    {
+        let more = recorded.wrapping_sub(self.numbers.bytes);
+        let last = self.sent_before(0);
+        let segments = if last > 0 && more > 0 && more % last == 0 {
+            Some(more / last)
+        } else {
+            None
+        };
+        if let Some(packets) = self.last_departures(more).or(segments) {
+            self.numbers.peeked = Some(more);
+            self.numbers.peeked_packets = packets;
         }
     }
 
@@ -191,25 +269,10 @@ impl Queue {
     fn arrive(&mut self, step: &Step) -> Result<Decision, AllocError> {
         self.count_again(step.bytes_before);
         let place = self.place(step);
-        let Some(flow) = self.flows.get_mut(place) else {
-            return Ok(Decision::other(no_flow(step)));
-        };
-        let before = flow.numbers.state;
-        let arrived = self.numbers.arrive(&mut flow.numbers, step);
-        if arrived.cause.is_queued() {
-            self.queue(step)?;
+        match self.flows.get_mut(place) {
+            Some(flow) => flow.arrive(&mut self.numbers, step),
+            None => Ok(Decision::other(no_flow(step))),
         }
-        Ok(Decision {
-            difference: arrived.difference,
-            arrival: Some(DecidedPacket {
-                bytes: step.packet_length,
-                fate: Fate::Arrival(arrived.cause),
-                state: before,
-                length: arrived.length,
-                backlog: arrived.bytes,
-                limit: self.numbers.params.limit,
-            }),
-        })
     }
 
     /// Takes a departure into account again.
@@ -218,18 +281,16 @@ impl Queue {
         let Some(flow) = self.flows.get_mut(place) else {
             return no_flow(step);
         };
-        match flow.waiting.pop_front() {
-            Some(waiting) => {
-                let difference = self.numbers.depart(&mut flow.numbers, &waiting, step);
-                self.send(waiting.length);
-                difference
-            }
-            None => Some(Difference {
+        let Some(waiting) = flow.waiting.pop_front() else {
+            return Some(Difference {
                 column: Column::LengthAfter,
                 recorded: u64::from(step.length_after),
                 right: 0,
-            }),
-        }
+            });
+        };
+        let difference = self.numbers.depart(&mut flow.numbers, &waiting, step);
+        self.send(waiting.length);
+        difference
     }
 
     /// Makes an update of the probability again.
@@ -288,12 +349,9 @@ impl Queue {
 }
 
 /// Returns the packet that a change or a reset dropped.
-fn dropped(
-    fate: Fate,
-    queue: &QueueNumbers,
-    flow: &FlowNumbers,
-    waiting: &Waiting,
-) -> DecidedPacket {
+fn dropped(fate: Fate, queue: &QueueNumbers, flow: &FlowNumbers, waiting: &Waiting) -> DecidedPacket
+    ensures { result ≡ dropped fate queue.now flow.now waiting.now }
+{
     DecidedPacket {
         bytes: waiting.length,
         fate,
@@ -305,7 +363,9 @@ fn dropped(
 }
 
 /// Returns the difference of a step of a flow that does not exist.
-fn no_flow(step: &Step) -> Option<Difference> {
+fn no_flow(step: &Step) -> Option<Difference>
+    ensures { result ≡ no_flow step.now }
+{
     Some(Difference {
         column: Column::Flow,
         recorded: u64::from(step.flow.unwrap_or(u32::MAX)),

@@ -1,4 +1,7 @@
 //! The queues of a text.
+ghost use Rattle.std.specs.Prelude.{◌≡◌};
+ghost use Rattle.pie_linux_history.specs.Audit.{StepTaken, Taken, next, queue_and_step};
+
 use crate::columns::{Columns, fault_at, lost_at, out_of_memory};
 use crate::difference::{Column, Difference};
 use crate::explained::{DecidedPacket, Decision, Explained};
@@ -68,7 +71,9 @@ pub(crate) struct Queues {
 
 impl Queues {
     /// Returns the queues of an empty text.
-    pub(crate) fn new(alloc: Global) -> Queues {
+    pub(crate) fn new(alloc: Global) -> Queues
+        ensures { result.counts.events ≡ 0 }
+    {
         Queues {
             alloc,
             queues: Vec::new(alloc),
@@ -113,11 +118,15 @@ impl Queues {
     }
 
     /// Takes a row. Returns the first number of its step that differs.
+    #[tactic(auto, unfolding(crate::specs::Audit::queue_and_step))]
     pub(crate) fn take(
         &mut self,
         columns: &Columns,
         fields: &Record,
-    ) -> Result<Option<StepDifference>, StepsFault> {
+    ) -> Result<Option<StepDifference>, StepsFault>
+        ensures event { self.new.counts.events ≡ next self.old.counts.events }
+        ensures takes { Taken (queue_and_step columns.now fields.now) (next self.old.counts.events) result }
+    {
         self.lost.clear();
         self.arrival = None;
         self.last = None;
@@ -131,14 +140,21 @@ impl Queues {
             }
             Err(why) => return Err(fault_at(row, why)),
         }
-        match columns.read(fields) {
-            Ok(step) => self.decide(row, columns.queue(fields), &step),
-            Err(why) => Err(fault_at(row, why)),
+        let step = match columns.read(fields) {
+            Ok(step) => step,
+            Err(why) => return Err(fault_at(row, why)),
+        };
+        let name = columns.queue(fields);
+        match QueueName::new(name) {
+            Some(queue) => self.decide(row, queue, name, &step),
+            None => Err(fault_at(row, RecordFault::Word)),
         }
     }
 
     /// Takes a row of lost steps. The queue must be resumed before its next step.
-    fn lose(&mut self, queue: &[u8], count: u64) {
+    fn lose(&mut self, queue: &[u8], count: u64)
+        ensures { self.new.counts.events ≡ self.old.counts.events }
+    {
         self.counts.lost = self.counts.lost.wrapping_add(count);
         if let Some(place) = self.find(queue)
             && place < self.queues.len()
@@ -147,16 +163,18 @@ impl Queues {
         }
     }
 
-    /// Decides a step again.
+    /// Decides a step of record `row` again.
     fn decide(
         &mut self,
         row: u64,
+        queue: QueueName,
         name: &[u8],
         step: &Step,
-    ) -> Result<Option<StepDifference>, StepsFault> {
-        let Some(queue) = QueueName::new(name) else {
-            return Err(fault_at(row, RecordFault::Word));
-        };
+    ) -> Result<Option<StepDifference>, StepsFault>
+        requires { row ≡ next self.old.counts.events }
+        ensures event { self.new.counts.events ≡ self.old.counts.events }
+        ensures takes { StepTaken queue step.now self.old.counts.events result }
+    {
         let is_part = step.kind.is_part();
         self.counts.steps = self.counts.steps.wrapping_add(u64::from(!is_part));
         self.last = Some((queue, *step));
@@ -205,7 +223,10 @@ impl Queues {
         queue: QueueName,
         name: &[u8],
         step: &Step,
-    ) -> Result<Option<StepDifference>, StepsFault> {
+    ) -> Result<Option<StepDifference>, StepsFault>
+        ensures event { self.new.counts.events ≡ self.old.counts.events }
+        ensures takes { StepTaken queue step.now self.old.counts.events result }
+    {
         let Ok(opened) = Queue::open(self.alloc, step) else {
             return Err(out_of_memory());
         };
@@ -233,7 +254,9 @@ fn difference_at(
     queue: QueueName,
     step: &Step,
     difference: Difference,
-) -> StepDifference {
+) -> StepDifference
+    ensures { result ≡ record { event = event; queue = queue; step = step.now.number; difference = difference } }
+{
     StepDifference {
         event,
         queue,

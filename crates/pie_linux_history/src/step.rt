@@ -1,4 +1,8 @@
 //! One recorded step.
+ghost use Rattle.std.specs.Prelude.{◌≡◌, ◌≤◌, length};
+ghost use Rattle.std.specs.Str.{is_utf8};
+ghost use Rattle.pie_linux_history.specs.Columns.{padded, queue_name};
+
 use crate::difference::Column;
 use pie_linux::{LinuxParams, LinuxState, LinuxStats};
 use std::fmt;
@@ -13,18 +17,39 @@ pub struct QueueName {
     len: usize,
 }
 
+/// Returns true if these bytes are UTF-8.
+fn is_utf8(name: &[u8]) -> bool
+    ensures { result ≡ is_utf8 name.now }
+{
+    match std::str::from_utf8(name) {
+        Ok(_) => true,
+        Err(_) => false,
+    }
+}
+
+/// Returns these bytes, filled up with zeros.
+fn padded(name: &[u8]) -> [u8; MAX_NAME]
+    requires { length name.now ≤ 64 }
+    ensures { result ≡ padded name.now }
+{
+    let mut bytes = [0; MAX_NAME];
+    bytes[..name.len()].copy_from_slice(name);
+    bytes
+}
+
 impl QueueName {
     /// Returns the name with these bytes. Returns `None` if there are more than 64, or if they are not UTF-8.
-    pub(crate) fn new(name: &[u8]) -> Option<QueueName> {
-        let mut bytes = [0; MAX_NAME];
-        if name.len() > MAX_NAME || std::str::from_utf8(name).is_err() {
+    pub(crate) fn new(name: &[u8]) -> Option<QueueName>
+        ensures { result ≡ queue_name name.now }
+    {
+        if name.len() > MAX_NAME {
             return None;
         }
-        bytes[..name.len()].copy_from_slice(name);
-        Some(QueueName {
-            bytes,
-            len: name.len(),
-        })
+        if is_utf8(name) {
+            let (bytes, len) = (padded(name), name.len());
+            return Some(QueueName { bytes, len });
+        }
+        None
     }
 
     /// Returns true if this is the name with these bytes.

@@ -1,4 +1,8 @@
 //! Audits and explanations of a text of recorded steps.
+ghost use Rattle.std.specs.Prelude.{◌≡◌, IfSome, false};
+ghost use Rattle.pie_record.specs.Text.{records_of};
+ghost use Rattle.pie_linux_history.specs.Audit.{Audits, AuditsText, ReadsColumns, TakesNext, finding_of, has_failed};
+
 use crate::choice::StepChoice;
 use crate::columns::{Columns, out_of_memory};
 use crate::fault::StepsFault;
@@ -34,7 +38,9 @@ pub enum StepsFinding {
 fn read_columns<R: Read>(
     records: &mut Records<R>,
     fields: &mut Record,
-) -> Result<Columns, StepsFault> {
+) -> Result<Columns, StepsFault>
+    ensures { IfSome records.old (λ rows. has_failed result ≡ false → ReadsColumns rows result records.new) }
+{
     match records.first(fields) {
         Ok(()) => Columns::find(fields),
         Err(why) => Err(StepsFault::Trace(why)),
@@ -49,7 +55,10 @@ fn next_step<R: Read>(
     columns: &Columns,
     fields: &mut Record,
     queues: &mut Queues,
-) -> Result<Option<Option<StepDifference>>, StepsFault> {
+) -> Result<Option<Option<StepDifference>>, StepsFault>
+    ensures { IfSome records.old (λ rows. has_failed result ≡ false
+        → TakesNext columns.now queues.old.counts.events rows result records.new queues.new.counts.events) }
+{
     match records.next(fields) {
         Ok(true) => {}
         Ok(false) => return Ok(None),
@@ -67,16 +76,33 @@ fn audit_steps<R: Read>(
     columns: &Columns,
     fields: &mut Record,
     queues: &mut Queues,
-) -> Result<StepsFinding, StepsFault> {
-    for _ in 0..u64::MAX {
+) -> Result<StepsFinding, StepsFault>
+    ensures { IfSome records.old (λ rows. has_failed result ≡ false → Audits columns.now queues.old.counts.events rows result) }
+{
+    for steps in 0..u64::MAX {
         match next_step(records, columns, fields, queues) {
             Ok(Some(None)) => {}
             Ok(Some(Some(difference))) => return Ok(StepsFinding::Differs(difference)),
-            Ok(None) => break,
+            Ok(None) => return Ok(StepsFinding::Clean(queues.counts)),
             Err(why) => return Err(why),
         }
     }
-    Ok(StepsFinding::Clean(queues.counts))
+    Err(StepsFault::Trace(TraceFault::Read))
+}
+
+/// Reads the first row, and decides all steps.
+fn audit_records<R: Read>(
+    records: &mut Records<R>,
+    fields: &mut Record,
+    queues: &mut Queues,
+) -> Result<StepsFinding, StepsFault>
+    requires { queues.old.counts.events ≡ 0 }
+    ensures { IfSome records.old (λ rows. has_failed result ≡ false → AuditsText rows result) }
+{
+    match read_columns(records, fields) {
+        Ok(columns) => audit_steps(records, &columns, fields, queues),
+        Err(why) => Err(why),
+    }
 }
 
 /// Audits a text of recorded steps: decides each step again by Linux's rules, and returns the first recorded number that
@@ -86,14 +112,13 @@ fn audit_steps<R: Read>(
 ///
 /// The fault of the first record that cannot be read, a missing column, a queue without its first step, a failure of the
 /// reader, or of memory.
-pub fn audit<R: Read + Drop>(alloc: Global, input: R) -> Result<StepsFinding, StepsFault> {
+pub fn audit<R: Read + Drop>(alloc: Global, input: R) -> Result<StepsFinding, StepsFault>
+    ensures { IfSome (R.remaining input) (λ text. has_failed result ≡ false → AuditsText (records_of text) result) }
+{
     let mut records = Records::new(alloc, StepsReader(input));
     let mut fields = Record::new(alloc);
     let mut queues = Queues::new(alloc);
-    match read_columns(&mut records, &mut fields) {
-        Ok(columns) => audit_steps(&mut records, &columns, &mut fields, &mut queues),
-        Err(why) => Err(why),
-    }
+    audit_records(&mut records, &mut fields, &mut queues)
 }
 
 /// Writes the explanations of the packets of the last step that are chosen. Returns their number.
@@ -119,15 +144,18 @@ fn explain_steps<R: Read, W: Write>(
     queues: &mut Queues,
     choice: StepChoice,
     output: &mut W,
-) -> Result<(u64, StepsFinding), StepsFault> {
+) -> Result<(u64, StepsFinding), StepsFault>
+    ensures { IfSome records.old (λ rows. has_failed result ≡ false
+        → Audits columns.now queues.old.counts.events rows (finding_of result)) }
+{
     let mut count: u64 = 0;
-    for _ in 0..u64::MAX {
+    for steps in 0..u64::MAX {
         match next_step(records, columns, fields, queues) {
             Ok(Some(None)) => {}
             Ok(Some(Some(difference))) => {
                 return Ok((count, StepsFinding::Differs(difference)));
             }
-            Ok(None) => break,
+            Ok(None) => return Ok((count, StepsFinding::Clean(queues.counts))),
             Err(why) => return Err(why),
         }
         match write_packets(queues, choice, output) {
@@ -135,7 +163,46 @@ fn explain_steps<R: Read, W: Write>(
             Err(_) => return Err(StepsFault::Trace(TraceFault::Write)),
         }
     }
-    Ok((count, StepsFinding::Clean(queues.counts)))
+    Err(StepsFault::Trace(TraceFault::Read))
+}
+
+/// Reads the first row, and explains the chosen packets of all steps.
+fn explain_records<R: Read, W: Write>(
+    records: &mut Records<R>,
+    fields: &mut Record,
+    queues: &mut Queues,
+    choice: StepChoice,
+    output: &mut W,
+) -> Result<(u64, StepsFinding), StepsFault>
+    requires { queues.old.counts.events ≡ 0 }
+    ensures { IfSome records.old (λ rows. has_failed result ≡ false → AuditsText rows (finding_of result)) }
+{
+    match read_columns(records, fields) {
+        Ok(columns) => explain_steps(records, &columns, fields, queues, choice, output),
+        Err(why) => Err(why),
+    }
+}
+
+/// Explains the chosen packets of a text in pages.
+fn explain_pages<R: Read, W: Write>(
+    alloc: Global,
+    records: &mut Records<R>,
+    fields: &mut Record,
+    queues: &mut Queues,
+    choice: StepChoice,
+    output: &mut W,
+) -> Result<(u64, StepsFinding), StepsFault>
+    requires { queues.old.counts.events ≡ 0 }
+    ensures { IfSome records.old (λ rows. has_failed result ≡ false → AuditsText rows (finding_of result)) }
+{
+    let Ok(mut page) = BufWriter::new(alloc, output) else {
+        return Err(out_of_memory());
+    };
+    let explained = explain_records(records, fields, queues, choice, &mut page);
+    match (page.flush(), explained) {
+        (Err(_), Ok(_)) => Err(StepsFault::Trace(TraceFault::Write)),
+        _ => explained,
+    }
 }
 
 /// Writes the explanations of the chosen packets of a text of recorded steps to `output`, up to the first fault and the
@@ -149,27 +216,18 @@ pub fn explain<R: Read + Drop, W: Write>(
     input: R,
     output: &mut W,
     choice: StepChoice,
-) -> Result<(u64, StepsFinding), StepsFault> {
+) -> Result<(u64, StepsFinding), StepsFault>
+    ensures { IfSome (R.remaining input) (λ text. has_failed result ≡ false → AuditsText (records_of text) (finding_of result)) }
+{
     let mut records = Records::new(alloc, StepsReader(input));
     let mut fields = Record::new(alloc);
     let mut queues = Queues::new(alloc);
-    let columns = match read_columns(&mut records, &mut fields) {
-        Ok(columns) => columns,
-        Err(why) => return Err(why),
-    };
-    let Ok(mut page) = BufWriter::new(alloc, output) else {
-        return Err(out_of_memory());
-    };
-    let explained = explain_steps(
+    explain_pages(
+        alloc,
         &mut records,
-        &columns,
         &mut fields,
         &mut queues,
         choice,
-        &mut page,
-    );
-    match (page.flush(), explained) {
-        (Err(_), Ok(_)) => Err(StepsFault::Trace(TraceFault::Write)),
-        _ => explained,
-    }
+        output,
+    )
 }

@@ -1,4 +1,4 @@
--- The line in which a record begins, byte by byte.
+-- The first line of a record, found byte by byte.
 use Rattle.std.proofs.Common.{ap, sym, ◌∙◌, arith, ◌≡◌, ◌+◌, ◌-◌, ◌<◌}
 use Rattle.std.proofs.lemmas.Bool.Decides.{nat_tests}
 use Rattle.std.specs.Prelude.{◌∷◌, if◌then◌else◌, zero, IfSome}
@@ -28,7 +28,7 @@ same_bytes later [] state fields others field other = either_end later (ends_at_
 same_bytes later (byte ∷ rest) state fields others field other =
     either_end later (is_end (step default_config state byte).1) _ _ _ _ refl (same_bytes later rest (step default_config state byte).0 _ _ _ _)
 
--- the record ends with this byte, or goes on
+-- the record ends with this byte, or the next byte belongs to it too
 if_ended : (later : State → List ℕ → List ℕ) (b : Bool) (one : Read) (more : Option Read) → b ≡ true → from_next later (if b then Some one else more) ≡ later one.1 one.2
 if_ended later true one more is = refl
 if_ended later false one more is = cc
@@ -90,7 +90,7 @@ line_found line before later None new is = tt
 line_found line before later (Some all) None is = absurd is
 line_found line before later (Some all) (Some left) is = sym is
 
--- a later search goes on where this one stopped
+-- a later search begins where this one ended
 pub later_found : (what : Found) (before later last : List ℕ → Option ℕ) (old mid new : Option (List ℕ)) → FindsIn found.Later before later old mid
     → FindsIn what later last mid new → FindsIn what before last old new
 later_found what before later last None mid new one two = tt

@@ -12,6 +12,5 @@ pub use Rattle.std.proofs.lemmas.List.Elements.{All-cons, All-head, All-more, Al
 pub use Rattle.std.proofs.lemmas.Option.{get_or_from_slice_get, slice_get_within}
 pub use Rattle.std.specs.Prelude.{decimal, unwrap_or}
 unfoldable pub use Rattle.csv.specs.Reading.{strip_bom}
-unfoldable pub use Rattle.pie_aqm.specs.History.{Represents, state_of}
-unfoldable pub use Rattle.pie_excerpt.specs.{chosen_at, core_from, fault_within, field_at, later_at, number, numbers_at, packet_at, params_at, queued_of, queued_row, resume_of, resume_row, beginning_of, opening_of, version_of, rows_text, waiting_after, with_queue}
+unfoldable pub use Rattle.pie_excerpt.specs.{chosen_at, core_from, fault_within, field_at, later_at, number, numbers_at, packet_at, params_at, queued_of, queued_row, resume_of, resume_row, beginning_of, opening_of, version_of, rows_text, with_queue}
 unfoldable pub use Rattle.pie_record.specs.FirstRecord.{draft_at, first_kind, limits_at, one_of_two}

@@ -77,9 +77,9 @@ abbrev pub reply_at : Opening → RunState → Request → Reply
 reply_at opening (looking_back progress) request = reply opening progress request
 reply_at opening (running it) request = reply_in opening it request
 
-abbrev pub state_after : Opening → RunState → Request → RunState
-state_after opening (looking_back progress) request = looking_back (after opening progress request)
-state_after opening (running it) request = running (running_after opening it request)
+abbrev pub run_state_after : Opening → RunState → Request → RunState
+run_state_after opening (looking_back progress) request = looking_back (after opening progress request)
+run_state_after opening (running it) request = running (running_after opening it request)
 
 abbrev pub end_of_state : Opening → RunState → ℕ → RunEnd
 end_of_state opening (looking_back progress) refusals = end_at opening progress refusals
@@ -151,7 +151,7 @@ refusals_in given = cond (is_refused given) 1 0
 -- history record
 pub record IsReplied (version : Version) (number : ℕ) (row : Row) (request : Request) (opening : Opening) (new : BookView) (refusals_before refusals_then : ℕ)
     (text : List ℕ) (run_state : RunState) : Type 0 where
-  pub is_in_state : IsInState new opening (state_after opening run_state request)
+  pub is_in_state : IsInState new opening (run_state_after opening run_state request)
   pub refusals : refusals_then ≡ refusals_before + refusals_in (reply_at opening run_state request)
   pub made : text ≡ text_of (history_row version number row (reply_at opening run_state request))
 

@@ -1,4 +1,3 @@
 mod Examples
 pub mod LawFacts
-mod LineFacts
-pub mod MemberFacts
+pub mod LineFacts

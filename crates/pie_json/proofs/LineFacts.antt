@@ -3,7 +3,7 @@ use Rattle.std.proofs.Common.{ℕ, ◌≡◌, ◌==◌, ◌∙◌, true, false, 
 use Rattle.std.specs.List.{flat_map}
 use Rattle.std.proofs.lemmas.List.Concat.{flat_map-append}
 use Rattle.pie_json.specs.Lines.{lines_from, lines_of, rest_from, rest_of}
-use Rattle.pie_json.specs.Rows.{has_header, names_in, names_of, object, objects, objects_of}
+use Rattle.pie_json.specs.Rows.{has_header, members, names_in, names_of, object, objects, objects_of}
 use Rattle.pie_json.specs.Reading.{Grows, HasRead}
 use Rattle.pie_json.specs.declared.rows.JsonRows.{JsonRows}
 
@@ -105,4 +105,9 @@ longer_line old new text out byte h other header names line =
       record { more = []; grown = sym (append-nil out); turned = ap objects lines ∙ sym (append-nil (objects (lines_of text))) },
     )
 
--- ---- growth
+-- ---- the members of an object
+
+-- a line without another field has no more members
+pub no_members : (names : List (List ℕ)) → members names [] ≡ []
+no_members [] = refl
+no_members (name ∷ names) = refl

@@ -63,7 +63,7 @@ pub(crate) fn add_names(
 /// # Errors
 ///
 /// Returns `AllocError` if memory is short.
-#[tactic(auto, using(crate::proofs::MemberFacts::no_members))]
+#[tactic(auto, using(crate::proofs::LineFacts::no_members))]
 pub fn push_member<'a>(
     out: &mut Vec<u8>,
     names: &'a [Vec<u8>],

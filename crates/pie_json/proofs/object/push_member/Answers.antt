@@ -1,6 +1,6 @@
 use Rattle.std.proofs.Common.{◌∙◌, append-nil, append_assoc, map}
 use Rattle.pie_json.specs.Value.{value}
-use Rattle.pie_json.proofs.MemberFacts.{no_members}
+use Rattle.pie_json.proofs.LineFacts.{no_members}
 use Rattle.pie_json.proofs.object.push_member.Goals as goal
 
 pub returns-clause-last : goal.returns-clause-last

@@ -29,7 +29,7 @@ pub struct PieState {
     pub average: u64,
     /// 1 if a cycle of the departure rate is open, otherwise 0.
     pub measuring: u64,
-    /// The moment at which the open cycle opened; 0 without one.
+    /// The moment at which the open cycle began; 0 without one.
     pub cycle_start: u64,
     /// The bytes that the open cycle has counted, below `dq_threshold`; 0 without one.
     pub cycle_count: u64,

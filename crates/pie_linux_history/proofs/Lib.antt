@@ -1,3 +1,4 @@
+mod Examples
 pub mod ColumnFacts
 pub mod QueueFacts
 pub mod AuditFacts

@@ -1,5 +1,5 @@
 -- A queue whose steps are decided again: its numbers, its flows with their waiting packets, and the lengths of its last departures; and each step of it.
-use Rattle.std.specs.Prelude.{ℕ, ◌+◌, ◌-◌, ◌%◌, ◌/◌, ◌^◌, ◌++◌, ◌∷◌, ◌==◌, ◌&&◌, if◌then◌else◌, nat_le, nat_lt, [], length, get_or, min, Option, Some, None, unwrap_or, zero, suc}
+use Rattle.std.specs.Prelude.{ℕ, ◌+◌, ◌-◌, ◌%◌, ◌/◌, ◌^◌, ◌++◌, ◌∷◌, ◌==◌, ◌≡◌, ◌&&◌, if◌then◌else◌, not, nat_le, nat_lt, List, [], length, get_or, min, Option, Some, None, unwrap_or, zero, suc}
 use Rattle.std.specs.List.{slice_get}
 use Rattle.std.specs.Option.{option_or}
 use Rattle.std.proofs.Math.ListN.{set}
@@ -8,13 +8,16 @@ use Rattle.pie_linux.specs.Queue.{flow_of}
 use Rattle.pie_linux_history.specs.declared.difference.Column.TheVariants as column
 use Rattle.pie_linux_history.specs.declared.difference.Difference.{Difference}
 use Rattle.pie_linux_history.specs.declared.explained.DecidedPacket.{DecidedPacket}
+use Rattle.pie_linux_history.specs.declared.explained.Decision.{Decision}
 use Rattle.pie_linux_history.specs.declared.explained.Fate.{Fate}
 use Rattle.pie_linux_history.specs.declared.explained.Fate.TheVariants as fate
 use Rattle.pie_linux_history.specs.declared.numbers.FlowNumbers.{FlowNumbers}
 use Rattle.pie_linux_history.specs.declared.numbers.QueueNumbers.{QueueNumbers}
 use Rattle.pie_linux_history.specs.declared.numbers.Waiting.{Waiting}
+use Rattle.pie_linux_history.specs.declared.step.Kind.{Kind}
+use Rattle.pie_linux_history.specs.declared.step.Kind.TheVariants as kind
 use Rattle.pie_linux_history.specs.declared.step.Step.{Step}
-use Rattle.pie_linux_history.specs.Decisions.{arrived_flow, bytes_before, cause_of, difference_32, length_before, waiting_of}
+use Rattle.pie_linux_history.specs.Decisions.{arrival_difference, arrived, arrived_flow, bytes_before, cause_of, departed_flow, departed_queue, departure_difference, difference_32, is_taken, length_before, round_begun, round_difference, settled, update_difference, updated_flow, waiting_added, waiting_of}
 use Rattle.pie_linux_history.specs.Views.{FlowView, QueueView}
 
 -- ---- flows
@@ -85,20 +88,157 @@ dropped why queue flow waiting = record {
   limit = queue.params.limit;
 }
 
--- the flow after an arrival
-abbrev pub flow_arrived : QueueNumbers → FlowView → Step → FlowView
+-- a step of a flow: the numbers of the queue and the flow after it, the decision, and the length of a departure
+pub record FlowStep : Type 0 where
+  pub numbers : QueueNumbers
+  pub flow : FlowView
+  pub decision : Decision
+  pub sent : Option ℕ
+
+-- the numbers, the flow and the results of a step of a flow
+pub record IsFlowStep (step : FlowStep) (numbers : QueueNumbers) (flow : FlowView) (decision : Decision) (sent : Option ℕ) : Type 0 where
+  pub numbers_are : numbers ≡ step.numbers
+  pub flow_is : flow ≡ step.flow
+  pub decision_is : decision ≡ step.decision
+  pub sent_is : sent ≡ step.sent
+
+-- the decision of a step that is no arrival
+abbrev pub other : Option Difference → Decision
+other difference = record { difference = difference; arrival = None }
+
+-- an arrival
+abbrev pub flow_arrived : QueueNumbers → FlowView → Step → FlowStep
 flow_arrived queue flow step = record {
-  numbers = arrived_flow queue flow.numbers step;
-  waiting = if is_queued (cause_of queue flow.numbers step) then flow.waiting ++ waiting_of step ∷ [] else flow.waiting;
+  numbers = arrived queue flow.numbers step;
+  flow = record {
+    numbers = arrived_flow queue flow.numbers step;
+    waiting = if is_queued (cause_of queue flow.numbers step) then flow.waiting ++ waiting_of step ∷ [] else flow.waiting;
+  };
+  decision = record {
+    difference = arrival_difference queue flow.numbers step (arrived queue flow.numbers step);
+    arrival = Some (record {
+      bytes = step.packet_length;
+      fate = fate.Arrival (cause_of queue flow.numbers step);
+      state = flow.numbers.state;
+      length = length_before queue step;
+      backlog = bytes_before queue step;
+      limit = queue.params.limit;
+    });
+  };
+  sent = None;
 }
 
--- the packet of an arrival
-abbrev pub arrival_packet : QueueNumbers → FlowView → Step → DecidedPacket
-arrival_packet queue flow step = record {
-  bytes = step.packet_length;
-  fate = fate.Arrival (cause_of queue flow.numbers step);
-  state = flow.numbers.state;
-  length = length_before queue step;
-  backlog = bytes_before queue step;
-  limit = queue.params.limit;
+-- a departure of the first waiting packet
+abbrev pub departed_first : QueueNumbers → FlowNumbers → List Waiting → Step → FlowStep
+departed_first queue flow [] step = record {
+  numbers = queue;
+  flow = record { numbers = flow; waiting = [] };
+  decision = other (Some (record { column = column.LengthAfter; recorded = step.length_after; right = 0 }));
+  sent = None;
 }
+departed_first queue flow (first ∷ rest) step = record {
+  numbers = departed_queue queue first;
+  flow = record { numbers = departed_flow queue flow first step; waiting = rest };
+  decision = other (departure_difference queue flow first step);
+  sent = Some first.length;
+}
+
+abbrev pub flow_departed : QueueNumbers → FlowView → Step → FlowStep
+flow_departed queue flow step = departed_first queue flow.numbers flow.waiting step
+
+-- an update of the probability
+abbrev pub flow_updated : QueueNumbers → FlowView → Step → FlowStep
+flow_updated queue flow step = record {
+  numbers = settled queue (is_taken queue step.backlog);
+  flow = record flow { numbers = updated_flow queue flow.numbers step };
+  decision = other (update_difference queue flow.numbers step);
+  sent = None;
+}
+
+-- the recorded state of a running flow
+abbrev pub flow_resumed : QueueNumbers → FlowView → Step → FlowStep
+flow_resumed queue flow step = record {
+  numbers = queue;
+  flow = record flow { numbers = record { state = step.after; backlog = step.backlog; listed = not (step.x1 == 0) } };
+  decision = other None;
+  sent = None;
+}
+
+-- a waiting packet of a running queue
+abbrev pub flow_waited : QueueNumbers → FlowView → Step → FlowStep
+flow_waited queue flow step = record {
+  numbers = queue;
+  flow = record flow { waiting = flow.waiting ++ waiting_of step ∷ [] };
+  decision = other None;
+  sent = None;
+}
+
+-- ---- steps of a queue
+
+-- the queue after a step, the decision, and the length of a departure that is not kept yet
+pub record Stepped : Type 0 where
+  pub queue : QueueView
+  pub decision : Decision
+  pub sent : Option ℕ
+
+-- a step of the flow of a step, if there is one; otherwise the queue stays
+abbrev pub stepped_flow : (QueueNumbers → FlowView → Step → FlowStep) → Option Difference → QueueView → Step → Option FlowView → Stepped
+stepped_flow flow_step missing queue step None = record { queue = queue; decision = other missing; sent = None }
+stepped_flow flow_step missing queue step (Some flow) = record {
+  queue = with_flow queue step (flow_step queue.numbers flow step).numbers (flow_step queue.numbers flow step).flow;
+  decision = (flow_step queue.numbers flow step).decision;
+  sent = (flow_step queue.numbers flow step).sent;
+}
+
+unfoldable pub flow_stepped : (QueueNumbers → FlowView → Step → FlowStep) → Option Difference → QueueView → Step → Stepped
+flow_stepped flow_step missing queue step = stepped_flow flow_step missing queue step (flow_at queue step)
+
+-- an arrival, a departure and an update. The backlog of an update of fq_pie is a flow's
+unfoldable pub arrival : QueueView → Step → Stepped
+arrival queue step = flow_stepped flow_arrived (no_flow step) (counted_again queue step.bytes_before) step
+
+-- the step with its departure among the last ones
+abbrev pub keep_sent : QueueView → Decision → Option ℕ → Stepped
+keep_sent queue decision None = record { queue = queue; decision = decision; sent = None }
+keep_sent queue decision (Some length) = record { queue = sent queue length; decision = decision; sent = None }
+
+abbrev pub kept : Stepped → Stepped
+kept step = keep_sent step.queue step.decision step.sent
+
+unfoldable pub departure : QueueView → Step → Stepped
+departure queue step = kept (flow_stepped flow_departed (no_flow step) queue step)
+
+unfoldable pub update : QueueView → Step → Stepped
+update queue step = flow_stepped flow_updated (no_flow step) (if queue.numbers.has_flows then queue else counted_again queue step.backlog) step
+
+-- a waiting packet of a running queue: the parent has peeked at it, or it waits in its flow
+unfoldable pub waiting_resumed : QueueView → Step → Stepped
+waiting_resumed queue step =
+    if step.x0 == 0 then flow_stepped flow_waited None (record queue { numbers = waiting_added queue.numbers (waiting_of step) }) step
+    else record {
+      queue = sent (record queue { numbers = record queue.numbers { peeked = Some step.packet_length; peeked_packets = 1 } }) step.packet_length;
+      decision = other None;
+      sent = None;
+    }
+
+-- the step of each kind. Changes and resets are defined by their decisions alone
+abbrev pub unchanged : QueueView → Stepped
+unchanged queue = record { queue = queue; decision = other None; sent = None }
+
+abbrev pub round : QueueView → Step → Stepped
+round queue step = record {
+  queue = record queue { numbers = round_begun queue.numbers (flow_count queue) step };
+  decision = other (round_difference queue.numbers step);
+  sent = None;
+}
+
+abbrev pub stepped : Kind → QueueView → Step → Option Stepped
+stepped kind.Enqueue queue step = Some (arrival queue step)
+stepped kind.Dequeue queue step = Some (departure queue step)
+stepped kind.Update queue step = Some (update queue step)
+stepped kind.Timer queue step = Some (round queue step)
+stepped kind.Flow queue step = Some (flow_stepped flow_resumed None queue step)
+stepped kind.Wait queue step = Some (waiting_resumed queue step)
+stepped kind.Change queue step = None
+stepped kind.Reset queue step = None
+stepped _ queue step = Some (unchanged queue)

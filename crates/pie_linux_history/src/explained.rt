@@ -1,4 +1,7 @@
 //! The decision of a step, and the explanation of a packet.
+ghost use Rattle.std.specs.Prelude.{◌≡◌};
+ghost use Rattle.pie_linux_history.specs.Queue.{other};
+
 use crate::difference::Difference;
 use crate::step::QueueName;
 use pie_linux::{LinuxCause, LinuxState};
@@ -42,7 +45,9 @@ pub(crate) struct Decision {
 
 impl Decision {
     /// Returns the decision of a step that is no arrival.
-    pub(crate) fn other(difference: Option<Difference>) -> Decision {
+    pub(crate) fn other(difference: Option<Difference>) -> Decision
+        ensures { result ≡ other difference }
+    {
         Decision {
             difference,
             arrival: None,

@@ -5,10 +5,20 @@
 //! or the number of steps of a queue that the recorder lost. Records are counted from 1, steps of the text (*events*)
 //! from 1 after the first row.
 //!
-//! Proved: each decision of one step. `QueueNumbers::arrive`, `depart`, `update`, `begin_round`, `change` and `reset`
-//! give the numbers of the queue and of the flow after the step, and the first recorded number that differs from them,
-//! exactly as specs/Decisions.antt defines them over the rules of pie_linux. Tested only (tests/program/linux_steps.py):
-//! the fields of a row, the choice of the queue and of the flow of a step, and the packets that wait or wait again.
+//! Proved:
+//!
+//! - `audit` and `explain` read the rows of the text in order up to the first fault or the first step that differs, and
+//!   return `Clean` only after the last row (specs/Audit.antt). A difference names the event, the queue and the step of
+//!   its row, and a fault names its record.
+//! - The fields of a row by the names of its columns, and each fault of a row (specs/Columns.antt).
+//! - In a queue: the flow of a step, its waiting packets, and the packets that the kernel counts again
+//!   (specs/Queue.antt).
+//! - Each decision. `QueueNumbers::arrive`, `depart`, `update`, `begin_round`, `change` and `reset` give the numbers of
+//!   the queue and of the flow after the step, and the first recorded number that differs from them, exactly as
+//!   specs/Decisions.antt defines them over the rules of pie_linux.
+//!
+//! Tested only (tests/program/linux_steps.py): the queue to which the name of a step belongs and the number of its last
+//! step, the first state of a queue, the packets that a change or a reset drops, and the text of explanations.
 #![tactic(auto)]
 
 mod choice;

@@ -1,8 +1,7 @@
 //! A queue whose steps are decided again: its numbers, its flows and their waiting packets.
-ghost use Rattle.std.specs.Prelude.{◌≡◌, ◌++◌, ◌<◌, IfOk, if◌then◌else◌, length, map};
-ghost use Rattle.pie_linux.specs.Enqueue.{is_queued};
-ghost use Rattle.pie_linux_history.specs.Decisions.{arrival_difference, arrived, bytes_before, cause_of, length_before, waiting_of};
-ghost use Rattle.pie_linux_history.specs.Queue.{arrival_packet, counted_again, dropped, flow_arrived, flow_count, last_departures, no_flow, place_of, sent, sent_before};
+ghost use Rattle.std.specs.Prelude.{◌≡◌, IfOk, IfSome, None};
+ghost use Rattle.pie_linux_history.specs.declared.numbers.QueueNumbers.{QueueNumbers};
+ghost use Rattle.pie_linux_history.specs.Queue.{arrival, counted_again, departure, stepped, update, waiting_resumed, dropped, IsFlowStep, flow_arrived, flow_count, flow_departed, flow_resumed, flow_stepped, flow_updated, flow_waited, last_departures, no_flow, other, place_of, sent, sent_before};
 
 use crate::difference::{Column, Difference};
 use crate::explained::{DecidedPacket, Decision, Fate};
@@ -55,10 +54,7 @@ impl Model for Queue {
 impl Flow {
     /// Decides an arrival in this flow of a queue with the numbers `queue` again.
     fn arrive(&mut self, queue: &mut QueueNumbers, step: &Step) -> Result<Decision, AllocError>
-        ensures flow { IfOk result (λ _. self.new ≡ flow_arrived queue.old self.old step.now) }
-        ensures queue { queue.new ≡ arrived queue.old self.old.numbers step.now }
-        ensures difference { IfOk result (λ decision. decision.difference ≡ arrival_difference queue.old self.old.numbers step.now queue.new) }
-        ensures packet { IfOk result (λ decision. decision.arrival ≡ Some (arrival_packet queue.old self.old step.now)) }
+        ensures { IfOk result (λ decision. IsFlowStep (flow_arrived queue.old self.old step.now) queue.new self.new decision None) }
     {
         let (state, limit) = (self.numbers.state, queue.params.limit);
         let arrived = queue.arrive(&mut self.numbers, step);
@@ -76,6 +72,53 @@ impl Flow {
                 limit,
             }),
         })
+    }
+
+    /// Takes the departure of the first waiting packet into account again. Returns the difference, and its length.
+    fn depart(&mut self, queue: &mut QueueNumbers, step: &Step) -> (Option<Difference>, Option<u32>)
+        ensures { IsFlowStep (flow_departed queue.old self.old step.now) queue.new self.new (other result.0) result.1 }
+    {
+        match self.waiting.pop_front() {
+            Some(waiting) => (
+                queue.depart(&mut self.numbers, &waiting, step),
+                Some(waiting.length),
+            ),
+            None => (
+                Some(Difference {
+                    column: Column::LengthAfter,
+                    recorded: u64::from(step.length_after),
+                    right: 0,
+                }),
+                None,
+            ),
+        }
+    }
+
+    /// Makes an update of the probability again.
+    fn update(&mut self, queue: &mut QueueNumbers, step: &Step) -> Option<Difference>
+        ensures { IsFlowStep (flow_updated queue.old self.old step.now) queue.new self.new (other result) None }
+    {
+        queue.update(&mut self.numbers, step)
+    }
+
+    /// Takes over the recorded state of a running flow.
+    fn resume(&mut self, step: &Step) -> Decision
+        ensures { (queue : QueueNumbers) → IsFlowStep (flow_resumed queue self.old step.now) queue self.new result None }
+    {
+        self.numbers = FlowNumbers {
+            state: step.after,
+            backlog: step.backlog,
+            listed: step.x1 != 0,
+        };
+        Decision::other(None)
+    }
+
+    /// Adds the packet of a step at the end.
+    fn push(&mut self, step: &Step) -> Result<Decision, AllocError>
+        ensures { IfOk result (λ decision. (queue : QueueNumbers) → IsFlowStep (flow_waited queue self.old step.now) queue self.new decision None) }
+    {
+        self.waiting.push_back(waiting_of(step))?;
+        Ok(Decision::other(None))
     }
 }
 
@@ -144,7 +187,9 @@ impl Queue {
         &mut self,
         step: &Step,
         lost: &mut Vec<DecidedPacket>,
-    ) -> Result<Decision, AllocError> {
+    ) -> Result<Decision, AllocError>
+        ensures { IfOk result (λ decision. IfSome (stepped step.now.kind self.old step.now) (λ made. made ≡ record { queue = self.new; decision = decision; sent = None })) }
+    {
         match step.kind {
             Kind::Enqueue => self.arrive(step),
             Kind::Dequeue => Ok(Decision::other(self.depart(step))),
@@ -155,29 +200,28 @@ impl Queue {
             }
             Kind::Change => self.change(step, lost),
             Kind::Reset => self.reset(step, lost),
-            Kind::Flow => {
-                self.resume_flow(step);
-                Ok(Decision::other(None))
-            }
+            Kind::Flow => Ok(self.resume_flow(step)),
             Kind::Wait => self.resume_packet(step),
             Kind::Init | Kind::Resume | Kind::Destroy | Kind::Empty => Ok(Decision::other(None)),
         }
     }
 
     /// Takes over the recorded state of a running flow.
-    fn resume_flow(&mut self, step: &Step) {
+    fn resume_flow(&mut self, step: &Step) -> Decision
+        ensures { flow_stepped flow_resumed None self.old step.now ≡ record { queue = self.new; decision = result; sent = None } }
+    {
         let place = self.place(step);
-        if let Some(flow) = self.flows.get_mut(place) {
-            flow.numbers = FlowNumbers {
-                state: step.after,
-                backlog: step.backlog,
-                listed: step.x1 != 0,
-            };
-        }
+        let Some(flow) = self.flows.get_mut(place) else {
+            return Decision::other(None);
+        };
+        flow.resume(step)
     }
 
     /// Takes over a waiting packet of a running queue.
-    fn resume_packet(&mut self, step: &Step) -> Result<Decision, AllocError> {
+    #[tactic(auto, unfolding(crate::specs::Queue::waiting_resumed))]
+    fn resume_packet(&mut self, step: &Step) -> Result<Decision, AllocError>
+        ensures { IfOk result (λ decision. waiting_resumed self.old step.now ≡ record { queue = self.new; decision = decision; sent = None }) }
+    {
         if step.x0 != 0 {
             self.numbers.peeked = Some(step.packet_length);
             self.numbers.peeked_packets = 1;
@@ -185,8 +229,7 @@ impl Queue {
             return Ok(Decision::other(None));
         }
         self.numbers.add(&waiting_of(step));
-        self.queue(step)?;
-        Ok(Decision::other(None))
+        self.queue(step)
     }
 
     /// Returns the number of flows.
@@ -207,12 +250,14 @@ impl Queue {
     }
 
     /// Adds the packet of a step at the end of its flow.
-    fn queue(&mut self, step: &Step) -> Result<(), AllocError> {
+    fn queue(&mut self, step: &Step) -> Result<Decision, AllocError>
+        ensures { IfOk result (λ decision. flow_stepped flow_waited None self.old step.now ≡ record { queue = self.new; decision = decision; sent = None }) }
+    {
         let place = self.place(step);
-        if let Some(flow) = self.flows.get_mut(place) {
-            flow.waiting.push_back(waiting_of(step))?;
-        }
-        Ok(())
+        let Some(flow) = self.flows.get_mut(place) else {
+            return Ok(Decision::other(None));
+        };
+        flow.push(step)
     }
 
     /// Keeps the length of a departure.
@@ -265,9 +310,10 @@ impl Queue {
         }
     }
 
-    /// Decides an arrival again.
-    fn arrive(&mut self, step: &Step) -> Result<Decision, AllocError> {
-        self.count_again(step.bytes_before);
+    /// Decides an arrival again, whose counted packets are known.
+    fn arrive_counted(&mut self, step: &Step) -> Result<Decision, AllocError>
+        ensures { IfOk result (λ decision. flow_stepped flow_arrived (no_flow step.now) self.old step.now ≡ record { queue = self.new; decision = decision; sent = None }) }
+    {
         let place = self.place(step);
         match self.flows.get_mut(place) {
             Some(flow) => flow.arrive(&mut self.numbers, step),
@@ -275,34 +321,58 @@ impl Queue {
         }
     }
 
-    /// Takes a departure into account again.
-    fn depart(&mut self, step: &Step) -> Option<Difference> {
+    /// Decides an arrival again.
+    #[tactic(auto, unfolding(crate::specs::Queue::arrival))]
+    fn arrive(&mut self, step: &Step) -> Result<Decision, AllocError>
+        ensures { IfOk result (λ decision. arrival self.old step.now ≡ record { queue = self.new; decision = decision; sent = None }) }
+    {
+        self.count_again(step.bytes_before);
+        self.arrive_counted(step)
+    }
+
+    /// Takes a departure into account again. Returns the difference, and the length of the packet.
+    fn depart_counted(&mut self, step: &Step) -> (Option<Difference>, Option<u32>)
+        ensures { flow_stepped flow_departed (no_flow step.now) self.old step.now ≡ record { queue = self.new; decision = other result.0; sent = result.1 } }
+    {
         let place = self.place(step);
-        let Some(flow) = self.flows.get_mut(place) else {
-            return no_flow(step);
-        };
-        let Some(waiting) = flow.waiting.pop_front() else {
-            return Some(Difference {
-                column: Column::LengthAfter,
-                recorded: u64::from(step.length_after),
-                right: 0,
-            });
-        };
-        let difference = self.numbers.depart(&mut flow.numbers, &waiting, step);
-        self.send(waiting.length);
+        match self.flows.get_mut(place) {
+            Some(flow) => flow.depart(&mut self.numbers, step),
+            None => (no_flow(step), None),
+        }
+    }
+
+    /// Takes a departure into account again.
+    #[tactic(auto, unfolding(crate::specs::Queue::departure))]
+    fn depart(&mut self, step: &Step) -> Option<Difference>
+        ensures { departure self.old step.now ≡ record { queue = self.new; decision = other result; sent = None } }
+    {
+        let (difference, sent) = self.depart_counted(step);
+        if let Some(length) = sent {
+            self.send(length);
+        }
         difference
     }
 
+    /// Makes an update of the probability again, whose counted packets are known.
+    fn update_counted(&mut self, step: &Step) -> Option<Difference>
+        ensures { flow_stepped flow_updated (no_flow step.now) self.old step.now ≡ record { queue = self.new; decision = other result; sent = None } }
+    {
+        let place = self.place(step);
+        match self.flows.get_mut(place) {
+            Some(flow) => flow.update(&mut self.numbers, step),
+            None => no_flow(step),
+        }
+    }
+
     /// Makes an update of the probability again.
-    fn update(&mut self, step: &Step) -> Option<Difference> {
+    #[tactic(auto, unfolding(crate::specs::Queue::update))]
+    fn update(&mut self, step: &Step) -> Option<Difference>
+        ensures { update self.old step.now ≡ record { queue = self.new; decision = other result; sent = None } }
+    {
         if !self.numbers.has_flows {
             self.count_again(step.backlog);
         }
-        let place = self.place(step);
-        match self.flows.get_mut(place) {
-            Some(flow) => self.numbers.update(&mut flow.numbers, step),
-            None => no_flow(step),
-        }
+        self.update_counted(step)
     }
 
     /// Changes the parameters.

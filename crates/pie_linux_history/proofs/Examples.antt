@@ -1,0 +1,56 @@
+-- Examples of the definitions. Each theorem computes.
+use Rattle.std.proofs.Common.{◌≡◌, ℕ, ◌∷◌, ◌++◌, [], List, refl, codes, map}
+use Rattle.std.specs.List.{range_with_len}
+use Rattle.std.specs.Prelude.{Result, Ok, Err, Some, None}
+use Rattle.std.specs.Fmt.{decimal, digits}
+use Rattle.pie_record.specs.Names.{field_at}
+use Rattle.pie_record.specs.Text.{Row}
+use Rattle.pie_record.specs.Field.{and_then, number}
+use Rattle.pie_record.specs.declared.fault.RecordFault.{RecordFault}
+use Rattle.pie_record.specs.declared.fault.RecordFault.TheVariants as flaw
+use Rattle.pie_linux_history.specs.declared.columns.Columns.{Columns}
+use Rattle.pie_linux_history.specs.declared.fault.StepsFault.TheVariants.{NoColumn}
+use Rattle.pie_linux_history.specs.declared.step.Step.{Step}
+use Rattle.pie_linux_history.specs.Columns.{collected, columns_of, decimal_at, flow_at, has_flows_at, hexadecimal_after, hexadecimal_at, kind_at, known, lost_in, numbers_of, place_from, step_in, step_of}
+use Rattle.pie_linux_history.specs.declared.numbers.QueueNumbers.{QueueNumbers}
+use Rattle.pie_linux_history.specs.Queue.{last_departures, returned, segments}
+use Rattle.pie_linux_history.specs.Views.{QueueView}
+
+-- a first row with a column that is not read, and a row in which each number is the place of its column
+abbrev columns : Columns
+columns = record { queue = 53; places = range_with_len 1 52; count = 54 }
+
+abbrev arrival : Row
+arrival = codes "note" ∷ map decimal (range_with_len 1 47)
+    ++ codes "0800" ∷ codes "45b8" ∷ codes "-1" ∷ codes "enq" ∷ codes "pie" ∷ codes "eth0" ∷ []
+
+found : columns_of (codes "note" ∷ known ++ codes "qid" ∷ []) ≡ Ok columns
+unfolding columns_of collected place_from
+found = refl
+
+-- the first column that is missing
+missing : columns_of (codes "seq" ∷ codes "rnd" ∷ []) ≡ Err (NoColumn 1)
+unfolding columns_of collected place_from
+missing = refl
+
+-- fields by the names of their columns: seq, ns, rnd, backlog, bl1, x2, maxq, proto, l3
+abbrev some_fields : Step → Result (List ℕ) RecordFault
+some_fields step = Ok (step.number ∷ step.moment ∷ step.word ∷ step.backlog ∷ step.bytes_after ∷ step.x2 ∷ step.stats.maxq ∷ step.protocol ∷ step.header ∷ [])
+
+fields : and_then (step_in columns arrival) some_fields ≡ Ok (1 ∷ 2 ∷ 3 ∷ 16 ∷ 23 ∷ 33 ∷ 47 ∷ 2048 ∷ 17848 ∷ [])
+unfolding step_in kind_at has_flows_at flow_at hexadecimal_at hexadecimal_after numbers_of collected decimal_at number step_of place_from field_at digits
+fields = refl
+
+-- a row with one more field; rows of lost steps without a queue, and with a count that is no number
+faults : (step_in columns (arrival ++ [] ∷ []) ≡ Err flaw.Fields) × (lost_in (codes "lost" ∷ codes "12" ∷ []) ≡ Err flaw.Fields)
+    × (lost_in (codes "lost" ∷ codes "1x" ∷ codes "eth0" ∷ []) ≡ Err flaw.Number)
+unfolding step_in lost_in decimal_at number field_at
+faults = (refl, refl, refl)
+
+-- after departures of 100, 200 and 300 bytes, 500 more bytes are the last two; 900 are three segments of the last one; 50 are none
+abbrev three : QueueNumbers → QueueView
+three numbers = record { numbers = numbers; flows = []; sent = 100 ∷ 200 ∷ 300 ∷ []; count = 3 }
+
+again : (numbers : QueueNumbers) → (returned (three numbers) 500 ≡ Some 2) × (returned (three numbers) 900 ≡ Some 3) × (returned (three numbers) 50 ≡ None)
+unfolding last_departures
+again numbers = (refl, refl, refl)

@@ -11,22 +11,24 @@
 //! the fields of a row, the choice of the queue and of the flow of a step, and the packets that wait or wait again.
 #![tactic(auto)]
 
-mod choice;
 mod columns;
+mod decided;
 mod difference;
+mod event;
 mod explained;
 mod fault;
 mod numbers;
 mod queue;
 mod queues;
+mod reports;
 mod step;
+mod steps;
 mod text;
 mod words;
 
-pub use choice::StepChoice;
 pub use difference::{Column, Difference};
-pub use explained::Explained;
 pub use fault::StepsFault;
 pub use queues::{StepDifference, StepsCounts};
+pub use reports::{StepsExplained, explain, report};
 pub use step::QueueName;
-pub use text::{StepsFinding, audit, explain};
+pub use text::{StepsFinding, audit};

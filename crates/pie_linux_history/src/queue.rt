@@ -1,4 +1,5 @@
 //! A queue whose steps are decided again: its numbers, its flows and their waiting packets.
+use crate::decided::StepNumbers;
 use crate::difference::{Column, Difference};
 use crate::explained::{DecidedPacket, Decision, Fate};
 use crate::numbers::{FlowNumbers, QueueNumbers, Waiting, waiting_of};
@@ -142,11 +143,33 @@ impl Queue {
 
     /// Returns the place of the flow of a step: the recorded one, or the hash's if the limit came before it was known.
     fn place(&self, step: &Step) -> usize {
+        self.place_of(step.flow, step.hash)
+    }
+
+    /// Returns the place of this flow, or of the flow of this hash.
+    fn place_of(&self, flow: Option<u32>, hash: u32) -> usize {
         if !self.numbers.has_flows {
             return 0;
         }
         let flows = u32::try_from(self.flows.len()).unwrap_or(u32::MAX);
-        step.flow.unwrap_or(flow_of(step.hash, flows)) as usize
+        flow.unwrap_or(flow_of(hash, flows)) as usize
+    }
+
+    /// Returns the numbers of the queue and of this flow, or of the flow of this hash.
+    pub(crate) fn numbers_at(&self, flow: Option<u32>, hash: u32) -> Option<StepNumbers> {
+        let place = self.place_of(flow, hash);
+        let flow = self.flows.get(place)?;
+        Some(StepNumbers {
+            place: u32::try_from(place).unwrap_or(u32::MAX),
+            params: self.numbers.params,
+            state: flow.numbers.state,
+            packets: self.numbers.length,
+            bytes: self.numbers.bytes,
+            since: match flow.waiting.front() {
+                Some(first) => first.moment,
+                None => 0,
+            },
+        })
     }
 
     /// Adds the packet of a step at the end of its flow.

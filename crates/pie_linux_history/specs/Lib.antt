@@ -1,3 +1,4 @@
 pub mod Differences
 pub mod Decisions
 pub mod Event
+pub mod Reports

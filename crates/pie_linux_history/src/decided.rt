@@ -27,9 +27,9 @@ pub(crate) struct Updates {
     pub count: u64,
     /// The event of the last one.
     pub event: u64,
-    /// The effective moment of the last one, without one the opening moment, in nanoseconds.
+    /// The effective moment of the last one, or without one of the queue's first row that has a moment, in nanoseconds.
     pub moment: u64,
-    /// The opening moment: the effective moment of the queue's first row that has a moment, in nanoseconds.
+    /// The moment of that first row, in nanoseconds.
     pub opening: u64,
 }
 

@@ -1,4 +1,11 @@
 //! Explanations and reports of a text of recorded steps.
+ghost use Rattle.std.specs.Prelude.{◌≡◌, ◌++◌, ◌∷◌, ◌&&◌, [], ℕ, List, Option, None, OnOk};
+ghost use Rattle.std.specs.Io.KnownBytes.{Appends, append_known};
+ghost use Rattle.pie_explain.specs.Selection.{is_from, is_to};
+ghost use Rattle.pie_explain.specs.declared.explanation.Explained.{Explained};
+ghost use Rattle.pie_linux_history.specs.declared.decided.DecidedStep.{DecidedStep};
+ghost use Rattle.pie_linux_history.specs.Reports.{Reports, ReportsSome, WritesReport, selected};
+
 use crate::columns::out_of_memory;
 use crate::decided::DecidedStep;
 use crate::event::{explained_of, tag_of};
@@ -23,7 +30,9 @@ pub struct StepsExplained {
 }
 
 /// Returns true if the bounds contain the moment of a step. A step has no wall-clock time.
-fn is_within(selection: &Selection, moment: u64) -> bool {
+fn is_within(selection: &Selection, moment: u64) -> bool
+    ensures { result ≡ (is_from selection.now.from moment None && is_to selection.now.to moment None) }
+{
     is_from(selection.from, moment, None) && is_to(selection.to, moment, None)
 }
 
@@ -31,9 +40,14 @@ fn is_within(selection: &Selection, moment: u64) -> bool {
 fn finish<W: Write>(
     outcome: Result<StepsExplained, StepsFault>,
     ended: Result<(), AllocError>,
+    selection: &Selection,
     page: &mut Page,
     writer: &mut W,
-) -> Result<StepsExplained, StepsFault> {
+) -> Result<StepsExplained, StepsFault>
+    ensures { (whole : List Explained → List ℕ) (before : Option (List ℕ))
+        → OnOk outcome (OnOk ended (WritesReport whole selection.now before (append_known (W.contents writer.old) page.old)))
+        → OnOk result (WritesReport whole selection.now before (W.contents writer.new)) }
+{
     let written = page.finish(writer);
     match (outcome, ended, written) {
         (Ok(_), Err(_), _) => Err(out_of_memory()),
@@ -45,7 +59,9 @@ fn finish<W: Write>(
 // ---- events
 
 /// Returns the explanation of a step, if reports have its kind, and it is selected.
-fn selected(selection: &Selection, one: &DecidedStep) -> Option<Explained> {
+fn selected(selection: &Selection, one: &DecidedStep) -> Option<Explained>
+    ensures { result ≡ selected selection.now one.now }
+{
     let explained = explained_of(one)?;
     let explanation = &explained.explanation;
     let is_chosen = selection
@@ -58,24 +74,54 @@ fn selected(selection: &Selection, one: &DecidedStep) -> Option<Explained> {
     }
 }
 
-/// Reports a step if it is selected. Writes the page out if it is full. Returns the number of reported events.
-fn report_step<W: Write, P: Report>(
+/// Reports a step if it is selected. Returns the number of reported events.
+fn report_step<P: Report>(
+    report: &P,
+    state: &mut P::State,
+    selection: &Selection,
+    one: &DecidedStep,
+    page: &mut Page,
+) -> Result<u64, AllocError>
+    ensures { (steps : List DecidedStep) (before out : Option (List ℕ))
+        → Reports (P.shows report.now state.old) (P.so_far report.now) selection.now steps before (append_known out page.old)
+        → OnOk result (Reports (P.shows report.now state.new) (P.so_far report.now) selection.now (steps ++ one.now ∷ []) before
+        (append_known out page.new)) }
+{
+    let Some(explained) = selected(selection, one) else {
+        return Ok(0);
+    };
+    report.report_event(state, &explained, page)?;
+    Ok(1)
+}
+
+/// Reports a step if it is selected, and writes the page out if it is full. Returns the number of reported events.
+fn write_step<W: Write, P: Report>(
     report: &P,
     state: &mut P::State,
     selection: &Selection,
     one: &DecidedStep,
     page: &mut Page,
     writer: &mut W,
-) -> Result<u64, StepsFault> {
-    let Some(explained) = selected(selection, one) else {
-        return Ok(0);
-    };
-    if report.report_event(state, &explained, page).is_err() {
+) -> Result<u64, StepsFault>
+    ensures { (before : Option (List ℕ))
+        → ReportsSome (P.shows report.now state.old) (P.so_far report.now) selection.now before (append_known (W.contents writer.old) page.old)
+        → OnOk result (ReportsSome (P.shows report.now state.new) (P.so_far report.now) selection.now before
+        (append_known (W.contents writer.new) page.new)) }
+{
+    let Ok(count) = report_step(report, state, selection, one, page) else {
         return Err(out_of_memory());
-    }
+    };
     match page.write_if_full(writer) {
-        Ok(()) => Ok(1),
+        Ok(()) => Ok(count),
         Err(why) => Err(StepsFault::Trace(why)),
+    }
+}
+
+/// Returns the result if a step differs.
+fn differs(count: u64, found: StepDifference) -> StepsExplained {
+    StepsExplained {
+        count,
+        finding: StepsFinding::Differs(found),
     }
 }
 
@@ -87,12 +133,17 @@ fn report_steps<R: Read + Drop, W: Write, P: Report>(
     state: &mut P::State,
     page: &mut Page,
     writer: &mut W,
-) -> Result<StepsExplained, StepsFault> {
+) -> Result<StepsExplained, StepsFault>
+    ensures { (before : Option (List ℕ))
+        → ReportsSome (P.shows report.now state.old) (P.so_far report.now) selection.now before (append_known (W.contents writer.old) page.old)
+        → OnOk result (ReportsSome (P.shows report.now state.new) (P.so_far report.now) selection.now before
+        (append_known (W.contents writer.new) page.new)) }
+{
     let mut count: u64 = 0;
-    for _ in 0..u64::MAX {
+    'steps: for _ in 0..u64::MAX {
         match steps.next() {
             Ok(NextStep::Decided(one)) => {
-                match report_step(report, state, selection, &one, page, writer) {
+                match write_step(report, state, selection, &one, page, writer) {
                     Ok(more) => count = count.saturating_add(more),
                     Err(why) => return Err(why),
                 }
@@ -105,17 +156,29 @@ fn report_steps<R: Read + Drop, W: Write, P: Report>(
     Ok(steps.all_explained(count))
 }
 
-/// Returns the result if a step differs.
-fn differs(count: u64, found: StepDifference) -> StepsExplained {
-    StepsExplained {
-        count,
-        finding: StepsFinding::Differs(found),
-    }
+/// Reports the selected events of all steps, and ends the report.
+fn write_report<R: Read + Drop, W: Write, P: Report>(
+    steps: &mut DecidedSteps<'_, R>,
+    selection: &Selection,
+    report: &P,
+    state: &mut P::State,
+    page: &mut Page,
+    writer: &mut W,
+) -> Result<StepsExplained, StepsFault>
+    ensures { (before : Option (List ℕ))
+        → ReportsSome (P.shows report.now state.old) (P.so_far report.now) selection.now before (append_known (W.contents writer.old) page.old)
+        → OnOk result (WritesReport (P.whole report.now) selection.now before (W.contents writer.new)) }
+{
+    let outcome = report_steps(steps, selection, report, state, page, writer);
+    let ended = report.end(state, page);
+    finish(outcome, ended, selection, page, writer)
 }
 
 /// Writes a report about the selected events of a text of recorded steps, up to the first fault and the first step that
 /// differs. With a `queue` only the steps of this queue are decided and reported. Returns the number of events and the
 /// finding.
+///
+/// The text is `whole` of the report for the explanations (`explained_of`) of the selected steps, in order.
 ///
 /// # Errors
 ///
@@ -127,7 +190,9 @@ pub fn report<R: Read + Drop, W: Write, P: Report>(
     selection: Selection,
     queue: Option<&str>,
     report: P,
-) -> Result<StepsExplained, StepsFault> {
+) -> Result<StepsExplained, StepsFault>
+    ensures { OnOk result (WritesReport (P.whole report) selection (W.contents output.old) (W.contents output.new)) }
+{
     let mut page = Page::new(alloc);
     let mut state = match report.begin(&mut page) {
         Ok(state) => state,
@@ -137,11 +202,9 @@ pub fn report<R: Read + Drop, W: Write, P: Report>(
         Ok(steps) => steps,
         Err(why) => return Err(why),
     };
-    let outcome = report_steps(
+    write_report(
         &mut steps, &selection, &report, &mut state, &mut page, output,
-    );
-    let ended = report.end(&state, &mut page);
-    finish(outcome, ended, &mut page, output)
+    )
 }
 
 // ---- packets in words
@@ -228,5 +291,5 @@ pub fn explain<R: Read + Drop, W: Write>(
         Err(why) => return Err(why),
     };
     let outcome = explain_steps(&mut steps, &selection, &mut page, output);
-    finish(outcome, Ok(()), &mut page, output)
+    finish(outcome, Ok(()), &selection, &mut page, output)
 }

@@ -32,14 +32,14 @@ struct QueueUpdates {
 }
 
 impl QueueUpdates {
-    /// Forgets all updates. `moment` is the effective moment of the queue's first row that has one.
-    fn begin(&mut self, moment: u64) {
+    /// Forgets all updates. `opening` is the moment of the queue's first row that has one, and `moment` the effective moment.
+    fn begin(&mut self, opening: u64, moment: u64) {
         self.flows.clear();
         self.none = Updates {
             count: 0,
             event: 0,
             moment,
-            opening: moment,
+            opening,
         };
     }
 
@@ -225,10 +225,10 @@ impl<'q, R: Read + Drop> DecidedSteps<'q, R> {
             return Ok(None);
         };
         if matches!(step.kind, Kind::Init | Kind::Resume) {
-            updates.begin(0);
+            updates.begin(0, 0);
         }
         if updates.none.opening == 0 && step.moment > 0 {
-            updates.begin(moment);
+            updates.begin(step.moment, moment);
         }
         let (Some(before), Some(after)) = (before, after) else {
             return Ok(None);

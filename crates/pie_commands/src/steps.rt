@@ -1,6 +1,6 @@
 //! `pie audit` and `pie explain` of a text of recorded steps of Linux, which `pie-watch` writes. pie_linux_history decides the
 //! steps.
-ghost use Rattle.std.specs.Prelude.{◌≡◌};
+ghost use Rattle.std.specs.Prelude.{◌≡◌, option_map};
 ghost use Rattle.pie_commands.specs.Ends.{WritesSteps};
 ghost use Rattle.pie_commands.specs.LinuxSteps.{end_of_clean, end_of_fault, end_of_steps, finding_of, is_one, lacks_queue};
 
@@ -147,7 +147,7 @@ pub(crate) fn explain_steps<R: Read + Drop, W: Write>(
 
 /// Returns true if the text has no step of the chosen queue.
 fn lacks_queue(queue: Option<&str>, counts: StepsCounts) -> bool
-    ensures { result ≡ lacks_queue queue counts }
+    ensures { result ≡ lacks_queue (option_map (λ name. name.now) queue.entry) counts }
 {
     queue.is_some() && (counts.steps == 0 && counts.lost == 0)
 }
@@ -160,12 +160,7 @@ fn is_one(which: EventChoice) -> bool
 }
 
 /// Writes why a text of `events` events has none that is selected.
-fn report_none<E: Write>(
-    errors: &mut E,
-    selection: Selection,
-    queue: Option<&str>,
-    events: u64,
-) {
+fn report_none<E: Write>(errors: &mut E, selection: Selection, queue: Option<&str>, events: u64) {
     if let Some(queue) = queue {
         let _ = writeln!(errors, "pie: no event of queue {queue} is selected");
         return;
@@ -197,7 +192,7 @@ fn end_of_clean<E: Write>(
     count: u64,
     counts: StepsCounts,
 ) -> End
-    ensures { result ≡ end_of_clean selection.which queue count counts }
+    ensures { result ≡ end_of_clean selection.which (option_map (λ name. name.now) queue.entry) count counts }
 {
     report_lost(errors, None, counts);
     if let Some(name) = queue
@@ -222,13 +217,21 @@ pub(crate) fn report_explained<E: Write>(
     queue: Option<&str>,
     outcome: Result<StepsExplained, StepsFault>,
 ) -> End
-    ensures { result ≡ end_of_steps selection.which queue outcome }
+    ensures { result ≡ end_of_steps selection.which (option_map (λ name. name.now) queue.entry) outcome }
 {
     match outcome {
-        Ok(StepsExplained { count, finding: StepsFinding::Clean(counts) }) => {
-            end_of_clean(errors, selection, queue, count, counts)
-        }
-        Ok(StepsExplained { finding: StepsFinding::Differs(found), .. }) => {
+        Ok(
+            StepsExplained {
+                count,
+                finding: StepsFinding::Clean(counts),
+            },
+        ) => { end_of_clean(errors, selection, queue, count, counts) }
+        Ok(
+            StepsExplained {
+                finding: StepsFinding::Differs(found),
+                ..
+            },
+        ) => {
             let event = found.event;
             fault(errors, ExplainFault::Differs { event });
             fault(errors, found);

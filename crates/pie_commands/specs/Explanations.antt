@@ -193,10 +193,10 @@ end_of_explain (Err _) = Failed
 abbrev pub EndsHistoryExplain : Selection → (List Explained → List ℕ) → Option (List ℕ) → End → Option (List ℕ) → Option (List ℕ) → Type 0
 EndsHistoryExplain selection text known = EndsBy end_of_explain (ExplainsText selection text) known
 
--- a history is refused if the options name a queue
+-- a history is refused if the options name a queue, unless the reader failed before
 abbrev pub EndsHistoryUnless : Option Text → Selection → (List Explained → List ℕ) → Option (List ℕ) → End → Option (List ℕ) → Option (List ℕ) → Type 0
 EndsHistoryUnless None selection text known end before now = EndsHistoryExplain selection text known end before now
-EndsHistoryUnless (Some queue) selection text known end before now = WritesNothing end before now
+EndsHistoryUnless (Some queue) selection text known end before now = ((end ≡ Failed) ⊎ (end ≡ Fault trace_fault.Read)) × (now ≡ before)
 
 -- the end of an explanation of recorded steps of Linux: the reader failed before the text was recognized, or the end follows from the result
 abbrev pub EndsStepsExplain : EventChoice → Option Text → End → Option (List ℕ) → Option (List ℕ) → Type 0

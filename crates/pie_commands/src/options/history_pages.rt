@@ -146,15 +146,18 @@ event. If a record cannot be read, the status is 1. It is also 1 if the event of
 packet of --tag is missing, or lies outside --from and --to. With -o FILE the output is moved to
 FILE when it is complete, also with status 2. pie run --help describes -o.
 
-A text of pie-watch has steps of Linux's own pie and fq_pie. Event N is the row N after the first.
-Moments are times since boot, so --wall adds nothing. In words, --lost explains each packet that the
-kernel dropped, also by a lower limit or a reset, --marked each that it marked, --tag T each arrival
-with this tag, and --all each arrival and each dropped packet. All other output is that of a history:
-enq is an arrival, deq a departure, calc an update, change new parameters, and reset and destroy a
-reset. The tag of a packet is its flow of fq_pie times 2^32, the field caller is 0, the field ecn of a
-departure is not, since it is not recorded, and packets that a lower limit or a reset dropped are not
-counted. Sums over several queues or flows add their packets; a last value is that of the last step.
---queue NAME takes the steps of one queue; qid is the column of names.
+A text of pie-watch has the steps of Linux's own pie and fq_pie. Event N is the row N after the first.
+Moments are times since boot. Explanations in words name Linux's rules: --lost explains each packet
+that the kernel dropped, also by a lower limit or a reset, --marked each that it marked, --tag T each
+arrival with this tag, and --all each arrival and each dropped packet. All other output has the form
+for a history:
+- enq is an arrival, deq a departure, calc an update, change new parameters, reset and destroy a reset;
+- the tag of a packet is its flow of fq_pie times 2^32, and 0 for pie;
+- caller is 0, and ecn is not for each departure, because it is not recorded;
+- packets that a lower limit or a reset dropped are not counted;
+- sums over several queues or flows add their packets, and a last value is that of the last step.
+With --queue NAME only the steps of the queue with this name, as in the column qid, are decided. With
+dq_rate_estimator the kernel keeps no times of arrival: a wait is then the time between two rows.
 
 Example: why was a packet lost? The file trace has the trace of the example of pie run --help:
 

@@ -8,7 +8,7 @@ _pie() {
             run) words='--count --progress --output --force --help' ;;
             audit) words='--joined --json --progress --help' ;;
             migrate) words='--progress --output --force --help' ;;
-            explain) words='--event --tag --lost --marked --all --from --to --summary --every --full --flows --digest --csv --json --wall --progress --output --force --help' ;;
+            explain) words='--event --tag --lost --marked --all --queue --from --to --summary --every --full --flows --digest --csv --json --wall --progress --output --force --help' ;;
             cut) words='--from --to --event --around --last --every --progress --output --force --help' ;;
             storm) words='--senders --packets --burst --seed --load --changes --folds --profile --delay --picking --step --size --decay --count --help' ;;
             params) words='--rate --target --tupdate --limit --alpha --beta --ecn --bytemode --mtu --dq_rate_estimator --no_derandomization \

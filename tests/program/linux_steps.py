@@ -11,7 +11,7 @@ segments of one packet).
 - A missing row is found, and so is a queue that is not resumed after lost steps.
 - A text without a column or without a queue's first step, and a field that is no number, are refused.
 - `explain --lost` explains each packet that an enqueue, a lower limit or a reset dropped, with its cause; `--marked`, `--all` and `--event N` each chosen
-  packet. Other choices and forms are refused by name.
+  packet. Two choices are refused. linux_reports.py tests other choices and forms.
 - Several files, also with histories among them, are audited in turn; `--joined` is refused for steps.
 - A text is recognized in reads of all sizes. A text that begins almost so is a history.
 - Each allocation, read and write fails in turn.
@@ -205,14 +205,9 @@ before = [block for block in blocks if int(block.split(":")[0][6:]) < at + 1]
 got = explained("--lost", rows=rows)
 check(got == (2, before, refusal + differs(at, "qlen0", wrong, recorded)) and before, "a step that differs:", got[0], len(got[1]), got[2])
 
-# other choices and forms are refused, and nothing is read further or written
-OTHERS = {"tag": ["7"], "from": ["1s"], "to": ["1s"], "every": ["1s"], "flows": ["3"], "summary": [], "full": [], "digest": [], "csv": [], "json": [], "wall": []}
-for name, value in OTHERS.items():
-    words = ["explain", f"--{name}", *value, *([] if name == "tag" else ["--lost"])]
-    check(run(ROWS, words=words) == (1, "", f"pie: --{name} is not for a text of pie-watch\n"), words, run(ROWS, words=words))
-no_choice = "pie: a text of pie-watch needs one of --event N, --lost, --marked and --all; see pie explain --help\n"
-check(run(ROWS, words=["explain"]) == (1, "", no_choice), "no choice:", run(ROWS, words=["explain"]))
-check(run(ROWS, words=["explain", "--lost", "--all"])[:2] == (1, ""), "two choices:", run(ROWS, words=["explain", "--lost", "--all"]))
+two = "pie: explain takes only one of --event N, --tag T, --lost, --marked and --all; see pie explain --help\n"
+got = run(ROWS, words=["explain", "--lost", "--all"])
+check(got[:2] == (1, "") and got[2].startswith(two), "two choices:", got)
 for words in (["run"], ["cut", "--from", "0"], ["migrate"], ["what-if", "--from", "0"]):
     check(run(ROWS, words=words) == (1, "", "pie: the first record is not an open record\n"), words, run(ROWS, words=words))
 

@@ -1,5 +1,5 @@
 #!/usr/bin/env python3
-"""Tests reports of histories (report/pie-report). The content of each page must be that of `pie explain`, and the
+"""Tests reports of histories, and of a text of pie-watch (report/pie-report). The content of each page must be that of `pie explain`, and the
 policy in its head must fit its script and style. With --flows the flows must be those of `pie explain --flows`. The
 page of a history that differs or has a fault must say so. Hostile texts must stay text. FILE must be written as
 `pie -o` writes it.
@@ -71,7 +71,8 @@ def hold_data(name, page, path, *words):
     check([dict(zip(data["fields"], map(str, data["summary"])))] == rows, f"{name}: the summary")
     opening = path.read_text().split("\n", 1)[0].split(",")
     place = {"open2": 7, "open3": 11, "resume": 20}.get(opening[0], 5) + (opening[6] in ("zero", "half") if len(opening) > 6 else 0)
-    check([str(data["target"])] == (opening[place : place + 1] or ["15000000"]), f"{name}: the target")
+    targets = [str(int(row["target"]) * 64) for row in table(path.read_text()) if opening[0] == "qid" and row["target"]]
+    check([str(data["target"])] == (targets[:1] or opening[place : place + 1] or ["15000000"]), f"{name}: the target")
     periods = table(explain(path, f"--every={data['period']}", "--csv", *words)[1])
     check([dict(zip(data["fields"], map(str, row))) for row in data["periods"]] == periods, f"{name}: the periods")
     walls = [row["wall"] for row in table(explain(path, f"--every={data['period']}", "--csv", "--wall", *words)[1])]
@@ -82,8 +83,9 @@ def hold_data(name, page, path, *words):
     wanted = [[row[field] for field in ("number", "effective_moment", "tag", "size")] for row in both]
     check([list(map(str, row[:4])) for row in data["packets"]] == wanted, f"{name}: the lost and marked packets")
     check(data["lost"] == [len(lost)] * 2 and data["marked"] == [len(marked)] * 2, f"{name}: how many are listed")
-    texts = {which: explain(path, which, "--wall", *words)[1] for which in ("--lost", "--marked")}
-    both = sorted(re.findall(r"^event .*\n(?:  .*\n)*", texts["--lost"] + texts["--marked"], re.M), key=lambda it: int(it.split()[1][:-1]))
+    # (of a text of pie-watch --lost and --marked have other words)
+    texts = [explain(path, *which, "--wall", *words)[1] for which in ([["--digest"]] if opening[0] == "qid" else [["--lost"], ["--marked"]])]
+    both = sorted(re.findall(r"^event .*\n(?:  .*\n)*", "".join(texts), re.M), key=lambda it: int(it.split()[1][:-1]))
     check([row[6] for row in data["packets"]] == both, f"{name}: the words of the packets")
 
 
@@ -133,7 +135,7 @@ def pages(folder):
     damaged = [(*it, ()) for it in broken(folder)]
     hostile = Path(folder, f"a 'quoted' {HOSTILE.replace('/', '-')}.history")
     shutil.copy(ROOT / "examples/marks.history", hostile)
-    for name, path, status, told, words in [*examples, part, *cut, *damaged, *unusual(folder), ("a hostile name", hostile, 0, "", ())]:
+    for name, path, status, told, words in [*examples, part, *cut, *damaged, *unusual(folder), *steps(folder), ("a hostile name", hostile, 0, "", ())]:
         got, page, errors = report(path, *words)
         check(got == status and told in errors, f"{name}: status {got}, {errors}")
         if page:
@@ -141,6 +143,14 @@ def pages(folder):
             place = Path(folder, f"{name}.html")
             place.write_text(page)
             yield name, path, place, status, words
+
+
+def steps(folder):
+    """Texts of pie-watch: one with several queues, and the beginning of one with another target, 5 ms."""
+    whole, path = ROOT / "tests/rows/linux_steps.csv", Path(folder, "target.csv")
+    lines = whole.read_text().splitlines(keepends=True)
+    path.write_text("".join([lines[0], lines[1].replace(",234375,", ",78125,"), *lines[2:20]]))
+    return [("steps", whole, 0, "", ()), ("steps of a target", path, 0, "", ())]
 
 
 def cut_out(folder):

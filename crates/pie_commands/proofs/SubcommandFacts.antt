@@ -12,6 +12,7 @@ use Rattle.pie_commands.proofs.Names.{end_of_explain, explain_ends, output_kind_
 unfoldable use Rattle.pie_commands.specs.Explanations.{selection_of}
 use Rattle.pie_commands.specs.FileAudits.{FindsInHistory}
 use Rattle.pie_commands.specs.Files.{Opens, opens_after}
+use Rattle.clap.specs.Words.{first_of}
 use Rattle.pie_commands.specs.TextKinds.{is_linux_text}
 use Rattle.pie_explain.specs.TextAnswer.{ExplainsText}
 use Rattle.pie_advise.specs.declared.request.Request.{Request}
@@ -142,15 +143,17 @@ what_if-kept opens more (Some alteration) false old new end before now can keeps
 what_if-kept opens more (Some alteration) false old new end before now can keeps (inr ends) = inr (compared-kept alteration old new end before now keeps ends)
 
 -- an explanation
-explain-kept : (asked : Option Selection) (whole : List Explained → List ℕ) (options : List Row) (old new : Option (List ℕ)) (end : End)
-    (before now : Option (List ℕ)) → IsRetained old new → explain_ends asked whole options new end before now
-    → explain_ends asked whole options old end before now
-explain-kept None whole options old new end before now keeps promise = promise
-explain-kept (Some selection) whole options old new end before now keeps (inl history) = inl (
+explain-kept : (asked : Option Selection) (whole : List Explained → List ℕ) (queue : Option Text) (old new : Option (List ℕ)) (end : End)
+    (before now : Option (List ℕ)) → IsRetained old new → explain_ends asked whole queue new end before now
+    → explain_ends asked whole queue old end before now
+explain-kept None whole queue old new end before now keeps promise = promise
+explain-kept (Some selection) whole None old new end before now keeps (inl history) = inl (
   known-kept old new (λ text. is_linux_text text ≡ false) keeps history.0,
   by-kept end_of_explain (ExplainsText selection whole) old new end before now keeps history.1,
 )
-explain-kept (Some selection) whole options old new end before now keeps (inr steps) =
+explain-kept (Some selection) whole (Some queue) old new end before now keeps (inl history) =
+    inl (known-kept old new (λ text. is_linux_text text ≡ false) keeps history.0, history.1)
+explain-kept (Some selection) whole queue old new end before now keeps (inr steps) =
     inr (known-kept old new (λ text. is_linux_text text ≡ true) keeps steps.0, steps.1)
 
 -- another subcommand reads one text: its promise also holds of the old files
@@ -172,7 +175,7 @@ EndsAs-kept Explain options works input old new end before now keeps (inl unopen
     inl (unopened.0, λ o. unopened.1 (read-kept works old new (file_in options) keeps o), unopened.2)
 EndsAs-kept Explain options works input old new end before now keeps (inr (style, ends)) = inr (
   style,
-  explain-kept (selection_of options) (output_text (output_kind_of style options)) options (text_given input old (file_in options))
+  explain-kept (selection_of options) (output_text (output_kind_of style options)) (first_of (codes "queue") options) (text_given input old (file_in options))
       (text_given input new (file_in options)) end before now (given-kept input old new (file_in options) keeps) ends,
 )
 EndsAs-kept other options works input old new end before now keeps promise =

@@ -2,7 +2,7 @@
 use Rattle.std.proofs.Common.{arith, ◌≡◌, ◌∙◌, ◌<◌, ℕ, suc, zero, List, ◌++◌, Bool, true, Option, Some, None, append-nil, ap, take, codes, false, refl, inl, inr}
 use Rattle.std.specs.Io.KnownBytes.{Consumes}
 use Rattle.std.specs.Prelude.{◌⊎◌, IfSome, Ok, Err}
-use Rattle.clap.specs.Words.{Row}
+use Rattle.clap.specs.Words.{Text}
 use Rattle.pie_audit.specs.Text.{Finds}
 use Rattle.pie_explain.specs.TextAnswer.{ExplainsText}
 use Rattle.pie_explain.specs.declared.explanation.Explained.{Explained}
@@ -68,10 +68,15 @@ no-explanation (Some text) selection whole before = record {
   continued = λ none. let wrong : true ≡ false = none Read refl in cc;
 }
 
-pub unread-explained : (known : Option (List ℕ)) (selection : Selection) (whole : List Explained → List ℕ) (options : List Row) (before : Option (List ℕ))
-    → explain_ends (Some selection) whole options known (Fault Read) before before
-unread-explained known selection whole options before = go (either-kind known)
+pub unread-explained : (known : Option (List ℕ)) (selection : Selection) (whole : List Explained → List ℕ) (queue : Option Text)
+    (before : Option (List ℕ)) → explain_ends (Some selection) whole queue known (Fault Read) before before
+unread-explained known selection whole None before = go (either-kind known)
   where
-    go : IsHistory known ⊎ IsLinux known → explain_ends (Some selection) whole options known (Fault Read) before before
+    go : IsHistory known ⊎ IsLinux known → explain_ends (Some selection) whole None known (Fault Read) before before
     go (inl is) = inl (is, (Err (Trace Read), refl, no-explanation known selection whole before))
+    go (inr is) = inr (is, inl (refl, refl))
+unread-explained known selection whole (Some queue) before = go (either-kind known)
+  where
+    go : IsHistory known ⊎ IsLinux known → explain_ends (Some selection) whole (Some queue) known (Fault Read) before before
+    go (inl is) = inl (is, inr refl, refl)
     go (inr is) = inr (is, inl (refl, refl))

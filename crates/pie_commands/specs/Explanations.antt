@@ -2,7 +2,7 @@
 use Rattle.std.specs.Prelude.{ℕ, ◌≡◌, ◌⊎◌, ◌==◌, ◌&&◌, ◌||◌, Bool, true, false, not, List, Option, Some, None, Result, Ok, Err, codes, if◌then◌else◌, is_some, nat_le, option_map}
 use Rattle.std.specs.Option.{option_transpose}
 use Rattle.std.specs.Result.{result_ok}
-use Rattle.clap.specs.Words.{Row, Text, one_of}
+use Rattle.clap.specs.Words.{Row, Text, first_of, one_of}
 use Rattle.pie_commands.specs.Words.{flag_given, number_given}
 use Rattle.pie_explain.specs.declared.selection.Selection.{Selection}
 use Rattle.pie_explain.specs.declared.form.Form.{Form}
@@ -27,11 +27,10 @@ use Rattle.pie_explain.specs.TextAnswer.{ExplainsText}
 use Rattle.pie_commands.specs.declared.end.End.{End}
 use Rattle.pie_commands.specs.declared.end.End.TheVariants.{Done, Differs, Fault, Failed}
 use Rattle.pie_commands.specs.Ends.{EndsBy, WritesNothing}
-use Rattle.pie_commands.specs.LinuxSteps.{end_of_steps, step_choice_of}
+use Rattle.pie_commands.specs.LinuxSteps.{end_of_steps}
 use Rattle.pie_commands.specs.TextKinds.{IsHistory, IsLinux}
-use Rattle.pie_linux_history.specs.declared.choice.StepChoice.{StepChoice}
+use Rattle.pie_linux_history.specs.declared.reports.StepsExplained.{StepsExplained}
 use Rattle.pie_linux_history.specs.declared.fault.StepsFault.{StepsFault}
-use Rattle.pie_linux_history.specs.declared.text.StepsFinding.{StepsFinding}
 use Rattle.pie_record.specs.declared.fault.TraceFault.TheVariants as trace_fault
 use Rattle.pie_units.specs.declared.when.When.TheVariants as when
 use Rattle.pie_explain.specs.declared.fault.ExplainFault.TheVariants as fault
@@ -194,26 +193,26 @@ end_of_explain (Err _) = Failed
 abbrev pub EndsHistoryExplain : Selection → (List Explained → List ℕ) → Option (List ℕ) → End → Option (List ℕ) → Option (List ℕ) → Type 0
 EndsHistoryExplain selection text known = EndsBy end_of_explain (ExplainsText selection text) known
 
--- the end of an explanation of recorded steps of Linux: nothing is written if the options choose no packets, or one of them is only for histories.
--- Otherwise the end follows from the result; the output is only tested
-abbrev pub EndsChosenSteps : Option StepChoice → End → Option (List ℕ) → Option (List ℕ) → Type 0
-EndsChosenSteps None end before now = WritesNothing end before now
-EndsChosenSteps (Some chosen) end before now = (outcome : Result (ℕ × StepsFinding) StepsFault) × (end ≡ end_of_steps chosen outcome)
+-- a history is refused if the options name a queue, unless the reader failed before
+abbrev pub EndsHistoryUnless : Option Text → Selection → (List Explained → List ℕ) → Option (List ℕ) → End → Option (List ℕ) → Option (List ℕ) → Type 0
+EndsHistoryUnless None selection text known end before now = EndsHistoryExplain selection text known end before now
+EndsHistoryUnless (Some queue) selection text known end before now = ((end ≡ Failed) ⊎ (end ≡ Fault trace_fault.Read)) × (now ≡ before)
 
--- or the reader failed before the text was recognized
-abbrev pub EndsStepsExplain : List Row → End → Option (List ℕ) → Option (List ℕ) → Type 0
-EndsStepsExplain options end before now =
-    ((end ≡ Fault trace_fault.Read) × (now ≡ before)) ⊎ EndsChosenSteps (step_choice_of options) end before now
+-- the end of an explanation of recorded steps of Linux: the reader failed before the text was recognized, or the end follows from the result
+abbrev pub EndsStepsExplain : EventChoice → Option Text → End → Option (List ℕ) → Option (List ℕ) → Type 0
+EndsStepsExplain which queue end before now =
+    ((end ≡ Fault trace_fault.Read) × (now ≡ before)) ⊎ ((outcome : Result StepsExplained StepsFault) × (end ≡ end_of_steps which queue outcome))
 
 -- the end of an explanation of a text, of either kind. If the options choose no event, the end is an error and nothing is written
-abbrev pub explain_ends : Option Selection → (List Explained → List ℕ) → List Row → Option (List ℕ) → End → Option (List ℕ) → Option (List ℕ) → Type 0
-explain_ends None text options known end before now = WritesNothing end before now
-explain_ends (Some selection) text options known end before now =
-    (IsHistory known × EndsHistoryExplain selection text known end before now) ⊎ (IsLinux known × EndsStepsExplain options end before now)
+abbrev pub explain_ends : Option Selection → (List Explained → List ℕ) → Option Text → Option (List ℕ) → End → Option (List ℕ) → Option (List ℕ) → Type 0
+explain_ends None text queue known end before now = WritesNothing end before now
+explain_ends (Some selection) text queue known end before now =
+    (IsHistory known × EndsHistoryUnless queue selection text known end before now)
+    ⊎ (IsLinux known × EndsStepsExplain selection.which queue end before now)
 
 -- the end of an explanation with the selection and the kind of output of these options; lines have this style
 abbrev pub EndsExplainBy : LineStyle → List Row → Option (List ℕ) → End → Option (List ℕ) → Option (List ℕ) → Type 0
-EndsExplainBy style options = explain_ends (selection_of options) (output_text (output_kind_of style options)) options
+EndsExplainBy style options = explain_ends (selection_of options) (output_text (output_kind_of style options)) (first_of (codes "queue") options)
 
 -- such an end, with any style of lines
 abbrev pub EndsExplain : List Row → Option (List ℕ) → End → Option (List ℕ) → Option (List ℕ) → Type 0

@@ -82,7 +82,7 @@ abbrev pub rules_for : Subcommand → List Rule
 rules_for Run = flag_rule (codes "count") ∷ progress_rule ∷ output_rule ∷ force_rule ∷ file_rule ∷ []
 rules_for Audit = flag_rule (codes "joined") ∷ flag_rule (codes "json") ∷ progress_rule ∷ files_rule ∷ []
 rules_for Explain = number_rule (codes "event") 1 (2 ^ 64 - 1) ∷ number_rule (codes "tag") 0 (2 ^ 64 - 1) ∷ flag_rule (codes "lost")
-    ∷ flag_rule (codes "marked") ∷ flag_rule (codes "all") ∷ text_rule (codes "from") ∷ text_rule (codes "to") ∷ flag_rule (codes "summary")
+    ∷ flag_rule (codes "marked") ∷ flag_rule (codes "all") ∷ text_rule (codes "queue") ∷ text_rule (codes "from") ∷ text_rule (codes "to") ∷ flag_rule (codes "summary")
     ∷ text_rule (codes "every") ∷ flag_rule (codes "full") ∷ number_rule (codes "flows") 1 1000 ∷ flag_rule (codes "digest") ∷ flag_rule (codes "csv") ∷ flag_rule (codes "json") ∷ flag_rule (codes "wall")
     ∷ progress_rule ∷ output_rule ∷ force_rule ∷ file_rule ∷ []
 rules_for Cut = text_rule (codes "from") ∷ text_rule (codes "to") ∷ number_rule (codes "event") 1 (2 ^ 64 - 1)

@@ -12,9 +12,11 @@ use crate::difference::report_difference;
 use crate::end::{End, end_failed, fault};
 use crate::fault_report::{EXPLAIN, end_with_fault_in};
 use crate::files::{NamedFiles, open_input};
-use crate::options::{NO_ORDER, bound, file, flag, in_order, moment, number, parsed, report_two};
+use crate::options::{
+    NO_ORDER, bound, file, flag, in_order, moment, number, parsed, report_two, text,
+};
 use crate::progress::{ProgressReader, Screen, shows_progress, writes_to_terminal};
-use crate::steps::{explain_steps, report_explained, report_no_choice, step_choice_of};
+use crate::steps::{explain_steps, report_explained};
 use clap::ArgMatches;
 use pie_explain::{EventChoice, EventRecords, ExplainFault, Form, Selection, Words};
 use pie_json::AsJson;
@@ -34,6 +36,9 @@ const NOT_BOTH: &str = "--flows cannot be combined with --digest";
 
 /// The message for `--json` together with an option that it excludes.
 const JSON_ALONE: &str = "--json cannot be combined with --csv or --digest";
+
+/// The message for `--queue` with a history.
+const QUEUE_OF_STEPS: &str = "--queue is only for a text of pie-watch";
 
 /// Returns the length of an interval in these options, if it is valid.
 fn every_of(options: &ArgMatches<'_>) -> Option<u64>
@@ -318,22 +323,20 @@ fn explain_chosen<H: NamedFiles + Screen, R: Read + Drop, W: Write, E: Write>(
     let is_shown = shows_progress(rt, options, true);
     let (watched, kind) = ProgressReader::recognizing(input, &mut *errors, rt, is_shown);
     match kind {
+        Ok(true) => {
+            let (kind, queue) = (output_kind_of(options, style), text(options, "queue"));
+            let outcome = explain_steps(alloc, watched, output, selection, queue, kind);
+            report_explained(errors, file(options), selection, queue, outcome)
+        }
         Ok(false) => {
+            if text(options, "queue").is_some() {
+                drop(watched);
+                return end_failed(errors, QUEUE_OF_STEPS);
+            }
             let kind = output_kind_of(options, style);
             let outcome = explain_with(alloc, watched, output, selection, kind);
             report_end(rt, alloc, errors, file(options), outcome)
         }
-        Ok(true) => match step_choice_of(options) {
-            Some(choice) => {
-                let outcome = explain_steps(alloc, watched, output, choice);
-                report_explained(errors, file(options), choice, outcome)
-            }
-            None => {
-                drop(watched);
-                report_no_choice(options, errors);
-                End::Failed
-            }
-        },
         Err(why) => {
             drop(watched);
             end_with_fault_in(rt, alloc, EXPLAIN, errors, file(options), why)

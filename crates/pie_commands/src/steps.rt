@@ -1,26 +1,19 @@
 //! `pie audit` and `pie explain` of a text of recorded steps of Linux, which `pie-watch` writes. pie_linux_history decides the
 //! steps.
-ghost use Rattle.std.specs.Prelude.{◌≡◌};
-ghost use Rattle.clap.specs.Words.{found_of, rows_of};
+ghost use Rattle.std.specs.Prelude.{◌≡◌, option_map};
 ghost use Rattle.pie_commands.specs.Ends.{WritesSteps};
-ghost use Rattle.pie_commands.specs.LinuxSteps.{end_of_fault, end_of_steps, finding_of, has_history_option, is_given, step_choice_of};
-ghost use Rattle.pie_linux_history.specs.declared.text.StepsFinding.{StepsFinding};
-ghost use Rattle.std.specs.Prelude.{Ok};
+ghost use Rattle.pie_commands.specs.LinuxSteps.{end_of_clean, end_of_fault, end_of_steps, finding_of, is_one, lacks_queue};
 
 use crate::end::{End, end_failed, end_with_fault, fault, named_fault};
-use crate::options::{flag, number, text};
-use clap::ArgMatches;
+use crate::explain::OutputKind;
 use pie_audit::{Finding, write_finding};
-use pie_explain::ExplainFault;
-use pie_linux_history::{StepChoice, StepsCounts, StepsFault, StepsFinding};
+use pie_explain::{EventChoice, ExplainFault, Selection};
+use pie_json::AsJson;
+use pie_linux_history::{StepsCounts, StepsExplained, StepsFault, StepsFinding, report};
 use pie_trace::TraceFault;
 use std::alloc::Global;
 use std::fmt;
 use std::io::{Read, Write};
-
-/// The message for options that choose no packets.
-const NO_CHOICE: &str =
-    "a text of pie-watch needs one of --event N, --lost, --marked and --all; see pie explain --help";
 
 /// The number of steps that the recorder lost.
 #[derive(Clone, Copy)]
@@ -113,132 +106,132 @@ pub(crate) fn report_audit<W: Write, E: Write>(
     }
 }
 
-// ---- an explanation
+// ---- explanations and reports
 
-/// The options that only histories take, and true for those with a value.
-const HISTORY_OPTIONS: [(&str, bool); 11] = [
-    ("tag", true),
-    ("from", true),
-    ("to", true),
-    ("every", true),
-    ("flows", true),
-    ("summary", false),
-    ("full", false),
-    ("digest", false),
-    ("csv", false),
-    ("json", false),
-    ("wall", false),
-];
-
-/// Returns true if a value is given for the option.
-fn is_given(options: &ArgMatches<'_>, name: &str) -> bool
-    ensures { result ≡ is_given name.now (rows_of (found_of options.now)) }
-{
-    text(options, name).is_some()
-}
-
-/// Returns true if an option is given that only histories take.
-fn has_history_option(options: &ArgMatches<'_>) -> bool
-    ensures { result ≡ has_history_option (rows_of (found_of options.now)) }
-{
-    let is_bounded = (is_given(options, "tag") || is_given(options, "from"))
-        || (is_given(options, "to") || is_given(options, "every"));
-    let is_summed = (is_given(options, "flows") || flag(options, "summary"))
-        || (flag(options, "full") || flag(options, "digest"));
-    let has_form = (flag(options, "csv") || flag(options, "json")) || flag(options, "wall");
-    (is_bounded || is_summed) || has_form
-}
-
-/// Returns the packets that these options choose. Returns `None` if they choose none, or if one of them is only for
-/// histories.
-#[tactic(auto, unfolding(crate::specs::LinuxSteps::step_choice_of))]
-pub(crate) fn step_choice_of(options: &ArgMatches<'_>) -> Option<StepChoice>
-    ensures { result ≡ step_choice_of (rows_of (found_of options.now)) }
-{
-    if has_history_option(options) {
-        return None;
-    }
-    let (lost, marked) = (flag(options, "lost"), flag(options, "marked"));
-    match (number(options, "event"), lost, marked, flag(options, "all")) {
-        (Some(event), _, _, _) => Some(StepChoice::Event(event)),
-        (None, true, _, _) => Some(StepChoice::Lost),
-        (None, false, true, _) => Some(StepChoice::Marked),
-        (None, false, false, true) => Some(StepChoice::All),
-        (None, false, false, false) => None,
-    }
-}
-
-/// Writes why these options choose no packets: the first that is only for histories, or that a choice is missing.
-pub(crate) fn report_no_choice<E: Write>(options: &ArgMatches<'_>, errors: &mut E) {
-    for (name, has_value) in HISTORY_OPTIONS {
-        let is_there = if has_value {
-            is_given(options, name)
-        } else {
-            flag(options, name)
-        };
-        if is_there {
-            let _ = writeln!(errors, "pie: --{name} is not for a text of pie-watch");
-            return;
-        }
-    }
-    fault(errors, NO_CHOICE);
-}
-
-/// Writes the explanations of the chosen packets of a text of recorded steps.
+/// Explains the selected packets of a text of recorded steps in words, or writes a report of another kind about the
+/// selected events.
 #[inline(never)]
 pub(crate) fn explain_steps<R: Read + Drop, W: Write>(
     alloc: Global,
     reader: R,
     output: &mut W,
-    choice: StepChoice,
-) -> Result<(u64, StepsFinding), StepsFault> {
-    pie_linux_history::explain(alloc, reader, output, choice)
+    selection: Selection,
+    queue: Option<&str>,
+    kind: OutputKind,
+) -> Result<StepsExplained, StepsFault> {
+    match kind {
+        OutputKind::Words(_) => {
+            pie_linux_history::explain(alloc, reader, output, selection, queue)
+        }
+        OutputKind::Records(each) => report(alloc, reader, output, selection, queue, each),
+        OutputKind::Sums(sums) => report(alloc, reader, output, selection, queue, sums),
+        OutputKind::Lines(lines) => report(alloc, reader, output, selection, queue, lines),
+        OutputKind::Digest(digest) => report(alloc, reader, output, selection, queue, digest),
+        OutputKind::Flows(flows) => report(alloc, reader, output, selection, queue, flows),
+        OutputKind::JsonRecords(each) => {
+            let objects = AsJson {
+                report: each,
+                is_json: true,
+            };
+            report(alloc, reader, output, selection, queue, objects)
+        }
+        OutputKind::JsonSums(sums) => {
+            let objects = AsJson {
+                report: sums,
+                is_json: true,
+            };
+            report(alloc, reader, output, selection, queue, objects)
+        }
+    }
 }
 
-/// Returns the end of an explanation of all steps of a clean text, of which `count` packets were chosen.
+/// Returns true if the text has no step of the chosen queue.
+fn lacks_queue(queue: Option<&str>, counts: StepsCounts) -> bool
+    ensures { result ≡ lacks_queue (option_map (λ name. name.now) queue.entry) counts }
+{
+    queue.is_some() && (counts.steps == 0 && counts.lost == 0)
+}
+
+/// Returns true if one event, or the packets of one tag, are chosen.
+fn is_one(which: EventChoice) -> bool
+    ensures { result ≡ is_one which }
+{
+    matches!(which, EventChoice::Number(_) | EventChoice::Tag(_))
+}
+
+/// Writes why a text of `events` events has none that is selected.
+fn report_none<E: Write>(errors: &mut E, selection: Selection, queue: Option<&str>, events: u64) {
+    if let Some(queue) = queue {
+        let _ = writeln!(errors, "pie: no event of queue {queue} is selected");
+        return;
+    }
+    match (selection.is_whole(), selection.which) {
+        (true, EventChoice::Tag(tag)) => fault(errors, ExplainFault::NoTag { tag }),
+        (true, EventChoice::Number(event)) => {
+            let _ = if event > events {
+                writeln!(
+                    errors,
+                    "pie: there is no event {event}: the text has {events} events"
+                )
+            } else {
+                writeln!(
+                    errors,
+                    "pie: event {event} is no arrival, and drops no packet"
+                )
+            };
+        }
+        _ => fault(errors, ExplainFault::NoneWithin),
+    }
+}
+
+/// Returns the end of an explanation of all steps of a clean text, of which `count` packets or events were selected.
 fn end_of_clean<E: Write>(
     errors: &mut E,
-    choice: StepChoice,
+    selection: Selection,
+    queue: Option<&str>,
     count: u64,
     counts: StepsCounts,
 ) -> End
-    ensures { result ≡ end_of_steps choice (Ok (count, StepsFinding.Clean counts)) }
+    ensures { result ≡ end_of_clean selection.which (option_map (λ name. name.now) queue.entry) count counts }
 {
     report_lost(errors, None, counts);
-    let StepChoice::Event(event) = choice else {
-        return End::Done;
-    };
-    if count > 0 {
-        return End::Done;
+    if let Some(name) = queue
+        && lacks_queue(queue, counts)
+    {
+        let _ = writeln!(errors, "pie: the text has no queue {name}");
+        return End::Failed;
     }
-    let events = counts.events;
-    let _ = if event > events {
-        writeln!(
-            errors,
-            "pie: there is no event {event}: the text has {events} events"
-        )
-    } else {
-        writeln!(
-            errors,
-            "pie: event {event} is no arrival, and drops no packet"
-        )
-    };
-    End::Failed
+    if count == 0 && is_one(selection.which) {
+        report_none(errors, selection, queue, counts.events);
+        return End::Failed;
+    }
+    End::Done
 }
 
-/// Returns the end of an explanation with this result. `name` is the file of the text, if it has one. Writes the lines of a
-/// difference, of a fault and of lost steps to `errors`.
+/// Returns the end of an explanation or a report with this result. `name` is the file of the text, if it has one. Writes the
+/// lines of a difference, of a fault and of lost steps to `errors`.
 pub(crate) fn report_explained<E: Write>(
     errors: &mut E,
     name: Option<&str>,
-    choice: StepChoice,
-    outcome: Result<(u64, StepsFinding), StepsFault>,
+    selection: Selection,
+    queue: Option<&str>,
+    outcome: Result<StepsExplained, StepsFault>,
 ) -> End
-    ensures { result ≡ end_of_steps choice outcome }
+    ensures { result ≡ end_of_steps selection.which (option_map (λ name. name.now) queue.entry) outcome }
 {
     match outcome {
-        Ok((count, StepsFinding::Clean(counts))) => end_of_clean(errors, choice, count, counts),
-        Ok((_, StepsFinding::Differs(found))) => {
+        Ok(
+            StepsExplained {
+                count,
+                finding: StepsFinding::Clean(counts),
+            },
+        ) => { end_of_clean(errors, selection, queue, count, counts) }
+        Ok(
+            StepsExplained {
+                finding: StepsFinding::Differs(found),
+                ..
+            },
+        ) => {
             let event = found.event;
             fault(errors, ExplainFault::Differs { event });
             fault(errors, found);

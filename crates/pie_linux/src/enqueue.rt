@@ -70,10 +70,11 @@ fn bounded_mtu(mtu: u32) -> u32
     mtu.min(1 << 20).max(1)
 }
 
-/// Returns the packet's own probability: with `bytemode`, for at most one MTU, in proportion to its length.
+/// Returns the own probability of a packet of `size` bytes, in units of 2^-56: `prob`, or with `bytemode`, for at most one
+/// MTU, in proportion to its length (`pie_drop_early`).
 #[inline(always)]
 #[tactic(auto, using(std::proofs::lemmas::Bool::Decides::nat_tests, crate::proofs::Laws::own_below))]
-fn own_prob(params: &LinuxParams, prob: u64, mtu: u32, size: u32) -> u64
+pub fn own_prob(params: &LinuxParams, prob: u64, mtu: u32, size: u32) -> u64
     ensures { result ≡ own_prob params.now prob mtu size }
 {
     let mtu = bounded_mtu(mtu);

@@ -2,3 +2,4 @@ mod Examples
 pub mod ColumnFacts
 pub mod QueueFacts
 pub mod AuditFacts
+pub mod ReportFacts

@@ -69,11 +69,6 @@ abbrev pub has_failed : {A : Type 0} → Result A StepsFault → Bool
 has_failed (Err (Trace why)) = is_io_or_memory why
 has_failed _ = false
 
--- the finding of an explanation
-abbrev pub finding_of : Result (ℕ × StepsFinding) StepsFault → Result StepsFinding StepsFault
-finding_of (Ok (count, finding)) = Ok finding
-finding_of (Err why) = Err why
-
 pub record TookNext (columns : Columns) (before : ℕ) (rows : List Row) (taken : Result (Option StepDifference) StepsFault) (later : Option (List Row)) (event : ℕ) : Type 0 where
   pub row : Row
   pub rest : List Row

@@ -30,7 +30,8 @@ difference_32 a b = (a + (2 ^ 32 - b)) % 2 ^ 32
 
 -- the packet of a step
 abbrev pub waiting_of : Step → Waiting
-waiting_of step = record { length = step.packet_length; size = step.size; truesize = step.truesize; enqueued = step.enqueued }
+waiting_of step =
+    record { length = step.packet_length; size = step.size; truesize = step.truesize; enqueued = step.enqueued; moment = step.moment }
 
 -- the numbers with one more waiting packet
 abbrev pub waiting_added : QueueNumbers → Waiting → QueueNumbers

@@ -4,3 +4,5 @@ pub mod Views
 pub mod Queue
 pub mod Audit
 pub mod Columns
+pub mod Event
+pub mod Reports

@@ -26,9 +26,13 @@ use Rattle.pie_linux_history.specs.Views.{FlowView, QueueView}
 abbrev pub flow_count : QueueView → ℕ
 flow_count queue = min (length queue.flows) (2 ^ 32 - 1)
 
+-- the place of a flow, or of the flow of a hash
+abbrev pub place_at : QueueView → Option ℕ → ℕ → ℕ
+place_at queue flow hash = if queue.numbers.has_flows then unwrap_or flow (flow_of hash (flow_count queue)) else 0
+
 -- the place of the flow of a step: the recorded one, or the hash's if the limit came before it was known
 abbrev pub place_of : QueueView → Step → ℕ
-place_of queue step = if queue.numbers.has_flows then unwrap_or step.flow (flow_of step.hash (flow_count queue)) else 0
+place_of queue step = place_at queue step.flow step.hash
 
 abbrev pub flow_at : QueueView → Step → Option FlowView
 flow_at queue step = slice_get queue.flows (place_of queue step)

@@ -20,6 +20,9 @@ const NUMBERS: usize = 47;
 
 const WIDE: usize = 15;
 
+/// The place of the column `hash` in [`NAMES`].
+const HASH: usize = 28;
+
 /// The places of the other columns in [`NAMES`].
 const PROTOCOL: usize = 47;
 
@@ -321,6 +324,13 @@ impl Columns {
         ensures { result.now ≡ field_or fields.now self.now.queue }
     {
         field_or(fields, self.queue)
+    }
+
+    /// Returns the flow and the hash of a row, as far as they can be read.
+    pub(crate) fn flow_and_hash(&self, fields: &Record) -> (Option<u32>, u32) {
+        let flow = flow_at(fields, self.places[FLOW]).unwrap_or(None);
+        let hash = decimal(fields, self.places[HASH], u64::from(u32::MAX)).unwrap_or(0);
+        (flow, narrow(hash))
     }
 
     /// Reads the numbers of a row.

@@ -4,7 +4,7 @@ ghost use Rattle.pie_linux_history.specs.Queue.{other};
 
 use crate::difference::Difference;
 use crate::step::QueueName;
-use pie_linux::{LinuxCause, LinuxState};
+use pie_linux::{LinuxCause, LinuxState, Picked};
 
 /// The reason of the decision on a packet.
 #[derive(Clone, Copy)]
@@ -15,6 +15,14 @@ pub(crate) enum Fate {
     Change,
     /// It waited, and the queue was purged or removed.
     Reset,
+}
+
+/// Returns true if a packet with this cause is marked.
+pub(crate) fn is_marked(cause: LinuxCause) -> bool {
+    matches!(
+        cause,
+        LinuxCause::SumAbove(Picked::Marked) | LinuxCause::WordBelow(Picked::Marked)
+    )
 }
 
 /// A packet that a step decided, and the queue before.

@@ -1,5 +1,5 @@
 //! Recorded steps of Linux's `sch_pie` and `sch_fq_pie`: an audit that decides each step again by the rules of
-//! pie_linux, from the inputs alone, and explanations of arrivals and of lost packets.
+//! pie_linux, from the inputs alone, explanations of arrivals and of lost packets, and reports of pie_explain about the steps.
 //!
 //! The text is the CSV text of `pie-watch`: its first row names the columns, and each further row is a step of a queue,
 //! or the number of steps of a queue that the recorder lost. Records are counted from 1, steps of the text (*events*)
@@ -7,36 +7,41 @@
 //!
 //! Proved:
 //!
-//! - `audit` and `explain` read the rows of the text in order up to the first fault or the first step that differs, and
-//!   return `Clean` only after the last row (specs/Audit.antt). A difference names the event, the queue and the step of
-//!   its row, and a fault names its record.
+//! - `audit` reads the rows of the text in order up to the first fault or the first step that differs, and returns
+//!   `Clean` only after the last row (specs/Audit.antt). A difference names the event, the queue and the step of its
+//!   row, and a fault names its record.
 //! - The fields of a row by the names of its columns, and each fault of a row (specs/Columns.antt).
 //! - In a queue: the flow of a step, its waiting packets, and the packets that the kernel counts again
 //!   (specs/Queue.antt).
 //! - Each decision. `QueueNumbers::arrive`, `depart`, `update`, `begin_round`, `change` and `reset` give the numbers of
 //!   the queue and of the flow after the step, and the first recorded number that differs from them, exactly as
 //!   specs/Decisions.antt defines them over the rules of pie_linux.
+//! - The event of a decided step is exactly `explained_of` (specs/Event.antt), and the output of `report` is the
+//!   report's whole text for the selected events of decided steps, in order (specs/Reports.antt).
 //!
-//! Tested only (tests/program/linux_steps.py): the queue to which the name of a step belongs and the number of its last
-//! step, the first state of a queue, the packets that a change or a reset drops, and the text of explanations.
+//! Tested only (tests/program/linux_steps.py, linux_reports.py): the queue to which the name of a step belongs and the
+//! number of its last step, the first state of a queue, the packets that a change or a reset drops, that explanations
+//! and reports take all rows, the updates before a step, and the words of explanations.
 #![tactic(auto)]
 
-mod choice;
 mod columns;
+mod decided;
 mod difference;
+mod event;
 mod explained;
 mod fault;
 mod numbers;
 mod queue;
 mod queues;
+mod reports;
 mod step;
+mod steps;
 mod text;
 mod words;
 
-pub use choice::StepChoice;
 pub use difference::{Column, Difference};
-pub use explained::Explained;
 pub use fault::StepsFault;
 pub use queues::{StepDifference, StepsCounts};
+pub use reports::{StepsExplained, explain, report};
 pub use step::QueueName;
-pub use text::{StepsFinding, audit, explain};
+pub use text::{StepsFinding, audit};

@@ -26,6 +26,8 @@ pub(crate) struct Waiting {
     pub truesize: u32,
     /// The moment at which it was queued, in ticks.
     pub enqueued: u64,
+    /// The moment of its row, in nanoseconds. It decides nothing.
+    pub moment: u64,
 }
 
 /// Returns the packet of a step.
@@ -37,6 +39,7 @@ pub(crate) fn waiting_of(step: &Step) -> Waiting
         size: step.size,
         truesize: step.truesize,
         enqueued: step.enqueued,
+        moment: step.moment,
     }
 }
 

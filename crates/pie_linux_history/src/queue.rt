@@ -1,8 +1,9 @@
 //! A queue whose steps are decided again: its numbers, its flows and their waiting packets.
 ghost use Rattle.std.specs.Prelude.{◌≡◌, IfOk, IfSome, None};
 ghost use Rattle.pie_linux_history.specs.declared.numbers.QueueNumbers.{QueueNumbers};
-ghost use Rattle.pie_linux_history.specs.Queue.{arrival, counted_again, departure, stepped, update, waiting_resumed, dropped, IsFlowStep, flow_arrived, flow_count, flow_departed, flow_resumed, flow_stepped, flow_updated, flow_waited, last_departures, no_flow, other, place_of, sent, sent_before};
+ghost use Rattle.pie_linux_history.specs.Queue.{arrival, counted_again, departure, stepped, update, waiting_resumed, dropped, IsFlowStep, flow_arrived, flow_count, flow_departed, flow_resumed, flow_stepped, flow_updated, flow_waited, last_departures, no_flow, other, place_at, place_of, sent, sent_before};
 
+use crate::decided::StepNumbers;
 use crate::difference::{Column, Difference};
 use crate::explained::{DecidedPacket, Decision, Fate};
 use crate::numbers::{FlowNumbers, QueueNumbers, Waiting, waiting_of};
@@ -243,10 +244,34 @@ impl Queue {
     fn place(&self, step: &Step) -> usize
         ensures { result ≡ place_of self.now step.now }
     {
+        self.place_at(step.flow, step.hash)
+    }
+
+    /// Returns the place of this flow, or of the flow of this hash.
+    fn place_at(&self, flow: Option<u32>, hash: u32) -> usize
+        ensures { result ≡ place_at self.now flow hash }
+    {
         if !self.numbers.has_flows {
             return 0;
         }
-        step.flow.unwrap_or(flow_of(step.hash, self.flow_count())) as usize
+        flow.unwrap_or(flow_of(hash, self.flow_count())) as usize
+    }
+
+    /// Returns the numbers of the queue and of this flow, or of the flow of this hash.
+    pub(crate) fn numbers_at(&self, flow: Option<u32>, hash: u32) -> Option<StepNumbers> {
+        let place = self.place_at(flow, hash);
+        let flow = self.flows.get(place)?;
+        Some(StepNumbers {
+            place: u32::try_from(place).unwrap_or(u32::MAX),
+            params: self.numbers.params,
+            state: flow.numbers.state,
+            packets: self.numbers.length,
+            bytes: self.numbers.bytes,
+            since: match flow.waiting.front() {
+                Some(first) => first.moment,
+                None => 0,
+            },
+        })
     }
 
     /// Adds the packet of a step at the end of its flow.

@@ -3,6 +3,7 @@ ghost use Rattle.std.specs.Prelude.{◌≡◌};
 ghost use Rattle.pie_linux_history.specs.Audit.{StepTaken, Taken, next, queue_and_step};
 
 use crate::columns::{Columns, fault_at, lost_at, out_of_memory};
+use crate::decided::StepNumbers;
 use crate::difference::{Column, Difference};
 use crate::explained::{DecidedPacket, Decision, Explained};
 use crate::fault::StepsFault;
@@ -110,6 +111,25 @@ impl Queues {
             flow: step.flow,
             packet,
         })
+    }
+
+    /// Returns the numbers of this flow of a queue, or of the flow of this hash.
+    pub(crate) fn numbers_at(
+        &self,
+        name: &[u8],
+        flow: Option<u32>,
+        hash: u32,
+    ) -> Option<StepNumbers> {
+        self.queues
+            .get(self.find(name)?)?
+            .queue
+            .numbers_at(flow, hash)
+    }
+
+    /// Returns the queue of the last step, the step, and its packet if it is an arrival.
+    pub(crate) fn last_step(&self) -> Option<(QueueName, Step, Option<DecidedPacket>)> {
+        let (queue, step) = self.last?;
+        Some((queue, step, self.arrival))
     }
 
     /// Returns the place of the queue with this name.

@@ -52,6 +52,11 @@ impl QueueName {
         None
     }
 
+    /// Returns true if both names are equal.
+    pub(crate) fn equals(&self, other: &QueueName) -> bool {
+        self.is(other.bytes.get(..other.len).unwrap_or(&[]))
+    }
+
     /// Returns true if this is the name with these bytes.
     pub(crate) fn is(&self, name: &[u8]) -> bool {
         self.bytes.get(..self.len) == Some(name)

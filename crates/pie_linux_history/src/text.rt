@@ -1,21 +1,20 @@
-//! Audits and explanations of a text of recorded steps.
+//! Audits of a text of recorded steps.
 ghost use Rattle.std.specs.Prelude.{◌≡◌, IfSome, false};
 ghost use Rattle.pie_record.specs.Text.{records_of};
-ghost use Rattle.pie_linux_history.specs.Audit.{Audits, AuditsText, ReadsColumns, TakesNext, finding_of, has_failed};
+ghost use Rattle.pie_linux_history.specs.Audit.{Audits, AuditsText, ReadsColumns, TakesNext, has_failed};
 
-use crate::choice::StepChoice;
-use crate::columns::{Columns, out_of_memory};
+use crate::columns::Columns;
 use crate::fault::StepsFault;
 use crate::queues::{Queues, StepDifference, StepsCounts};
 use pie_record::{Record, Records, TraceFault};
 use std::alloc::Global;
 use std::io;
-use std::io::{BufWriter, Read, Write};
+use std::io::Read;
 
 /// A reader of steps. It is a type of its own, so that the functions of pie_record that read histories have no further
 /// caller, and are inlined.
 #[derive(Drop)]
-struct StepsReader<R: Read + Drop>(R);
+pub(crate) struct StepsReader<R: Read + Drop>(pub(crate) R);
 
 impl<R: Read + Drop> Read for StepsReader<R> {
     ghost remaining = { λ it. R.remaining it.0 };
@@ -35,7 +34,7 @@ pub enum StepsFinding {
 }
 
 /// Reads the first row.
-fn read_columns<R: Read>(
+pub(crate) fn read_columns<R: Read>(
     records: &mut Records<R>,
     fields: &mut Record,
 ) -> Result<Columns, StepsFault>
@@ -119,115 +118,4 @@ pub fn audit<R: Read + Drop>(alloc: Global, input: R) -> Result<StepsFinding, St
     let mut fields = Record::new(alloc);
     let mut queues = Queues::new(alloc);
     audit_records(&mut records, &mut fields, &mut queues)
-}
-
-/// Writes the explanations of the packets of the last step that are chosen. Returns their number.
-#[inline(never)]
-fn write_packets<W: Write>(queues: &Queues, choice: StepChoice, output: &mut W) -> io::Result<u64> {
-    let mut count: u64 = 0;
-    for place in 0..queues.packets() {
-        if let Some(explained) = queues.packet(place)
-            && choice.has_packet(explained.event, &explained.packet)
-        {
-            write!(output, "{explained}")?;
-            count = count.saturating_add(1);
-        }
-    }
-    Ok(count)
-}
-
-/// Explains the chosen packets of all steps.
-fn explain_steps<R: Read, W: Write>(
-    records: &mut Records<R>,
-    columns: &Columns,
-    fields: &mut Record,
-    queues: &mut Queues,
-    choice: StepChoice,
-    output: &mut W,
-) -> Result<(u64, StepsFinding), StepsFault>
-    ensures { IfSome records.old (λ rows. has_failed result ≡ false
-        → Audits columns.now queues.old.counts.events rows (finding_of result)) }
-{
-    let mut count: u64 = 0;
-    for steps in 0..u64::MAX {
-        match next_step(records, columns, fields, queues) {
-            Ok(Some(None)) => {}
-            Ok(Some(Some(difference))) => {
-                return Ok((count, StepsFinding::Differs(difference)));
-            }
-            Ok(None) => return Ok((count, StepsFinding::Clean(queues.counts))),
-            Err(why) => return Err(why),
-        }
-        match write_packets(queues, choice, output) {
-            Ok(more) => count = count.saturating_add(more),
-            Err(_) => return Err(StepsFault::Trace(TraceFault::Write)),
-        }
-    }
-    Err(StepsFault::Trace(TraceFault::Read))
-}
-
-/// Reads the first row, and explains the chosen packets of all steps.
-fn explain_records<R: Read, W: Write>(
-    records: &mut Records<R>,
-    fields: &mut Record,
-    queues: &mut Queues,
-    choice: StepChoice,
-    output: &mut W,
-) -> Result<(u64, StepsFinding), StepsFault>
-    requires { queues.old.counts.events ≡ 0 }
-    ensures { IfSome records.old (λ rows. has_failed result ≡ false → AuditsText rows (finding_of result)) }
-{
-    match read_columns(records, fields) {
-        Ok(columns) => explain_steps(records, &columns, fields, queues, choice, output),
-        Err(why) => Err(why),
-    }
-}
-
-/// Explains the chosen packets of a text in pages.
-fn explain_pages<R: Read, W: Write>(
-    alloc: Global,
-    records: &mut Records<R>,
-    fields: &mut Record,
-    queues: &mut Queues,
-    choice: StepChoice,
-    output: &mut W,
-) -> Result<(u64, StepsFinding), StepsFault>
-    requires { queues.old.counts.events ≡ 0 }
-    ensures { IfSome records.old (λ rows. has_failed result ≡ false → AuditsText rows (finding_of result)) }
-{
-    let Ok(mut page) = BufWriter::new(alloc, output) else {
-        return Err(out_of_memory());
-    };
-    let explained = explain_records(records, fields, queues, choice, &mut page);
-    match (page.flush(), explained) {
-        (Err(_), Ok(_)) => Err(StepsFault::Trace(TraceFault::Write)),
-        _ => explained,
-    }
-}
-
-/// Writes the explanations of the chosen packets of a text of recorded steps to `output`, up to the first fault and the
-/// first step that differs. Returns their number and the finding.
-///
-/// # Errors
-///
-/// As [`audit`], and `Write` if the writer fails.
-pub fn explain<R: Read + Drop, W: Write>(
-    alloc: Global,
-    input: R,
-    output: &mut W,
-    choice: StepChoice,
-) -> Result<(u64, StepsFinding), StepsFault>
-    ensures { IfSome (R.remaining input) (λ text. has_failed result ≡ false → AuditsText (records_of text) (finding_of result)) }
-{
-    let mut records = Records::new(alloc, StepsReader(input));
-    let mut fields = Record::new(alloc);
-    let mut queues = Queues::new(alloc);
-    explain_pages(
-        alloc,
-        &mut records,
-        &mut fields,
-        &mut queues,
-        choice,
-        output,
-    )
 }

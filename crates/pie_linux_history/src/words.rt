@@ -1,6 +1,5 @@
 //! The explanation of a packet in words.
-use crate::choice::is_marked;
-use crate::explained::{Explained, Fate};
+use crate::explained::{Explained, Fate, is_marked};
 use pie_linux::{LinuxCause, Picked};
 use std::fmt;
 

@@ -146,10 +146,18 @@ event. If a record cannot be read, the status is 1. It is also 1 if the event of
 packet of --tag is missing, or lies outside --from and --to. With -o FILE the output is moved to
 FILE when it is complete, also with status 2. pie run --help describes -o.
 
-Of a text that pie-watch wrote, --lost explains each packet that the kernel dropped, --marked each
-that it marked, --all each arrival and each dropped packet, and --event N the packets of event N,
-the row N after the first. One of these four is needed, and of the other options only -o, --force
-and --progress are accepted. Explanations are in words, and moments are times since boot.
+A text of pie-watch has the steps of Linux's own pie and fq_pie. Event N is the row N after the first.
+Moments are times since boot. Explanations in words name Linux's rules: --lost explains each packet
+that the kernel dropped, also by a lower limit or a reset, --marked each that it marked, --tag T each
+arrival with this tag, and --all each arrival and each dropped packet. All other output has the form
+for a history:
+- enq is an arrival, deq a departure, calc an update, change new parameters, reset and destroy a reset;
+- the tag of a packet is its flow of fq_pie times 2^32, and 0 for pie;
+- caller is 0, and ecn is not for each departure, because it is not recorded;
+- packets that a lower limit or a reset dropped are not counted;
+- sums over several queues or flows add their packets, and a last value is that of the last step.
+With --queue NAME only the steps of the queue with this name, as in the column qid, are decided. With
+dq_rate_estimator the kernel keeps no times of arrival: a wait is then the time between two rows.
 
 Example: why was a packet lost? The file trace has the trace of the example of pie run --help:
 
@@ -169,6 +177,7 @@ The output is why the last packet of that trace was dropped:
         row!("lost": Nothing, "Select the arrivals of dropped packets. Default: off"),
         row!("marked": Nothing, "Select the arrivals of marked packets. Default: off"),
         row!("all": Nothing, "Select all events. Default: off, but on without another selection"),
+        row!("queue": Value("NAME"), "Of a text of pie-watch, take only the steps of this queue. Default: all queues"),
         row!("from": Value("MOMENT"), "Exclude events before this moment or time in UTC, such as 1.5ms. Default: the first event"),
         row!("to": Value("MOMENT"), "Exclude events after this moment or time in UTC. Default: the last event"),
         row!("summary": Nothing, "Write one summary of the selected events. Default: an explanation of each; on without a selection"),

@@ -41,7 +41,7 @@ mod update;
 pub use arrival::{LinuxArrival, is_markable};
 pub use cause::{LinuxCause, Picked};
 pub use departure::LinuxDeparture;
-pub use early::own_prob;
+pub use enqueue::own_prob;
 pub use params::{LinuxParams, MarkLimit};
 pub use queue::{excess, flow_backlog, flow_of, is_over_memory, next_cursor};
 pub use state::{LinuxState, ticks};

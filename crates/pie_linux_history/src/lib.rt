@@ -13,17 +13,21 @@
 
 mod choice;
 mod columns;
+mod cutter;
 mod difference;
 mod explained;
 mod fault;
 mod numbers;
 mod queue;
 mod queues;
+mod resume;
+mod row;
 mod step;
 mod text;
 mod words;
 
 pub use choice::StepChoice;
+pub use cutter::{RowSpan, StepPieces, count_rows, cut};
 pub use difference::{Column, Difference};
 pub use explained::Explained;
 pub use fault::StepsFault;

@@ -1,7 +1,11 @@
 //! A queue whose steps are decided again: its numbers, its flows and their waiting packets.
+ghost use Rattle.std.specs.Prelude.{◌≡◌};
+ghost use Rattle.pie_linux_history.specs.Resumes.{first_numbers};
+
 use crate::difference::{Column, Difference};
 use crate::explained::{DecidedPacket, Decision, Fate};
 use crate::numbers::{FlowNumbers, QueueNumbers, Waiting, waiting_of};
+use crate::resume::{DEPARTED, resumed, resumed_flow};
 use crate::step::{Kind, Step};
 use pie_linux::{LinuxState, LinuxStats, flow_of};
 use std::alloc::{AllocError, Global};
@@ -11,27 +15,31 @@ use std::collections::VecDeque;
 const MAX_FLOWS: u32 = 65536;
 
 /// The departures that a device can return at once.
-const RETURNED: usize = 256;
+pub(crate) const RETURNED: usize = 256;
 
 /// A flow of fq_pie, or all of pie: its numbers and its waiting packets.
 #[derive(Drop)]
-struct Flow {
-    numbers: FlowNumbers,
-    waiting: VecDeque<Waiting>,
+pub(crate) struct Flow {
+    pub(crate) numbers: FlowNumbers,
+    pub(crate) waiting: VecDeque<Waiting>,
 }
 
 /// A queue.
 #[derive(Drop)]
 pub(crate) struct Queue {
-    numbers: QueueNumbers,
-    flows: Vec<Flow>,
+    pub(crate) numbers: QueueNumbers,
+    pub(crate) flows: Vec<Flow>,
     /// The lengths of the last departures, and the number of all.
-    sent: [u32; RETURNED],
-    count: usize,
+    pub(crate) sent: [u32; RETURNED],
+    pub(crate) count: usize,
+    /// True after the row `destroy`.
+    pub(crate) has_ended: bool,
 }
 
-/// Returns the numbers of a queue after its first step.
-fn first_numbers(step: &Step) -> QueueNumbers {
+/// Returns the numbers of a queue after its first step, by the columns that pie-watch writes.
+fn first_numbers(step: &Step) -> QueueNumbers
+    ensures { result ≡ first_numbers step.now }
+{
     let is_new = step.kind == Kind::Init;
     QueueNumbers {
         has_flows: step.has_flows,
@@ -83,10 +91,11 @@ impl Queue {
             })?;
         }
         Ok(Queue {
-            numbers: first_numbers(step),
+            numbers: resumed(first_numbers(step), step),
             flows,
             sent: [0; RETURNED],
             count: 0,
+            has_ended: false,
         })
     }
 
@@ -111,7 +120,11 @@ impl Queue {
                 Ok(Decision::other(None))
             }
             Kind::Wait => self.resume_packet(step),
-            Kind::Init | Kind::Resume | Kind::Destroy | Kind::Empty => Ok(Decision::other(None)),
+            Kind::Destroy => {
+                self.has_ended = true;
+                Ok(Decision::other(None))
+            }
+            Kind::Init | Kind::Resume | Kind::Empty => Ok(Decision::other(None)),
         }
     }
 
@@ -119,16 +132,16 @@ impl Queue {
     fn resume_flow(&mut self, step: &Step) {
         let place = self.place(step);
         if let Some(flow) = self.flows.get_mut(place) {
-            flow.numbers = FlowNumbers {
-                state: step.after,
-                backlog: step.backlog,
-                listed: step.x1 != 0,
-            };
+            flow.numbers = resumed_flow(step);
         }
     }
 
     /// Takes over a waiting packet of a running queue.
     fn resume_packet(&mut self, step: &Step) -> Result<Decision, AllocError> {
+        if step.x0 == DEPARTED {
+            self.send(step.packet_length);
+            return Ok(Decision::other(None));
+        }
         if step.x0 != 0 {
             self.numbers.peeked = Some(step.packet_length);
             self.numbers.peeked_packets = 1;

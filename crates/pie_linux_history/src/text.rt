@@ -11,7 +11,7 @@ use std::io::{BufWriter, Read, Write};
 /// A reader of steps. It is a type of its own, so that the functions of pie_record that read histories have no further
 /// caller, and are inlined.
 #[derive(Drop)]
-struct StepsReader<R: Read + Drop>(R);
+pub(crate) struct StepsReader<R: Read + Drop>(pub(crate) R);
 
 impl<R: Read + Drop> Read for StepsReader<R> {
     ghost remaining = { λ it. R.remaining it.0 };
@@ -31,7 +31,7 @@ pub enum StepsFinding {
 }
 
 /// Reads the first row.
-fn read_columns<R: Read>(
+pub(crate) fn read_columns<R: Read>(
     records: &mut Records<R>,
     fields: &mut Record,
 ) -> Result<Columns, StepsFault> {

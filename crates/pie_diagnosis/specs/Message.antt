@@ -135,6 +135,7 @@ hint_words hint.Gzip name command =
 hint_words hint.Capture name command = codes "pie: " ++ (name ++ codes " is a packet capture, and no text of records\n")
 hint_words hint.Utf16 name command =
     codes "pie: " ++ (name ++ (codes " is in UTF-16; iconv -f UTF-16 -t UTF-8 " ++ (name ++ (codes " | pie " ++ (command ++ codes " .. reads it\n")))))
+hint_words hint.Steps name command = codes "pie: " ++ (name ++ codes " is a text of pie-watch; pie audit, pie explain and pie cut read it\n")
 
 -- the line and the reason of a fault in the file `name`
 unfoldable pub reason_words : ℕ → Reason → List ℕ → List ℕ → List ℕ

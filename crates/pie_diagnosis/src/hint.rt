@@ -1,4 +1,4 @@
-//! Files that are no text of records, by their first bytes.
+//! Files that are no trace and no history, by their first bytes.
 
 /// A property of a whole file.
 #[derive(Clone, Copy)]
@@ -13,6 +13,8 @@ pub enum Hint {
     Capture,
     /// The file is a text in UTF-16.
     Utf16,
+    /// The file has recorded steps of Linux, as `pie-watch` writes them: its first row begins with the column `qid`.
+    Steps,
 }
 
 impl Hint {
@@ -26,6 +28,7 @@ impl Hint {
             | [0x4d, 0x3c, 0xb2, 0xa1]
             | [0x0a, 0x0d, 0x0d, 0x0a] => Some(Hint::Capture),
             [0xff, 0xfe, _, _] | [0xfe, 0xff, _, _] => Some(Hint::Utf16),
+            [b'q', b'i', b'd', b','] => Some(Hint::Steps),
             _ => None,
         }
     }

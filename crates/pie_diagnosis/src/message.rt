@@ -280,6 +280,10 @@ fn write_hint<W: Write>(hint: Hint, name: &str, command: &str, writer: &mut W) -
             writer,
             "pie: {name} is in UTF-16; iconv -f UTF-16 -t UTF-8 {name} | pie {command} .. reads it"
         ),
+        Hint::Steps => writeln!(
+            writer,
+            "pie: {name} is a text of pie-watch; pie audit, pie explain and pie cut read it"
+        ),
     }
 }
 

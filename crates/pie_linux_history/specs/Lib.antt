@@ -6,3 +6,4 @@ pub mod Audit
 pub mod Columns
 pub mod Event
 pub mod Reports
+pub mod Resumes

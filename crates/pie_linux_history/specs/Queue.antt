@@ -215,10 +215,11 @@ departure queue step = kept (flow_stepped flow_departed (no_flow step) queue ste
 unfoldable pub update : QueueView → Step → Stepped
 update queue step = flow_stepped flow_updated (no_flow step) (if queue.numbers.has_flows then queue else counted_again queue step.backlog) step
 
--- a waiting packet of a running queue: the parent has peeked at it, or it waits in its flow
+-- a packet of a running queue: it has departed, it waits in its flow, or the parent has peeked at it
 unfoldable pub waiting_resumed : QueueView → Step → Stepped
 waiting_resumed queue step =
-    if step.x0 == 0 then flow_stepped flow_waited None (record queue { numbers = waiting_added queue.numbers (waiting_of step) }) step
+    if step.x0 == 2 then record { queue = sent queue step.packet_length; decision = other None; sent = None }
+    else if step.x0 == 0 then flow_stepped flow_waited None (record queue { numbers = waiting_added queue.numbers (waiting_of step) }) step
     else record {
       queue = sent (record queue { numbers = record queue.numbers { peeked = Some step.packet_length; peeked_packets = 1 } }) step.packet_length;
       decision = other None;

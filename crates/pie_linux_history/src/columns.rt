@@ -13,12 +13,15 @@ use pie_record::number::number;
 use pie_record::{Record, RecordFault, TraceFault};
 
 /// The number of columns that are read.
-const COUNT: usize = 52;
+pub(crate) const COUNT: usize = 52;
 
 /// The number of columns with decimal numbers, the first ones. The first `WIDE` have 64 bits, the others 32.
-const NUMBERS: usize = 47;
+pub(crate) const NUMBERS: usize = 47;
 
 const WIDE: usize = 15;
+
+/// The place of the column `ns` in [`NAMES`].
+const MOMENT: usize = 1;
 
 /// The place of the column `hash` in [`NAMES`].
 const HASH: usize = 28;
@@ -28,11 +31,11 @@ const PROTOCOL: usize = 47;
 
 const HEADER: usize = 48;
 
-const FLOW: usize = 49;
+pub(crate) const FLOW: usize = 49;
 
-const TYPE: usize = 50;
+pub(crate) const TYPE: usize = 50;
 
-const FAMILY: usize = 51;
+pub(crate) const FAMILY: usize = 51;
 
 /// The names of the columns.
 const NAMES: [&str; COUNT] = [
@@ -333,6 +336,28 @@ impl Columns {
         (flow, narrow(hash))
     }
 
+    /// Returns the moment of a row, and 0 if the row has none.
+    pub(crate) fn moment(&self, fields: &Record) -> u64 {
+        if fields.len() != self.count {
+            return 0;
+        }
+        decimal(fields, self.places[MOMENT], u64::MAX).unwrap_or(0)
+    }
+
+    /// Returns the number of columns.
+    pub(crate) fn count(&self) -> usize {
+        self.count
+    }
+
+    /// Returns the place in [`NAMES`] of the column at `place` of a row, the place behind them for `qid`, and `None` for a column
+    /// that is not read.
+    pub(crate) fn column_at(&self, place: usize) -> Option<usize> {
+        if place == self.queue {
+            return Some(COUNT);
+        }
+        self.places.iter().position(|at| *at == place)
+    }
+
     /// Reads the numbers of a row.
     #[tactic(auto, unfolding(crate::specs::Columns::numbers_of))]
     fn numbers(&self, fields: &Record) -> Result<[u64; NUMBERS], RecordFault>
@@ -377,7 +402,7 @@ fn narrow(number: u64) -> u32
 
 /// Returns the step with these numbers.
 #[tactic(auto, unfolding(crate::specs::Columns::place_from, crate::specs::Columns::step_of))]
-fn step_of(
+pub(crate) fn step_of(
     numbers: &[u64; NUMBERS],
     kind: Kind,
     has_flows: bool,

@@ -25,6 +25,7 @@
 #![tactic(auto)]
 
 mod columns;
+mod cutter;
 mod decided;
 mod difference;
 mod event;
@@ -34,11 +35,14 @@ mod numbers;
 mod queue;
 mod queues;
 mod reports;
+mod resume;
+mod row;
 mod step;
 mod steps;
 mod text;
 mod words;
 
+pub use cutter::{RowSpan, StepPieces, count_rows, cut};
 pub use difference::{Column, Difference};
 pub use fault::StepsFault;
 pub use queues::{StepDifference, StepsCounts};

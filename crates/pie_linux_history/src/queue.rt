@@ -2,11 +2,13 @@
 ghost use Rattle.std.specs.Prelude.{◌≡◌, IfOk, IfSome, None};
 ghost use Rattle.pie_linux_history.specs.declared.numbers.QueueNumbers.{QueueNumbers};
 ghost use Rattle.pie_linux_history.specs.Queue.{arrival, counted_again, departure, stepped, update, waiting_resumed, dropped, IsFlowStep, flow_arrived, flow_count, flow_departed, flow_resumed, flow_stepped, flow_updated, flow_waited, last_departures, no_flow, other, place_at, place_of, sent, sent_before};
+ghost use Rattle.pie_linux_history.specs.Resumes.{first_numbers};
 
 use crate::decided::StepNumbers;
 use crate::difference::{Column, Difference};
 use crate::explained::{DecidedPacket, Decision, Fate};
 use crate::numbers::{FlowNumbers, QueueNumbers, Waiting, waiting_of};
+use crate::resume::{DEPARTED, resumed, resumed_flow};
 use crate::step::{Kind, Step};
 use pie_linux::{LinuxState, LinuxStats, flow_of};
 use std::alloc::{AllocError, Global};
@@ -17,13 +19,13 @@ use std::marker::Model;
 const MAX_FLOWS: u32 = 65536;
 
 /// The departures that a device can return at once.
-const RETURNED: usize = 256;
+pub(crate) const RETURNED: usize = 256;
 
 /// A flow of fq_pie, or all of pie: its numbers and its waiting packets.
 #[derive(Drop)]
-struct Flow {
-    numbers: FlowNumbers,
-    waiting: VecDeque<Waiting>,
+pub(crate) struct Flow {
+    pub(crate) numbers: FlowNumbers,
+    pub(crate) waiting: VecDeque<Waiting>,
 }
 
 impl Model for Flow {
@@ -37,11 +39,13 @@ impl Model for Flow {
 /// A queue.
 #[derive(Drop)]
 pub(crate) struct Queue {
-    numbers: QueueNumbers,
-    flows: Vec<Flow>,
+    pub(crate) numbers: QueueNumbers,
+    pub(crate) flows: Vec<Flow>,
     /// The lengths of the last departures, and the number of all.
-    sent: [u32; RETURNED],
-    count: usize,
+    pub(crate) sent: [u32; RETURNED],
+    pub(crate) count: usize,
+    /// True after the row `destroy`.
+    pub(crate) has_ended: bool,
 }
 
 impl Model for Queue {
@@ -106,11 +110,7 @@ impl Flow {
     fn resume(&mut self, step: &Step) -> Decision
         ensures { (queue : QueueNumbers) → IsFlowStep (flow_resumed queue self.old step.now) queue self.new result None }
     {
-        self.numbers = FlowNumbers {
-            state: step.after,
-            backlog: step.backlog,
-            listed: step.x1 != 0,
-        };
+        self.numbers = resumed_flow(step);
         Decision::other(None)
     }
 
@@ -123,8 +123,10 @@ impl Flow {
     }
 }
 
-/// Returns the numbers of a queue after its first step.
-fn first_numbers(step: &Step) -> QueueNumbers {
+/// Returns the numbers of a queue after its first step, by the columns that pie-watch writes.
+fn first_numbers(step: &Step) -> QueueNumbers
+    ensures { result ≡ first_numbers step.now }
+{
     let is_new = step.kind == Kind::Init;
     QueueNumbers {
         has_flows: step.has_flows,
@@ -176,10 +178,11 @@ impl Queue {
             })?;
         }
         Ok(Queue {
-            numbers: first_numbers(step),
+            numbers: resumed(first_numbers(step), step),
             flows,
             sent: [0; RETURNED],
             count: 0,
+            has_ended: false,
         })
     }
 
@@ -203,7 +206,11 @@ impl Queue {
             Kind::Reset => self.reset(step, lost),
             Kind::Flow => Ok(self.resume_flow(step)),
             Kind::Wait => self.resume_packet(step),
-            Kind::Init | Kind::Resume | Kind::Destroy | Kind::Empty => Ok(Decision::other(None)),
+            Kind::Destroy => {
+                self.has_ended = true;
+                Ok(Decision::other(None))
+            }
+            Kind::Init | Kind::Resume | Kind::Empty => Ok(Decision::other(None)),
         }
     }
 
@@ -223,6 +230,10 @@ impl Queue {
     fn resume_packet(&mut self, step: &Step) -> Result<Decision, AllocError>
         ensures { IfOk result (λ decision. waiting_resumed self.old step.now ≡ record { queue = self.new; decision = decision; sent = None }) }
     {
+        if step.x0 == DEPARTED {
+            self.send(step.packet_length);
+            return Ok(Decision::other(None));
+        }
         if step.x0 != 0 {
             self.numbers.peeked = Some(step.packet_length);
             self.numbers.peeked_packets = 1;

@@ -8,10 +8,12 @@ use crate::difference::{Column, Difference};
 use crate::explained::{DecidedPacket, Decision, Explained};
 use crate::fault::StepsFault;
 use crate::queue::Queue;
+use crate::resume::QueueRows;
 use crate::step::{Kind, QueueName, Step};
 use pie_record::{Record, RecordFault};
 use std::alloc::Global;
-use std::fmt;
+use std::io::Write;
+use std::{fmt, io};
 
 /// The numbers of a text.
 #[derive(Clone, Copy)]
@@ -132,6 +134,28 @@ impl Queues {
         Some((queue, step, self.arrival))
     }
 
+    /// Writes rows of each queue that is alive, in the order in which they began, at this moment. An audit that reads the rows
+    /// has these queues.
+    pub(crate) fn write_resumed<W: Write>(
+        &self,
+        columns: &Columns,
+        moment: u64,
+        output: &mut W,
+    ) -> io::Result<()> {
+        for known in self.queues.iter() {
+            if !known.queue.has_ended {
+                let rows = QueueRows {
+                    columns,
+                    name: &known.name,
+                    number: known.last,
+                    moment,
+                };
+                rows.write(&known.queue, output)?;
+            }
+        }
+        Ok(())
+    }
+
     /// Returns the place of the queue with this name.
     fn find(&self, name: &[u8]) -> Option<usize> {
         self.queues.iter().position(|known| known.name.is(name))
@@ -179,7 +203,7 @@ impl Queues {
         if let Some(place) = self.find(queue)
             && place < self.queues.len()
         {
-            let _ = self.queues.swap_remove(place);
+            let _ = self.queues.remove(place);
         }
     }
 

@@ -61,6 +61,11 @@ impl QueueName {
     pub(crate) fn is(&self, name: &[u8]) -> bool {
         self.bytes.get(..self.len) == Some(name)
     }
+
+    /// Returns the bytes of the name.
+    pub(crate) fn bytes(&self) -> &[u8] {
+        self.bytes.get(..self.len).unwrap_or(&[])
+    }
 }
 
 impl fmt::Display for QueueName {
@@ -159,7 +164,7 @@ pub(crate) struct Step {
     pub hash: u32,
     /// The packet's memory in bytes; at `init`, `resume` and `change` fq_pie's memory limit.
     pub truesize: u32,
-    /// fq_pie's memory before an arrival; at `wait` 1 for a packet at which the parent has peeked; at `init`, `resume` and `change` fq_pie's `ecn_prob`.
+    /// fq_pie's memory before an arrival; at `wait` 1 for a packet at which the parent has peeked, 2 for one that departed; at `init`, `resume` and `change` fq_pie's `ecn_prob`.
     pub x0: u32,
     /// fq_pie's memory after an arrival; at `flow` 1 if packets wait; at `init` and `resume` the number of flows.
     pub x1: u32,

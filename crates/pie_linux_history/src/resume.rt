@@ -1,0 +1,290 @@
+//! The rows of a running queue, from which an audit continues: its numbers as a row `resume`, then rows `wait` and `flow`.
+//!
+//! pie-watch writes such rows for a queue of the kernel, and `pie cut` for a queue of an audit. Every number that an audit
+//! carries from one step to the next has a column:
+//!
+//! | numbers | row | columns |
+//! |---|---|---|
+//! | family, last step, parameters, counters, limit of memory, flows | `resume` | `kind`, `seq`, `target` to `dqrate` and `x0`, `packets_in` to `maxq`, `truesize`, `x1` |
+//! | state of pie | `resume` | `a_..` |
+//! | state, backlog and `listed` of each flow of fq_pie that is not as a new one | `flow` | `a_..`, `backlog`, `x1` |
+//! | waiting packets | `wait` | `size`, `pktlen`, `truesize`, `enq`, `flow` |
+//! | lengths of the last departures, from the oldest | `wait` | `pktlen`; `x0` is 2 |
+//! | departures that the kernel may count again | `resume` | `qlen0`, `bl0` |
+//! | arrivals above the limit of memory, plus 1 | `resume` | `t0` |
+//! | first flow of the next round, plus 1 | `resume` | `t1` |
+//! | memory beyond that of the waiting packets: fq_pie's reset keeps it | `resume` | `t2` |
+//!
+//! pie-watch leaves the columns of the last four lines at 0: an audit then learns the numbers of two of them from the next
+//! arrival and round, and takes the others to be none. The quantum, the deficits, and the order of the flows do not decide any
+//! step, and are 0.
+ghost use Rattle.std.specs.Prelude.{◌≡◌, false, true};
+ghost use Rattle.pie_linux_history.specs.Decisions.{waiting_of};
+ghost use Rattle.pie_linux_history.specs.Resumes.{emptied, first_numbers, is_counted, known_number, memory_at, number_field, packets_of, peeked_at, resumed, resumed_flow};
+
+use crate::columns::{Columns, NUMBERS, step_of};
+use crate::numbers::{FlowNumbers, QueueNumbers, Waiting};
+use crate::queue::{Flow, Queue, RETURNED};
+use crate::row::write_step;
+use crate::step::{Kind, QueueName, Step};
+use pie_linux::{LinuxState, MarkLimit};
+use std::io;
+use std::io::Write;
+
+/// The field `x0` of a row `wait` for a packet that departed, and of which only the length is kept.
+pub(crate) const DEPARTED: u32 = 2;
+
+/// The field `early` of a row without a decision: `pie_drop_early` was not called.
+const NOT_CALLED: u32 = 255;
+
+/// Returns the number of a field that is one higher, and `None` for 0.
+fn known_number(field: u64) -> Option<u32>
+    ensures { result ≡ known_number field }
+{
+    if field == 0 {
+        return None;
+    }
+    u32::try_from(field - 1).ok()
+}
+
+/// Returns the field of a number: one higher, and 0 for `None`.
+fn number_field(number: Option<u32>) -> u64
+    ensures result { result ≡ number_field number }
+    ensures known { known_number result ≡ number }
+{
+    match number {
+        Some(number) => u64::from(number) + 1,
+        None => 0,
+    }
+}
+
+/// Returns the numbers of a queue after its first step, with the numbers that only `pie cut` writes, if the step is a row
+/// `resume`.
+pub(crate) fn resumed(numbers: QueueNumbers, step: &Step) -> QueueNumbers
+    ensures { result ≡ resumed numbers step.now }
+{
+    if step.kind != Kind::Resume {
+        return numbers;
+    }
+    QueueNumbers {
+        peeked: if step.length_before == 0 {
+            None
+        } else {
+            Some(step.bytes_before)
+        },
+        peeked_packets: step.length_before,
+        memory: u32::try_from(step.readings[2]).unwrap_or(0),
+        over_memory: known_number(step.readings[0]),
+        cursor: known_number(step.readings[1]),
+        ..numbers
+    }
+}
+
+/// Returns the numbers of a flow by its row.
+pub(crate) fn resumed_flow(step: &Step) -> FlowNumbers
+    ensures { result ≡ resumed_flow step.now }
+{
+    FlowNumbers {
+        state: step.after,
+        backlog: step.backlog,
+        listed: step.x1 != 0,
+    }
+}
+
+/// Returns true if these are the numbers of a new flow.
+fn is_new(numbers: &FlowNumbers) -> bool {
+    numbers.state == LinuxState::new() && numbers.backlog == 0 && !numbers.listed
+}
+
+/// Returns a step of this kind whose other numbers are 0.
+fn blank(kind: Kind, has_flows: bool) -> Step {
+    Step {
+        early: NOT_CALLED,
+        ..step_of(&[0; NUMBERS], kind, has_flows, None, 0, 0)
+    }
+}
+
+/// Returns the number of the departures that the kernel may count again, and their bytes.
+fn peeked_fields(numbers: &QueueNumbers) -> (u32, u32)
+    ensures packets { result.0 ≡ packets_of numbers.now.peeked numbers.now.peeked_packets }
+    ensures peeked { is_counted numbers.now.peeked numbers.now.peeked_packets ≡ true → peeked_at result.0 result.1 ≡ numbers.now.peeked }
+{
+    match numbers.peeked {
+        Some(bytes) => (numbers.peeked_packets, bytes),
+        None => (0, 0),
+    }
+}
+
+/// Returns the field of a memory.
+fn memory_field(memory: u32) -> u64
+    ensures { memory_at result ≡ memory }
+{
+    u64::from(memory)
+}
+
+/// Returns the row `resume` of a queue with these numbers and `flows` flows, the state of pie, and the memory that is not of
+/// its waiting packets.
+fn resume_step(numbers: &QueueNumbers, memory: u32, flows: u32, state: &LinuxState) -> Step
+    ensures numbers { is_counted numbers.now.peeked numbers.now.peeked_packets ≡ true
+        → resumed (first_numbers result) result ≡ emptied numbers.now memory }
+    ensures state { numbers.now.has_flows ≡ false → result.after ≡ state.now }
+    ensures flows { numbers.now.has_flows ≡ true → result.x1 ≡ flows }
+{
+    let has_flows = numbers.has_flows;
+    let (length_before, bytes_before) = peeked_fields(numbers);
+    Step {
+        kind: Kind::Resume,
+        has_flows,
+        length_before,
+        bytes_before,
+        length_after: numbers.length,
+        bytes_after: numbers.bytes,
+        limit: numbers.params.limit,
+        readings: [
+            number_field(numbers.over_memory),
+            number_field(numbers.cursor),
+            memory_field(memory),
+        ],
+        truesize: numbers.memory_limit,
+        x0: match numbers.params.marks {
+            MarkLimit::Percent(percent) => percent,
+            MarkLimit::Tenth => 0,
+        },
+        x1: if has_flows { flows } else { 0 },
+        after: if has_flows {
+            blank(Kind::Resume, true).after
+        } else {
+            *state
+        },
+        params: numbers.params,
+        stats: numbers.stats,
+        ..blank(Kind::Resume, has_flows)
+    }
+}
+
+/// Returns the row of a departed packet with this length.
+fn departed_step(has_flows: bool, length: u32) -> Step
+    ensures length { result.packet_length ≡ length }
+    ensures departed { result.x0 ≡ 2 }
+{
+    Step {
+        packet_length: length,
+        x0: DEPARTED,
+        ..blank(Kind::Wait, has_flows)
+    }
+}
+
+/// Returns the row of a flow of fq_pie in which `length` packets wait.
+fn flow_step(numbers: &FlowNumbers, length: u32) -> Step
+    ensures { resumed_flow result ≡ numbers.now }
+{
+    Step {
+        backlog: numbers.backlog,
+        length_after: length,
+        x1: u32::from(numbers.listed),
+        after: numbers.state,
+        ..blank(Kind::Flow, true)
+    }
+}
+
+/// Returns the row of a waiting packet.
+fn wait_step(has_flows: bool, waiting: &Waiting) -> Step
+    ensures packet { waiting_of result ≡ waiting.now }
+    ensures waits { result.x0 ≡ 0 }
+{
+    Step {
+        packet_length: waiting.length,
+        size: waiting.size,
+        truesize: waiting.truesize,
+        enqueued: waiting.enqueued,
+        x0: 0,
+        ..blank(Kind::Wait, has_flows)
+    }
+}
+
+/// Returns the memory of a queue without that of its waiting packets.
+fn other_memory(queue: &Queue) -> u32 {
+    let mut memory = queue.numbers.memory;
+    for flow in queue.flows.iter() {
+        for waiting in flow.waiting.iter() {
+            memory = memory.wrapping_sub(waiting.truesize);
+        }
+    }
+    memory
+}
+
+/// The rows of a queue in a text with these columns.
+#[derive(Clone, Copy)]
+pub(crate) struct QueueRows<'q> {
+    /// The columns.
+    pub columns: &'q Columns,
+    /// The name of the queue.
+    pub name: &'q QueueName,
+    /// The number of its last step.
+    pub number: u64,
+    /// The moment, in nanoseconds.
+    pub moment: u64,
+}
+
+impl QueueRows<'_> {
+    /// Writes the rows of a queue.
+    pub(crate) fn write<W: Write>(&self, queue: &Queue, output: &mut W) -> io::Result<()> {
+        let state = match queue.flows.first() {
+            Some(flow) => flow.numbers.state,
+            None => LinuxState::new(),
+        };
+        let flows = u32::try_from(queue.flows.len()).unwrap_or(u32::MAX);
+        let resume = resume_step(&queue.numbers, other_memory(queue), flows, &state);
+        self.write_row(None, resume, output)?;
+        self.write_departed(queue, output)?;
+        for place in 0..flows {
+            if let Some(flow) = queue.flows.get(place as usize) {
+                self.write_flow(queue.numbers.has_flows, place, flow, output)?;
+            }
+        }
+        Ok(())
+    }
+
+    /// Writes the rows of the last departures.
+    fn write_departed<W: Write>(&self, queue: &Queue, output: &mut W) -> io::Result<()> {
+        let has_flows = queue.numbers.has_flows;
+        for back in 0..RETURNED {
+            let before = RETURNED - back;
+            if before <= queue.count {
+                let length = queue.sent[queue.count.wrapping_sub(before) % RETURNED];
+                self.write_row(None, departed_step(has_flows, length), output)?;
+            }
+        }
+        Ok(())
+    }
+
+    /// Writes the row of the flow at this place, if there are flows and it is not as a new one, and the rows of its packets.
+    fn write_flow<W: Write>(
+        &self,
+        has_flows: bool,
+        place: u32,
+        flow: &Flow,
+        output: &mut W,
+    ) -> io::Result<()> {
+        let named = if has_flows { Some(place) } else { None };
+        if has_flows && !(is_new(&flow.numbers) && flow.waiting.is_empty()) {
+            let length = u32::try_from(flow.waiting.len()).unwrap_or(u32::MAX);
+            self.write_row(named, flow_step(&flow.numbers, length), output)?;
+        }
+        for waiting in flow.waiting.iter() {
+            self.write_row(named, wait_step(has_flows, waiting), output)?;
+        }
+        Ok(())
+    }
+
+    /// Writes a row of this flow.
+    fn write_row<W: Write>(&self, flow: Option<u32>, step: Step, output: &mut W) -> io::Result<()> {
+        let step = Step {
+            flow,
+            number: self.number,
+            moment: self.moment,
+            ..step
+        };
+        write_step(self.columns, self.name, &step, output)
+    }
+}

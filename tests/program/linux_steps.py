@@ -1,5 +1,5 @@
 #!/usr/bin/env python3
-"""Tests `pie audit` and `pie explain` of a text of pie-watch, with steps that were recorded on Debian 12's kernel 6.1, unmodified
+"""Tests `pie audit`, `pie explain` and `pie cut` of a text of pie-watch, with steps that were recorded on Debian 12's kernel 6.1, unmodified
 (tests/rows/linux_steps.csv: four queues, each from its beginning or taken over while it ran; then a pie and an fq_pie with their rows mixed, a queue
 of which steps were lost, and one that a lower limit shortens; and parts of two queues of kernel 6.12, whose devices returned 22 of 30 packets, and 7
 segments of one packet).
@@ -12,6 +12,9 @@ segments of one packet).
 - A text without a column or without a queue's first step, and a field that is no number, are refused.
 - `explain --lost` explains each packet that an enqueue, a lower limit or a reset dropped, with its cause; `--marked`, `--all` and `--event N` each chosen
   packet. Two choices are refused. linux_reports.py tests other choices and forms.
+- `cut` writes the chosen rows as they are, after the first row and rows that hold the numbers of the queues that are alive. Pieces together have each row
+  once. The audit of each piece is clean; if a compared number of the piece's first row is changed, it finds the same step, column and numbers as an
+  audit of the whole text. A cut of a cut equals the cut. A step that differs ends the piece.
 - Several files, also with histories among them, are audited in turn; `--joined` is refused for steps.
 - A text is recognized in reads of all sizes. A text that begins almost so is a history.
 - Each allocation, read and write fails in turn.
@@ -21,6 +24,7 @@ needs: program
 """
 import csv
 import errno
+import random
 import sys
 import tempfile
 from pathlib import Path
@@ -208,7 +212,7 @@ check(got == (2, before, refusal + differs(at, "qlen0", wrong, recorded)) and be
 two = "pie: explain takes only one of --event N, --tag T, --lost, --marked and --all; see pie explain --help\n"
 got = run(ROWS, words=["explain", "--lost", "--all"])
 check(got[:2] == (1, "") and got[2].startswith(two), "two choices:", got)
-for words in (["run"], ["cut", "--from", "0"], ["migrate"], ["what-if", "--from", "0"]):
+for words in (["run"], ["migrate"], ["what-if", "--from", "0"]):
     check(run(ROWS, words=words) == (1, "", "pie: the first record is not an open record\n"), words, run(ROWS, words=words))
 
 # ---- files
@@ -275,4 +279,191 @@ for begin in ("", "q", "qi", "qid", "qid;", "qi,d", "Qid,", "qxd,", " qid,", "\u
             check(run_program(words, given) == (1, b"", b"pie: the first record is not an open record\n"), words, begin, given[:20], run_program(words, given))
 for text in (b"qid,", b"qid,\n", b"qid,seq\n"):
     check(run_program(["audit"], text) == (1, b"", b"pie: the first row has no column seq\n" if b"seq" not in text else b"pie: the first row has no column ns\n"), text, run_program(["audit"], text))
+# ---- a cut
+
+LINES = [",".join(row) + "\n" for row in ROWS]
+HEAD = ",".join(COLUMNS) + "\n"
+MOMENTS = []
+for row in ROWS:
+    MOMENTS.append(max(MOMENTS[-1] if MOMENTS else 0, int(field(row, "ns") or 0)))
+
+
+def cut(*words, text=TEXT):
+    """Returns the status, the output and the error stream of a cut of this text."""
+    status, output, errors = run_program(["cut", *words], text.encode())
+    return status, output.decode(), errors.decode()
+
+
+def audited(text):
+    status, output, errors = run_program(["audit"], text.encode())
+    return status, output.decode(), errors.decode()
+
+
+def queues_before(at):
+    """Returns the names of the queues that are alive before this row."""
+    alive = {}
+    for row in ROWS[:at]:
+        if row[0] == "lost":
+            alive.pop(row[2], None)
+        elif field(row, "type") == "destroy":
+            alive.pop(row[0], None)
+        else:
+            alive[row[0]] = True
+    return list(alive)
+
+
+def check_piece(text, at, rows):
+    """Checks the piece that begins with this row and has these rows. Returns the number of rows before them."""
+    lines = text.splitlines(keepends=True)
+    resumed = [line.split(",") for line in lines[1 : len(lines) - len(rows)]]
+    check(lines[0] == HEAD and lines[len(lines) - len(rows) :] == rows, "a piece from", at, "has other rows")
+    check([row[0] for row in resumed if row[2] == "resume"] == queues_before(at), "a piece from", at, "resumes", [row[0] for row in resumed if row[2] == "resume"])
+    check(all(row[2] in ("resume", "flow", "wait") for row in resumed), "a piece from", at, "begins with other rows")
+    status, _, errors = audited(text)
+    check(status == 0 and errors in ("", WERE_LOST), "the audit of a piece from", at, status, errors)
+    return len(resumed)
+
+
+def cut_in_segments(every):
+    """Cuts all rows into segments, and checks each."""
+    status, text, errors = cut("--every", str(every))
+    pieces = [HEAD + piece for piece in text.split(HEAD)[1:]]
+    check((status, errors, len(pieces)) == (0, "", -(-len(LINES) // every)) and text.startswith(HEAD), "--every", every, status, errors, len(pieces))
+    for number, piece in enumerate(pieces):
+        check_piece(piece, every * number, LINES[every * number : every * (number + 1)])
+
+
+def cut_by_moments(first, second, third):
+    """Cuts at three moments, in order: two pieces that follow each other, and pieces of a piece."""
+    status, piece, errors = cut("--from", str(first), "--to", str(third))
+    at = sum(moment < first for moment in MOMENTS)
+    rows = [line for line, moment in zip(LINES, MOMENTS) if first <= moment <= third]
+    check((status, errors) == (0, ""), "a cut from", first, "to", third, status, errors)
+    check_piece(piece, at, rows)
+    words = ("--from", str(first), "--to", str(third))
+    check(cut(*words, text=piece) == (0, piece, ""), "a cut of the cut from", first, "to", third, "differs from it")
+    check(cut("--from", str(second), "--to", str(third), text=piece) == cut("--from", str(second), "--to", str(third)), "a cut of a cut at", second)
+    before = cut("--to", str(second - 1))[1]
+    after = cut("--from", str(second))[1]
+    check(before == HEAD + "".join(LINES[: sum(moment < second for moment in MOMENTS)]), "a cut to", second - 1)
+    check(after.endswith("".join(LINES[sum(moment < second for moment in MOMENTS) :])), "a cut from", second)
+
+
+def compare_first_rows():
+    """Changes each compared number of the first row of a piece: the audit finds what that of the whole text finds."""
+    for (kind, step), names in {**COMPARED, ("fq_pie", "timer"): ["flow"]}.items():
+        at = next(at for at, row in reversed(list(enumerate(ROWS))) if (field(row, "kind"), field(row, "type")) == (kind, step)
+                  and (kind == "pie" or field(row, "flow") != "-1"))
+        status, text, errors = cut("--event", str(at + 1), "--around", "0")
+        before = check_piece(text, at, [LINES[at]]) if (status, errors) == (0, "") else 0
+        for name in names:
+            if (step, name) == ("deq", "a_dq_tstamp"):
+                continue
+            rows, _, _ = changed(at, name)
+            whole = run(rows)
+            got = audited(text.removesuffix(LINES[at]) + ",".join(rows[at]) + "\n")
+            check(got == (2, f"differs,{before + 1}\n", whole[2]) and whole[0] == 2, kind, step, name, "in a piece:", got, "in the text:", whole)
+
+
+def cut_after_a_reset():
+    """fq_pie's memory keeps that of the packets that a reset drops. A piece from there on has it too."""
+    waits = [at for at, row in enumerate(ROWS) if (row[0], field(row, "type")) == ("d4", "wait")]
+    end = next(at for at in waits if at + 1 not in waits) + 1
+    named = {name: COLUMNS.index(name) for name in COLUMNS}
+    began = max(at for at in range(end) if field(ROWS[at], "type") == "resume")
+    arrival = list(next(row for row in ROWS if (row[0], field(row, "type"), field(row, "early")) == ("d4", "enq", "")))
+    seq = int(field(ROWS[began], "seq"))
+    reset = [*ROWS[began][:2], "reset", str(seq + 1), *[""] * (len(COLUMNS) - 4)]
+    arrival[named["seq"]] = str(seq + 2)
+    for _ in range(len(COLUMNS)):
+        text = text_of([*ROWS[began:end], reset, arrival])
+        status, _, errors = audited(text)
+        if status == 0:
+            break
+        name, right = errors.split(": ")[-1].split(" ")[0], errors.strip().split(" ")[-1]
+        arrival[named[name]] = right
+    check(status == 0 and field(arrival, "x0") not in ("", "0"), "an arrival after a reset:", status, errors, field(arrival, "x0"))
+    status, piece, errors = cut("--event", str(end - began + 2), text=text)
+    check((status, errors, audited(piece)[0]) == (0, "", 0), "a piece after a reset:", status, errors, audited(piece))
+
+
+def cut_before_returned_packets():
+    """Pieces that begin with an arrival after packets came back: the lengths of the departures before are known."""
+    for name in ("eth0/1:/0", "eth2/1:/0"):
+        for at in [at for at, row in enumerate(ROWS) if (row[0], field(row, "type")) == (name, "enq")][:3]:
+            status, piece, errors = cut("--event", str(at + 1))
+            check((status, errors) == (0, ""), "a cut before returned packets:", status, errors)
+            check_piece(piece, at, [LINES[at]])
+
+
+def refuse_cuts():
+    """Cuts that are refused, that differ, or that choose no row."""
+    check(cut("--from", "2026-11-24T20:00:00Z") == (1, "", "pie: a text of pie-watch has moments since boot and no wall-clock times; see pie cut --help\n"),
+          "a bound in UTC:", cut("--from", "2026-11-24T20:00:00Z"))
+    nothing = (1, "", "pie: no event of the text is selected\n")
+    for words in (("--event", str(len(ROWS) + 1)), ("--from", str(MOMENTS[-1] + 1)), ("--from", "0", "--to", "0")):
+        got = cut(*words)
+        check(got == nothing if words[1] != "0" else got == (0, HEAD + "".join(line for line, moment in zip(LINES, MOMENTS) if moment == 0), "") or got == nothing,
+              words, "chooses no row:", got[0], got[2])
+    check(cut("--every", "3", text=HEAD) == nothing, "a header alone:", cut("--every", "3", text=HEAD))
+    check(cut("--last", "3") == (1, "", "pie: cut --last reads its input twice, so it needs a file\n"), "--last of standard input:", cut("--last", "3"))
+    at = first("pie", "calc")
+    rows, recorded, wrong = changed(at, "a_prob")
+    refusal = f"pie: event {at + 1} is not what the rules give there, so what comes after it is not cut\n" + differs(at, "a_prob", wrong, recorded)
+    status, text, errors = cut("--event", str(at), "--around", "9", text=text_of(rows))
+    check((status, errors) == (2, refusal) and text.endswith("".join([*LINES[at - 10 : at], ",".join(rows[at]) + "\n"])), "a step that differs:", status, errors)
+    check(cut("--event", str(at + 5), text=text_of(rows)) == (2, "", refusal), "a step that differs before the piece")
+    check(cut("--event", str(at), text=text_of(rows)) == cut("--event", str(at)), "a step that differs after the piece")
+    bad = text_of([*ROWS, ROWS[-1][:-1]])
+    status, text, errors = cut("--event", "3", text=bad)
+    check((status, errors) == (1, f"pie: record {len(ROWS) + 2}: wrong number of fields\n"), "a fault after the piece:", status, errors)
+
+
+def cut_other_forms():
+    """Columns in another order, unknown columns, and a name in quotes."""
+    order = [*range(len(COLUMNS) - 1, 0, -1), 0]
+    names = ["qid", "b_prob", *[COLUMNS[place] for place in order if place != 0]]
+    few = [row for row in ROWS if row[0] == "eth2/1:/0"]
+    rows = [['"a""b,c"', "5", *[row[place] for place in order if place != 0]] for row in few]
+    text = text_of(rows, names)
+    check(audited(text) == (0, f"clean,{len(rows)}\n", ""), "columns in another order:", audited(text))
+    status, piece, errors = cut("--event", str(len(rows) - 2), "--around", "2", text=text)
+    check((status, errors, audited(piece)[0]) == (0, "", 0) and piece.count('\n"a""b,c",') > 5, "a cut of these columns:", status, errors, audited(piece))
+
+
+cut_in_segments(9)
+cut_in_segments(83)
+cut_in_segments(len(ROWS))
+generator = random.Random(8033)
+for _ in range(8):
+    cut_by_moments(*sorted(generator.sample(sorted(set(MOMENTS)), 3)))
+compare_first_rows()
+cut_after_a_reset()
+cut_before_returned_packets()
+refuse_cuts()
+cut_other_forms()
+with tempfile.TemporaryDirectory() as folder:
+    steps = f"{folder}/steps"
+    Path(steps).write_text(TEXT)
+    status, text, errors = run([], words=["cut", "--last", "40", steps])
+    check((status, errors) == (0, ""), "--last:", status, errors)
+    check_piece(text, len(ROWS) - 40, LINES[-40:])
+    got = run([], words=["cut", "--last", "40", steps, "-o", f"{folder}/out"])
+    check(got == (0, "", "") and Path(f"{folder}/out").read_text() == text, "-o:", got)
+    for words in (["run"], ["migrate"], ["what-if", "--from", "0"]):
+        hint = f"pie: the first record is not an open record\npie: {steps} is a text of pie-watch; pie audit, pie explain and pie cut read it\n"
+        check(run([], words=[*words, steps]) == (1, "", hint), words, "of a named file:", run([], words=[*words, steps]))
+    library = refusing(folder, "a cut of a text of pie-watch")
+    if library:
+        met, words, text = f"{folder}/met", ["cut", "--every", "5"], text_of(mixed[:14]).encode()
+        want = run_program(words, text)
+        for variable, says in {"REFUSE_MEMORY": MEMORY, "REFUSE_READ": read_fault(errno.EIO), "REFUSE_WRITE": write_fault(errno.EIO)}.items():
+            places = 0
+            for on in ONCE_AND_ON:
+                for place, (status, output, errors), is_refused in in_turn(library, met, words, text, variable, on, REFUSE_STEP="700"):
+                    places += is_refused
+                    did_with_less = variable == "REFUSE_MEMORY" and not on and (status, output, errors) == want
+                    holds = (status, errors) == (1, says) and want[1].startswith(output) or did_with_less
+                    check(holds if is_refused else (status, output, errors) == want, words, variable, place, on, status, output[-80:], errors)
+            check(places > 2, words, variable, "was refused at", places, "places")
 finish()

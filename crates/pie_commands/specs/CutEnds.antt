@@ -1,15 +1,24 @@
--- `pie cut`: the selection by its options, and its end.
-use Rattle.std.specs.Prelude.{ℕ, ◌≡◌, ◌==◌, ◌+◌, ◌-◌, ◌^◌, ◌<◌, List, Bool, true, false, Option, Some, None, Result, Ok, Err, ⊤, codes, min, not, unwrap_or, if◌then◌else◌}
+-- `pie cut`: the selection by its options, and its end, of a history and of recorded steps of Linux. That the pieces of recorded steps have the chosen
+-- rows, and that their audits find what an audit of the text finds, is only tested.
+use Rattle.std.specs.Prelude.{ℕ, ◌≡◌, ◌==◌, ◌+◌, ◌-◌, ◌^◌, ◌<◌, ◌⊎◌, List, Bool, true, false, Option, Some, None, Result, Ok, Err, ⊤, codes, min, not, unwrap_or, if◌then◌else◌}
 use Rattle.std.specs.Result.{result_ok}
 use Rattle.std.specs.Str.{bytes_eq}
 use Rattle.clap.specs.Words.{Row, Text}
 use Rattle.pie_record.specs.declared.fault.TraceFault.{TraceFault}
+use Rattle.pie_record.specs.declared.fault.TraceFault.TheVariants as trace_fault
 use Rattle.pie_record.specs.Text.{Row as Fields}
 use Rattle.pie_cut.specs.declared.fault.CutFault.{CutFault}
 use Rattle.pie_cut.specs.declared.fault.CutFault.TheVariants as fault
 use Rattle.pie_cut.specs.declared.span.Span.{Span}
 use Rattle.pie_cut.specs.Excerpt.{CutsText, HasTextResult, HasLast, IsInSegments, every_answer}
+use Rattle.pie_linux_history.specs.declared.cutter.RowSpan.{RowSpan}
+use Rattle.pie_linux_history.specs.declared.cutter.StepPieces.{StepPieces}
+use Rattle.pie_linux_history.specs.declared.cutter.StepPieces.TheVariants as step_pieces
+use Rattle.pie_linux_history.specs.declared.fault.StepsFault.{StepsFault}
+use Rattle.pie_linux_history.specs.declared.text.StepsFinding.{StepsFinding}
+use Rattle.pie_linux_history.specs.declared.text.StepsFinding.TheVariants as steps
 use Rattle.pie_units.specs.declared.when.When.{When}
+use Rattle.pie_units.specs.declared.when.When.TheVariants.{Moment, Unix}
 use Rattle.pie_commands.specs.Words.{number_given}
 use Rattle.pie_commands.specs.declared.end.End.{End}
 use Rattle.pie_commands.specs.declared.end.End.TheVariants.{Done, Differs, Fault, Failed}
@@ -19,6 +28,8 @@ use Rattle.pie_commands.specs.declared.cut.CutRequest.{CutRequest}
 use Rattle.pie_commands.specs.declared.cut.CutRequest.TheVariants.{Last, Once}
 use Rattle.pie_commands.specs.Explanations.{bound_given, in_order}
 use Rattle.pie_commands.specs.Ends.{EndsBy, EndsRead, WritesNothing}
+use Rattle.pie_commands.specs.LinuxSteps.{end_of_fault}
+use Rattle.pie_commands.specs.TextKinds.{IsHistory, IsLinux}
 
 -- ---- the choice
 
@@ -88,6 +99,53 @@ CutsUpTo many (Err why) rows outcome before now = (outcome ≡ Err (fault.Trace 
 abbrev pub CutsLast : ℕ → List Fields → Result ℕ CutFault → Option (List ℕ) → Option (List ℕ) → Type 0
 CutsLast many rows outcome before now = (last : Result ℕ TraceFault) × HasLast rows last × CutsUpTo many last rows outcome before now
 
+-- ---- recorded steps of Linux
+
+-- a bound of moments; none for a wall-clock time, which recorded steps do not have
+abbrev pub moment_bound : Option When → ℕ → Option ℕ
+moment_bound None unbounded = Some unbounded
+moment_bound (Some (Moment moment)) unbounded = Some moment
+moment_bound (Some (Unix time)) unbounded = None
+
+abbrev pub row_span : ℕ → ℕ → Option ℕ → Option ℕ → Option StepPieces
+row_span first last (Some from) (Some to) = Some (step_pieces.Span (record { first = first; last = last; from = from; to = to }))
+row_span first last _ _ = None
+
+-- the pieces of recorded steps, by the numbers and the moments of their rows
+abbrev pub step_pieces_of : Pieces → Option StepPieces
+step_pieces_of (Excerpt span) = row_span span.first span.last (moment_bound span.from 0) (moment_bound span.to (2 ^ 64 - 1))
+step_pieces_of (Every every) = Some (step_pieces.Every every)
+
+-- the end of a cut of recorded steps with this result: the number of rows and the finding
+abbrev pub end_of_steps_cut : Result (ℕ × StepsFinding) StepsFault → End
+end_of_steps_cut (Ok (rows, steps.Clean counts)) = if rows == 0 then Failed else Done
+end_of_steps_cut (Ok (rows, steps.Differs found)) = Differs
+end_of_steps_cut (Err why) = end_of_fault why
+
+-- the end of a cut of recorded steps: nothing is written if a bound is a wall-clock time. Otherwise the end follows from the result
+abbrev pub EndsChosenRows : Option StepPieces → End → Option (List ℕ) → Option (List ℕ) → Type 0
+EndsChosenRows None end before now = WritesNothing end before now
+EndsChosenRows (Some pieces) end before now = (outcome : Result (ℕ × StepsFinding) StepsFault) × (end ≡ end_of_steps_cut outcome)
+
+-- or the reader failed before the text was recognized
+abbrev pub EndsStepsCut : Option StepPieces → End → Option (List ℕ) → Option (List ℕ) → Type 0
+EndsStepsCut pieces end before now = ((end ≡ Fault trace_fault.Read) × (now ≡ before)) ⊎ EndsChosenRows pieces end before now
+
+-- the last rows of recorded steps: the text is read twice, and the first reading can fail
+abbrev pub EndsStepsLast : End → Option (List ℕ) → Option (List ℕ) → Type 0
+EndsStepsLast end before now = ((why : TraceFault) × (end ≡ Fault why) × (now ≡ before))
+    ⊎ ((outcome : Result (ℕ × StepsFinding) StepsFault) × (end ≡ end_of_steps_cut outcome))
+
+-- ---- a text of either kind
+
+abbrev pub EndsTextCut : Pieces → Option (List ℕ) → End → Option (List ℕ) → Option (List ℕ) → Type 0
+EndsTextCut pieces known end before now = (IsHistory known × EndsBy end_of_cut (CutsInto pieces) known end before now)
+    ⊎ (IsLinux known × EndsStepsCut (step_pieces_of pieces) end before now)
+
+abbrev pub EndsTextLast : ℕ → Option (List ℕ) → End → Option (List ℕ) → Option (List ℕ) → Type 0
+EndsTextLast many known end before now = (IsHistory known × EndsBy end_of_cut (CutsLast many) known end before now)
+    ⊎ (IsLinux known × EndsStepsLast end before now)
+
 -- true if the file has a name, other than `-`, so that it can be read twice
 abbrev pub is_named : Option Text → Bool
 is_named None = false
@@ -96,12 +154,12 @@ is_named (Some name) = not (bytes_eq name (codes "-"))
 -- the end of a cut of the last `many` events of a named file, which is read twice; for any other input nothing is written
 abbrev pub ends_last : Type 0 → Bool → ℕ → Option (List ℕ) → End → Option (List ℕ) → Option (List ℕ) → Type 0
 ends_last opens false many known = WritesNothing
-ends_last opens true many known = EndsRead opens (EndsBy end_of_cut (CutsLast many) known)
+ends_last opens true many known = EndsRead opens (EndsTextLast many known)
 
 -- the end of a cut of a text, by its result; if the options select nothing, a failure, and nothing is written
 abbrev pub cut_ends : Type 0 → Option CutRequest → Bool → Option (List ℕ) → End → Option (List ℕ) → Option (List ℕ) → Type 0
 cut_ends opens None named known = WritesNothing
-cut_ends opens (Some (Once pieces)) named known = EndsRead opens (EndsBy end_of_cut (CutsInto pieces) known)
+cut_ends opens (Some (Once pieces)) named known = EndsRead opens (EndsTextCut pieces known)
 cut_ends opens (Some (Last many)) named known = ends_last opens named many known
 
 -- the end of a cut with the request and the file of these options. If `opens` holds, the file can be opened

@@ -1,15 +1,18 @@
-//! `pie cut`: the selection by its options, and its end.
+//! `pie cut`: the selection by its options, and its end, of a history and of recorded steps of Linux.
 ghost use Rattle.std.specs.Prelude.{◌≡◌, false, Some, IfSome, codes};
 ghost use Rattle.std.specs.Str.{bytes_eq};
 ghost use Rattle.clap.specs.Words.{found_of, rows_of};
+ghost use Rattle.pie_cut.specs.Excerpt.{HasLast};
 ghost use Rattle.pie_record.specs.Text.{records_of};
+ghost use Rattle.pie_commands.specs.TextKinds.{is_linux_text};
 ghost use Rattle.pie_commands.specs.Files.{Opens, text_given};
 ghost use Rattle.pie_commands.specs.Words.{file_in};
-ghost use Rattle.pie_commands.specs.CutEnds.{CutsInto, CutsLast, HasSome, WantsSome, chosen, end_of_cut, cut_request_of, within};
-ghost use Rattle.pie_commands.specs.Ends.{EndsBy, EndsRead};
+ghost use Rattle.pie_commands.specs.CutEnds.{CutsInto, EndsStepsCut, EndsTextCut, EndsTextLast, HasSome, WantsSome, chosen, end_of_cut, cut_request_of, step_pieces_of, within};
+ghost use Rattle.pie_commands.specs.Ends.{EndsRead};
 ghost use Rattle.pie_commands.specs.Subcommands.{EndsAs};
 ghost use Rattle.pie_commands.specs.declared.options.subcommand.Subcommand.{Subcommand};
 
+use crate::cut_steps::{NO_WALL_CLOCK, cut_steps, report_steps_cut, step_pieces_of};
 use crate::end::{End, end_failed, fault};
 use crate::fault_report::{CUT, end_with_fault_in};
 use crate::files::{NamedFiles, open_input, reader_named};
@@ -17,6 +20,8 @@ use crate::options::{NO_ORDER, bound, file, in_order, number, parsed, report_two
 use crate::progress::{ProgressReader, Screen, shows_progress};
 use clap::ArgMatches;
 use pie_cut::{CutFault, Span, cut_every, last_number};
+use pie_linux_history::count_rows;
+use pie_trace::TraceFault;
 use pie_units::When;
 use std::alloc::Global;
 use std::io::{Read, Write};
@@ -172,16 +177,56 @@ fn cut_pieces<H: NamedFiles + Screen, R: Read + Drop, W: Write, E: Write>(
     errors: &mut E,
 ) -> End
     requires { HasSome pieces }
-    ensures { EndsRead (Opens H.works (H.holds rt.now) (file_in (rows_of (found_of options.now)))) (EndsBy end_of_cut (CutsInto pieces)
+    ensures { EndsRead (Opens H.works (H.holds rt.now) (file_in (rows_of (found_of options.now)))) (EndsTextCut pieces
         (text_given (R.remaining input) (H.holds rt.now) (file_in (rows_of (found_of options.now))))) result (W.contents output.old)
         (W.contents output.new) }
 {
     let Some(reader) = open_input(rt, options, input, errors) else {
         return End::Unopened;
     };
-    let watched = ProgressReader::new(reader, &mut *errors, rt, shows_progress(rt, options, true));
-    let outcome = cut_out(alloc, watched, output, pieces);
-    report_end(rt, alloc, errors, file(options), outcome)
+    let is_shown = shows_progress(rt, options, true);
+    let (watched, kind) = ProgressReader::recognizing(reader, &mut *errors, rt, is_shown);
+    match kind {
+        Ok(false) => {
+            let outcome = cut_out(alloc, watched, output, pieces);
+            report_end(rt, alloc, errors, file(options), outcome)
+        }
+        Ok(true) => match step_pieces_of(pieces) {
+            Some(chosen) => {
+                let outcome = cut_steps(alloc, watched, output, chosen);
+                report_steps_cut(errors, file(options), outcome)
+            }
+            None => {
+                drop(watched);
+                end_failed(errors, NO_WALL_CLOCK)
+            }
+        },
+        Err(why) => {
+            drop(watched);
+            end_with_fault_in(rt, alloc, CUT, errors, file(options), why)
+        }
+    }
+}
+
+/// Returns the number of the last event of a text of either kind.
+fn last_event<H: Screen, R: Read + Drop, E: Write>(
+    rt: &H,
+    alloc: Global,
+    is_shown: bool,
+    reader: R,
+    errors: &mut E,
+) -> Result<u64, TraceFault>
+    ensures { IfSome (R.remaining reader) (λ text. is_linux_text text ≡ false → HasLast (records_of text) result) }
+{
+    let (watched, kind) = ProgressReader::recognizing(reader, &mut *errors, rt, is_shown);
+    match kind {
+        Ok(false) => last_number(alloc, watched),
+        Ok(true) => count_rows(alloc, watched),
+        Err(why) => {
+            drop(watched);
+            Err(why)
+        }
+    }
 }
 
 /// Cuts the last `many` events out of the file `name`, which the options name. The file is read twice.
@@ -196,7 +241,7 @@ fn cut_last<H: NamedFiles + Screen, R: Read + Drop, W: Write, E: Write>(
     errors: &mut E,
 ) -> End
     ensures { file_in (rows_of (found_of options.now)) ≡ Some name.now → bytes_eq name.now (codes "-") ≡ false
-        → EndsRead (Opens H.works (H.holds rt.now) (file_in (rows_of (found_of options.now)))) (EndsBy end_of_cut (CutsLast many) (H.holds rt.now name.now)) result
+        → EndsRead (Opens H.works (H.holds rt.now) (file_in (rows_of (found_of options.now)))) (EndsTextLast many (H.holds rt.now name.now)) result
         (W.contents output.old) (W.contents output.new) }
 {
     // The type equals the type of the cut's reader, so reading is compiled once.
@@ -204,8 +249,7 @@ fn cut_last<H: NamedFiles + Screen, R: Read + Drop, W: Write, E: Write>(
     let Some(reader) = reader_named(rt, name, &mut no_input, errors) else {
         return End::Unopened;
     };
-    let watched = ProgressReader::new(reader, &mut *errors, rt, shows_progress(rt, options, true));
-    match last_number(alloc, watched) {
+    match last_event(rt, alloc, shows_progress(rt, options, true), reader, errors) {
         Ok(number) => {
             let pieces = Pieces::Excerpt(Span::last(number, many));
             cut_pieces(rt, alloc, options, pieces, input, output, errors)

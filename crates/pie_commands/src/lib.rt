@@ -11,8 +11,8 @@
 //! then an existing file of that name is unchanged.
 //!
 //! `ProgressReader` wraps a reader. It returns exactly the bytes of the inner reader: `remaining` is the inner reader's.
-//! `recognizing` reads the first bytes, and returns them again: a text of recorded steps of Linux is audited and explained
-//! by pie_linux_history (steps.rt), any other text as a history.
+//! `recognizing` reads the first bytes, and returns them again: a text of recorded steps of Linux is audited, explained and
+//! cut by pie_linux_history (steps.rt, cut_steps.rt), any other text as a history.
 //! If progress is requested, it counts these bytes. After each 8 megabytes it overwrites its last line with the
 //! number of records and megabytes and the rate in megabytes per second. It clears the line at the end of the
 //! input, or when it is dropped. It ignores failed writes to the error stream and a clock that can't be read.
@@ -23,6 +23,7 @@ mod audit;
 mod audit_json;
 mod comparison;
 mod cut;
+mod cut_steps;
 mod difference;
 mod dispatch;
 mod end;

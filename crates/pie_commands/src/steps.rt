@@ -73,7 +73,7 @@ pub(crate) fn report_finding<E: Write>(errors: &mut E, name: Option<&str>, found
 }
 
 /// Returns the end at this fault, and writes its line to `errors`.
-fn end_with_steps_fault<E: Write>(errors: &mut E, why: StepsFault) -> End
+pub(crate) fn end_with_steps_fault<E: Write>(errors: &mut E, why: StepsFault) -> End
     ensures { result ≡ end_of_fault why }
 {
     match why {

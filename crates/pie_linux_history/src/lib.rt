@@ -1,5 +1,6 @@
 //! Recorded steps of Linux's `sch_pie` and `sch_fq_pie`: an audit that decides each step again by the rules of
-//! pie_linux, from the inputs alone, explanations of arrivals and of lost packets, and reports of pie_explain about the steps.
+//! pie_linux, from the inputs alone, explanations of arrivals and of lost packets, reports of pie_explain about the steps,
+//! and pieces of a text.
 //!
 //! The text is the CSV text of `pie-watch`: its first row names the columns, and each further row is a step of a queue,
 //! or the number of steps of a queue that the recorder lost. Records are counted from 1, steps of the text (*events*)
@@ -21,7 +22,7 @@
 //!
 //! Tested only (tests/program/linux_steps.py, linux_reports.py): the queue to which the name of a step belongs and the
 //! number of its last step, the first state of a queue, the packets that a change or a reset drops, that explanations
-//! and reports take all rows, the updates before a step, and the words of explanations.
+//! and reports take all rows, the updates before a step, the words of explanations, and the rows of a piece.
 #![tactic(auto)]
 
 mod columns;

@@ -8,7 +8,7 @@
 //! | family, last step, parameters, counters, limit of memory, flows | `resume` | `kind`, `seq`, `target` to `dqrate` and `x0`, `packets_in` to `maxq`, `truesize`, `x1` |
 //! | state of pie | `resume` | `a_..` |
 //! | state, backlog and `listed` of each flow of fq_pie that is not as a new one | `flow` | `a_..`, `backlog`, `x1` |
-//! | waiting packets | `wait` | `size`, `pktlen`, `truesize`, `enq`, `flow` |
+//! | waiting packets | `wait` | `size`, `pktlen`, `truesize`, `enq`, `ns`, `flow` |
 //! | lengths of the last departures, from the oldest | `wait` | `pktlen`; `x0` is 2 |
 //! | departures that the kernel may count again | `resume` | `qlen0`, `bl0` |
 //! | arrivals above the limit of memory, plus 1 | `resume` | `t0` |
@@ -197,6 +197,7 @@ fn wait_step(has_flows: bool, waiting: &Waiting) -> Step
         size: waiting.size,
         truesize: waiting.truesize,
         enqueued: waiting.enqueued,
+        moment: waiting.moment,
         x0: 0,
         ..blank(Kind::Wait, has_flows)
     }
@@ -222,7 +223,7 @@ pub(crate) struct QueueRows<'q> {
     pub name: &'q QueueName,
     /// The number of its last step.
     pub number: u64,
-    /// The moment, in nanoseconds.
+    /// The moment of the cut, in nanoseconds.
     pub moment: u64,
 }
 
@@ -277,12 +278,16 @@ impl QueueRows<'_> {
         Ok(())
     }
 
-    /// Writes a row of this flow.
+    /// Writes a row of this flow. A step without a moment has that of the cut.
     fn write_row<W: Write>(&self, flow: Option<u32>, step: Step, output: &mut W) -> io::Result<()> {
         let step = Step {
             flow,
             number: self.number,
-            moment: self.moment,
+            moment: if step.moment == 0 {
+                self.moment
+            } else {
+                step.moment
+            },
             ..step
         };
         write_step(self.columns, self.name, &step, output)

@@ -226,6 +226,10 @@ error names it, and the status is 2. If a record cannot be read, wherever it is,
 selected, the status is 1. With -o FILE the output is moved to FILE when it is complete, also with
 status 2. pie run --help describes -o.
 
+Of a text that pie-watch wrote, event N is the row N after the first, and moments are times since
+boot. The output, and each segment, begins with the first row; rows resume, flow and wait follow,
+with the numbers of each queue before the selected rows. Its events are numbered anew.
+
 Example: why were packets lost in one minute of a day? The file day has the history of the day:
 
   pie cut --from 2026-11-24T20:00:00Z --to 2026-11-24T20:01:00Z -o minute day

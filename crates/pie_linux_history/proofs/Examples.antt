@@ -13,7 +13,7 @@ use Rattle.pie_linux_history.specs.declared.fault.StepsFault.TheVariants.{NoColu
 use Rattle.pie_linux_history.specs.declared.step.Step.{Step}
 use Rattle.pie_linux_history.specs.Columns.{collected, columns_of, decimal_at, flow_at, has_flows_at, hexadecimal_after, hexadecimal_at, kind_at, known, lost_in, numbers_of, place_from, step_in, step_of}
 use Rattle.pie_linux_history.specs.declared.numbers.QueueNumbers.{QueueNumbers}
-use Rattle.pie_linux_history.specs.Queue.{last_departures, returned, segments}
+use Rattle.pie_linux_history.specs.Queue.{last_departures, returned}
 use Rattle.pie_linux_history.specs.Views.{QueueView}
 
 -- a first row with a column that is not read, and a row in which each number is the place of its column

@@ -1,9 +1,9 @@
 -- A queue whose steps are decided again: its numbers, its flows with their waiting packets, and the lengths of its last departures; and each step of it.
-use Rattle.std.specs.Prelude.{ℕ, ◌+◌, ◌-◌, ◌%◌, ◌/◌, ◌^◌, ◌++◌, ◌∷◌, ◌==◌, ◌≡◌, ◌&&◌, if◌then◌else◌, not, nat_le, nat_lt, List, [], length, get_or, min, Option, Some, None, unwrap_or, zero, suc}
+use Rattle.std.specs.Prelude.{ℕ, ◌+◌, ◌-◌, ◌%◌, ◌/◌, ◌^◌, ◌++◌, ◌∷◌, ◌==◌, ◌≡◌, ◌&&◌, if◌then◌else◌, not, nat_le, nat_lt, List, [], length, get_or, min, Option, Some, None, unwrap_or, zero, suc, Bool, true, false}
 use Rattle.std.specs.List.{slice_get}
 use Rattle.std.specs.Option.{option_or}
 use Rattle.std.proofs.Math.ListN.{set}
-use Rattle.pie_linux.specs.Enqueue.{is_queued}
+use Rattle.pie_linux.specs.Enqueue.{is_queued, one_if}
 use Rattle.pie_linux.specs.Queue.{flow_of}
 use Rattle.pie_linux_history.specs.declared.difference.Column.TheVariants as column
 use Rattle.pie_linux_history.specs.declared.difference.Difference.{Difference}
@@ -247,3 +247,26 @@ stepped kind.Wait queue step = Some (waiting_resumed queue step)
 stepped kind.Change queue step = None
 stepped kind.Reset queue step = None
 stepped _ queue step = Some (unchanged queue)
+
+-- true for a row that belongs to the row `resume` before it, and is no step of its own
+abbrev pub is_part : Kind → Bool
+is_part kind.Flow = true
+is_part kind.Wait = true
+is_part _ = false
+
+-- the number of the next row of a queue, after the step with this number
+abbrev pub next_number : ℕ → Step → ℕ
+next_number last step = (last + one_if (not (is_part step.kind))) % 2 ^ 64
+
+abbrev pub last_after : ℕ → Step → ℕ
+last_after last step = if step.number == next_number last step then step.number else last
+
+-- a step of a queue, after the one with this number: a row is missing if it is not the next
+abbrev pub next_step : ℕ → QueueView → Step → Option Stepped
+next_step last queue step =
+    if step.number == next_number last step then stepped step.kind queue step
+    else Some (record {
+      queue = queue;
+      decision = other (Some (record { column = column.Number; recorded = step.number; right = next_number last step }));
+      sent = None;
+    })

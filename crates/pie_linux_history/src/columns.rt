@@ -157,6 +157,7 @@ fn places_of(names: &Record) -> Result<[usize; COUNT], StepsFault>
 }
 
 /// Returns the field at a place, empty if there is none.
+#[inline(always)]
 fn field_or(fields: &Record, place: usize) -> &[u8]
     ensures { result.now ≡ field_or fields.now place }
 {
@@ -173,10 +174,10 @@ fn decimal(fields: &Record, place: usize, most: u64) -> Result<u64, RecordFault>
     ensures { result ≡ decimal_at fields.now place most }
 {
     let field = field_or(fields, place);
-    match field {
-        [] => Ok(0),
-        _ => number(field, most).ok_or(RecordFault::Number),
+    if field.is_empty() {
+        return Ok(0);
     }
+    number(field, most).ok_or(RecordFault::Number)
 }
 
 /// Returns the value of a hexadecimal digit in a small letter.

@@ -12,17 +12,18 @@
 //!   `Clean` only after the last row (specs/Audit.antt). A difference names the event, the queue and the step of its
 //!   row, and a fault names its record.
 //! - The fields of a row by the names of its columns, and each fault of a row (specs/Columns.antt).
-//! - In a queue: the flow of a step, its waiting packets, and the packets that the kernel counts again
-//!   (specs/Queue.antt).
+//! - In a queue: the number of its next step, the flow of a step, the waiting packets of the flow, and the packets that
+//!   the kernel counts again, for each kind of step except a change and a reset (specs/Queue.antt).
 //! - Each decision. `QueueNumbers::arrive`, `depart`, `update`, `begin_round`, `change` and `reset` give the numbers of
 //!   the queue and of the flow after the step, and the first recorded number that differs from them, exactly as
 //!   specs/Decisions.antt defines them over the rules of pie_linux.
 //! - The event of a decided step is exactly `explained_of` (specs/Event.antt), and the output of `report` is the
 //!   report's whole text for the selected events of decided steps, in order (specs/Reports.antt).
 //!
-//! Tested only (tests/program/linux_steps.py, linux_reports.py): the queue to which the name of a step belongs and the
-//! number of its last step, the first state of a queue, the packets that a change or a reset drops, that explanations
-//! and reports take all rows, the updates before a step, the words of explanations, and the rows of a piece.
+//! Tested only (tests/program/linux_steps.py, linux_reports.py): the choice of a step's queue by its name, so that the
+//! finding of a row is the decision of this queue; the first state of a queue; the packets that a change or a reset
+//! drops; that explanations and reports take all rows, and the updates before a step; the words of explanations; the
+//! rows of a piece.
 #![tactic(auto)]
 
 mod columns;

@@ -1,5 +1,6 @@
 //! The queues of a text.
-ghost use Rattle.std.specs.Prelude.{◌≡◌};
+ghost use Rattle.std.specs.Prelude.{◌≡◌, IfOk, IfSome, None};
+ghost use Rattle.pie_linux_history.specs.Queue.{last_after, next_step};
 ghost use Rattle.pie_linux_history.specs.Audit.{StepTaken, Taken, next, queue_and_step};
 
 use crate::columns::{Columns, fault_at, lost_at, out_of_memory};
@@ -11,7 +12,7 @@ use crate::queue::Queue;
 use crate::resume::QueueRows;
 use crate::step::{Kind, QueueName, Step};
 use pie_record::{Record, RecordFault};
-use std::alloc::Global;
+use std::alloc::{AllocError, Global};
 use std::io::Write;
 use std::{fmt, io};
 
@@ -56,6 +57,27 @@ struct Known {
     name: QueueName,
     last: u64,
     queue: Queue,
+}
+
+impl Known {
+    /// Decides a step again, if it is the next one of the queue. Adds the packets that a change or a reset dropped to
+    /// `lost`.
+    fn take(&mut self, step: &Step, lost: &mut Vec<DecidedPacket>) -> Result<Decision, AllocError>
+        ensures last { IfOk result (λ _. self.new.last ≡ last_after self.old.last step.now) }
+        ensures made { IfOk result (λ decision. IfSome (next_step self.old.last self.old.queue step.now) (λ made.
+            made ≡ record { queue = self.new.queue; decision = decision; sent = None })) }
+    {
+        let next = self.last.wrapping_add(u64::from(!step.kind.is_part()));
+        if step.number != next {
+            return Ok(Decision::other(Some(Difference {
+                column: Column::Number,
+                recorded: step.number,
+                right: next,
+            })));
+        }
+        self.last = step.number;
+        self.queue.step(step, lost)
+    }
 }
 
 /// The queues of a text, the counts of its steps, and the packets that the last step decided.
@@ -233,21 +255,7 @@ impl Queues {
                 step: step.number,
             });
         };
-        let next = known.last.wrapping_add(u64::from(!is_part));
-        if step.number != next {
-            return Ok(Some(difference_at(
-                self.counts.events,
-                queue,
-                step,
-                Difference {
-                    column: Column::Number,
-                    recorded: step.number,
-                    right: next,
-                },
-            )));
-        }
-        known.last = step.number;
-        let Ok(decision) = known.queue.step(step, &mut self.lost) else {
+        let Ok(decision) = known.take(step, &mut self.lost) else {
             return Err(out_of_memory());
         };
         self.arrival = decision.arrival;

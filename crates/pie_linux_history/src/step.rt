@@ -2,6 +2,7 @@
 ghost use Rattle.std.specs.Prelude.{◌≡◌, ◌≤◌, length};
 ghost use Rattle.std.specs.Str.{is_utf8};
 ghost use Rattle.pie_linux_history.specs.Columns.{padded, queue_name};
+ghost use Rattle.pie_linux_history.specs.Queue.{is_part};
 
 use crate::difference::Column;
 use pie_linux::{LinuxParams, LinuxState, LinuxStats};
@@ -106,7 +107,9 @@ pub(crate) enum Kind {
 
 impl Kind {
     /// Returns true if the row belongs to the row `resume` before it, and is no step of its own.
-    pub(crate) fn is_part(self) -> bool {
+    pub(crate) fn is_part(self) -> bool
+        ensures { result ≡ is_part self }
+    {
         matches!(self, Kind::Flow | Kind::Wait)
     }
 }

@@ -78,5 +78,5 @@ unread-explained known selection whole None before = go (either-kind known)
 unread-explained known selection whole (Some queue) before = go (either-kind known)
   where
     go : IsHistory known ⊎ IsLinux known → explain_ends (Some selection) whole (Some queue) known (Fault Read) before before
-    go (inl is) = inl (is, inr refl, refl)
+    go (inl is) = inl (is, (inr refl, refl))
     go (inr is) = inr (is, inl (refl, refl))

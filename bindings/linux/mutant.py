@@ -7,7 +7,7 @@ and `new:`. The text of `old:` occurs once in the C; \\n in it is a line feed an
 at the first such step, and may be false at later ones.
 
 With --list, prints a line for each fault: its name, its traffic, and the words of tc, separated by tabs.
-With --differ, prints the number of steps in a CSV of one queue that the fault NAME changes, and the number of the first step, or `none`.
+With --differ, prints the number of steps in a CSV of one queue for which the condition of the fault NAME is true, and the `seq` of the first, or `none`.
 
 usage: bindings/linux/mutant.py SOURCE | --list | --differ NAME CSV"""
 import csv

@@ -122,7 +122,7 @@ truncate -s 256M "$work/disk"
 boot "no_timer_check nowatchdog rcupdate.rcu_cpu_stall_suppress=1" $SIMULATED -drive "file=$work/disk,format=raw,if=virtio"
 mkdir "$work/steps"
 tar -C "$work/steps" -xf "$work/disk"
-bindings/linux/out/pie-watch text -o "$work/steps/faults.csv" "$work/steps/faults.steps"
+"$watch" text -o "$work/steps/faults.csv" "$work/steps/faults.steps"
 # a file for each queue, whose number ends its name
 awk -F, -v folder="$work/steps" 'NR == 1 { names = $0; next } { n = $1; sub(".*/", "", n); file = folder "/" n ".csv" }
     !(n in begun) { begun[n]; print names > file } { print > file }' "$work/steps/faults.csv"

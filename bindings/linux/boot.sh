@@ -48,7 +48,7 @@ truncate -s 1G "$work/disk"
 packets=${PACKETS:-4000}
 # a slow machine stalls the guest, which is no error of it
 # shellcheck disable=SC2086
-boot "bytes=${BYTES:-1M} packets=$packets no_timer_check nowatchdog rcupdate.rcu_cpu_stall_suppress=1" -m 1024 -smp 2 -accel tcg,thread=${THREAD:-single} \
+LIMIT=${LIMIT:-1500} boot "bytes=${BYTES:-1M} packets=$packets no_timer_check nowatchdog rcupdate.rcu_cpu_stall_suppress=1" -m 1024 -smp 2 -accel tcg,thread=${THREAD:-single} \
     $machine -drive "file=$work/disk,format=raw,if=virtio"
 mkdir "$work/steps"
 tar -C "$work/steps" -xf "$work/disk"

@@ -16,11 +16,11 @@ for name in a b; do
 done
 $box sleep 1
 
-# records NAME WORDS..: records to a compact file of this name
+# records NAME WORDS..: records to a compact file of this name. The ring buffer has room for all steps, also if pie-watch has to wait
 records() {
     name=$1
     shift
-    watches $name --compact -o /tmp/$name.steps "$@"
+    watches $name --ring 128 --compact -o /tmp/$name.steps "$@"
 }
 
 # stops STATUS: ends the recording, and keeps tc's later counters
@@ -43,11 +43,19 @@ changes() {
     /bin/tc -n r qdisc change dev rb parent 1:1 handle 2: "$@" || echo "FAILED tc change $*"
 }
 
-# carries BYTES: TCP by two flows, and UDP at three times the rate of the link
+# sends WORDS..: a connection, which is tried again if its first packets are dropped
+sends() {
+    until /bin/ip netns exec a /bin/iperf3 -c 10.0.2.1 "$@" > /tmp/sent$1 2>&1; do
+        echo "TOLD again: $($box tail -n 1 /tmp/sent$1)"
+        $box sleep 0.5
+    done
+}
+
+# carries: $bytes of TCP by two flows, and of UDP at three times the rate of the link
 carries() {
-    /bin/ip netns exec a /bin/iperf3 -c 10.0.2.1 -P 2 -n $1 > /dev/null 2>&1 &
+    sends -P 2 -n $bytes &
     tcp=$!
-    /bin/ip netns exec a /bin/iperf3 -c 10.0.2.1 -p 5202 -u -b 30M -l 700 -n $1 > /dev/null 2>&1
+    sends -p 5202 -u -b 30M -l 700 -n $bytes
     wait $tcp
 }
 
@@ -56,23 +64,26 @@ rate() {
     /bin/tc -n r class change dev rb parent 1: classid 1:1 htb rate $1 || echo "FAILED rate $1"
 }
 
-# a queue that works already, with packets that wait: 1 kB/s leaves
+# a queue that works already, with packets that wait: 1 kB/s leaves, and more arrives until it is recorded
 queues pie ecn
-carries $bytes
+carries
 rate 8kbit
-/bin/ip netns exec a $box ping -q -c 300 -i 0.005 -s 1000 10.0.2.1 > /dev/null
+/bin/ip netns exec a $box ping -q -i 0.005 -s 1000 10.0.2.1 > /dev/null &
+pings=$!
+$box sleep 2
 records running rb
-/bin/ip netns exec a $box ping -q -c 1 10.0.2.1 > /dev/null
+$box kill $pings
+/bin/ip netns exec a $box ping -q -c 1 -W 1 10.0.2.1 > /dev/null
 rate 10mbit
 changes pie limit 60 target 5ms tupdate 10ms alpha 4 beta 30
-carries $bytes
+carries
 floods $packets 200
 changes pie limit 10
 /bin/ip -n r link set rb down
 /bin/ip -n r link set rb up
 /bin/ip -n r route replace 10.0.2.0/24 dev rb
 changes pie limit 500 bytemode
-carries $bytes
+carries
 floods $packets 700
 keeps
 stops 0
@@ -82,7 +93,7 @@ stops 0
 records created --all --rate-estimator
 /bin/tc -n r qdisc add dev ra root handle 3: pie || echo "FAILED tc ra"
 queues pie dq_rate_estimator
-carries $bytes
+carries
 floods $packets 400
 keeps
 /bin/tc -n r qdisc del dev rb root
@@ -92,30 +103,32 @@ stops 0
 # fq_pie, and a queue that is not wanted
 records flows --queue 2: rb
 queues fq_pie limit 400 flows 64 ecn
-carries $bytes
+carries
 floods $packets 300
 floods $packets 900
 keeps
 stops 0
 /bin/tc -n r qdisc del dev rb root
 
-# a ring that is too small while pie-watch is stopped
+# a ring that is too small while pie-watch is stopped: 1 MiB has room for 6,500 enqueues. Afterwards pie-watch reads it
 queues pie
 records small --ring 1 rb
 $box kill -STOP $($box pidof pie-watch)
-carries 6M
+carries
+floods 10000 60
+written=$($box stat -c %s /tmp/small.steps.partial)
 $box kill -CONT $($box pidof pie-watch)
-$box sleep 1
-carries $bytes
+until [ $($box stat -c %s /tmp/small.steps.partial) -gt $written ]; do $box sleep 0.1; done
+carries
 keeps
 stops 2
 /bin/tc -n r qdisc del dev rb root
 
 # segments, each of which begins with the resumed queues; the queue of ra has no packets
-watches segments --all --compact --rotate 1mb -o /tmp/segments
+watches segments --ring 128 --all --compact --rotate 256kb -o /tmp/segments
 /bin/tc -n r qdisc add dev ra root handle 3: pie || echo "FAILED tc ra"
 queues fq_pie limit 400 flows 64 ecn
-carries $bytes
+carries
 floods $packets 300
 $box sleep 0.5
 ends 0

@@ -1,7 +1,8 @@
 #!/usr/bin/env bash
 # Boots Debian's kernel with a sch_pie that is built from its source with the faults of mutants.txt. pie-watch records the traffic of each fault twice,
-# without the fault and with it. pie must decide the first as the kernel did, and name a step of the second. pahole makes the module's
-# types. Prints the step of each fault. Faults that need minutes of rest are tried in simulated time.
+# without the fault and with it. pie must decide the first as the kernel did, and name the first step of the second that the fault changes. The first must
+# have such steps too. pahole makes the module's types. Prints the step of each fault. In simulated time, arrivals do not depend on the machine's speed. It
+# takes a minute of a processor.
 #
 # PIE, ROOT and HEADERS are those of boot.sh. SOURCE is Debian's linux-source of this kernel.
 # needs: program, a request
@@ -63,11 +64,20 @@ rests() {
     asks
 }
 
-# falls COUNT SIZE: fills the queue, and lets it empty. Pings arrive meanwhile
-falls() {
-    /bin/ip netns exec a $box ping -q -c 1000 -i 0.005 -s 400 -W 1 10.0.2.1 > /dev/null &
-    floods $1 $2
-    $box kill $!
+# overloads SECONDS SIZE RATE [LINK]: floods a link of LINK, 1 Mbit/s by default, for this time. (Above 10,000 packets a second, the packet generator does
+# not sleep between two packets, which takes long in simulated time)
+overloads() {
+    /bin/tc -n r class change dev rb parent 1: classid 1:1 htb rate ${4:-1mbit}
+    floods 1000000 $2 $3 &
+    $box sleep $1
+    $in_queue $box sh -c 'echo stop > /proc/net/pktgen/pgctrl'
+    wait $!
+}
+
+# drains SECONDS SIZE RATE: the same. Then the queue empties
+drains() {
+    overloads "$@"
+    /bin/tc -n r class change dev rb parent 1: classid 1:1 htb rate 100mbit
 }
 
 # crawls COUNT SIZE SECONDS: pings that leave at 1 kB/s, for this time. (The packet generator would wait until the last packet has left)
@@ -89,7 +99,7 @@ tries() {
     /bin/tc -n r qdisc del dev rb root
 }
 $box insmod /mods/sch_pie.ko || echo "FAILED insmod"
-watches faults $watch_words --compact -o /tmp/faults.steps rb
+watches faults --rate-estimator --compact -o /tmp/faults.steps rb
 tab=$($box printf '\t')
 while IFS=$tab read -r fault traffic words; do
     IFS=' '
@@ -105,39 +115,32 @@ $box poweroff -f
 END
 fill_watch
 cp "$work/mutants/sch_pie.ko" "$work/root/mods/"
-
-# tries KIND WORDS OPTION..: boots with the faults of this kind, and finds each. WORDS: an option of pie-watch, or nothing
-tries() {
-    local kind=$1 words=$2 number=0 fault found right
-    shift 2
-    bindings/linux/mutant.py --list "$kind" > "$work/root/mods/faults"
-    fill_root "$work/init" veth sch_htb pktgen
-    truncate -s 2G "$work/disk"
-    boot "no_timer_check nowatchdog rcupdate.rcu_cpu_stall_suppress=1 watch_words=$words" "$@" -drive "file=$work/disk,format=raw,if=virtio"
-    mkdir "$work/$kind"
-    tar -C "$work/$kind" -xf "$work/disk"
-    rm "$work/disk"
-    bindings/linux/out/pie-watch text -o "$work/$kind/faults.csv" "$work/$kind/faults.steps"
-    # a file for each queue, whose number ends its name
-    awk -F, -v folder="$work/$kind" 'NR == 1 { names = $0; next } { n = $1; sub(".*/", "", n); file = folder "/" n ".csv" }
-        !(n in begun) { begun[n]; print names > file } { print > file }' "$work/$kind/faults.csv"
-    while IFS=$'\t' read -r fault _; do
-        right=$("$pie" audit < "$work/$kind/$number.csv" 2>&1) || true
-        found=$("$pie" audit < "$work/$kind/$((number + 1)).csv" 2>&1 > /dev/null) || true
-        echo "  $fault: $found (without it: $right)"
-        case "$found, $right" in
-            *" is recorded as "*", clean,"*) ;;
-            *)
-                echo "$me: the fault $fault is not found" >&2
-                failed=1
-                ;;
-        esac
-        number=$((number + 2))
-    done < "$work/root/mods/faults"
-}
-failed=0
+bindings/linux/mutant.py --list > "$work/root/mods/faults"
+fill_root "$work/init" veth sch_htb pktgen
+truncate -s 256M "$work/disk"
 # shellcheck disable=SC2086
-tries live --rate-estimator -m 1024 -smp 2 -accel tcg,thread=multi $machine
-# shellcheck disable=SC2086
-tries simulated '' $SIMULATED
+boot "no_timer_check nowatchdog rcupdate.rcu_cpu_stall_suppress=1" $SIMULATED -drive "file=$work/disk,format=raw,if=virtio"
+mkdir "$work/steps"
+tar -C "$work/steps" -xf "$work/disk"
+"$watch" text -o "$work/steps/faults.csv" "$work/steps/faults.steps"
+# a file for each queue, whose number ends its name
+awk -F, -v folder="$work/steps" 'NR == 1 { names = $0; next } { n = $1; sub(".*/", "", n); file = folder "/" n ".csv" }
+    !(n in begun) { begun[n]; print names > file } { print > file }' "$work/steps/faults.csv"
+number=0 failed=0
+while IFS=$'\t' read -r fault _; do
+    right=$work/steps/$number.csv wrong=$work/steps/$((number + 1)).csv
+    clean=$("$pie" audit < "$right" 2>&1) || true
+    found=$("$pie" audit < "$wrong" 2>&1 > /dev/null) || true
+    count=$(bindings/linux/mutant.py --differ "$fault" "$right")
+    first=$(bindings/linux/mutant.py --differ "$fault" "$wrong")
+    echo "  $fault: $found (without it: $clean; steps that it would change: ${count% *})"
+    case "$count, $found, $clean" in
+        [1-9]*", step ${first#* }: "*" is recorded as "*", clean,"*) ;;
+        *)
+            echo "$me: the fault $fault is not found at its first step, ${first#* }" >&2
+            failed=1
+            ;;
+    esac
+    number=$((number + 2))
+done < "$work/root/mods/faults"
 exit $failed

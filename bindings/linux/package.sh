@@ -47,7 +47,7 @@ rm -rf "$work/system"
 truncate -s 1G "$work/records"
 # shellcheck disable=SC2086
 boot "root=/dev/vda rw net.ifnames=0 init=/package_init.sh bytes=${BYTES:-4M} packets=${PACKETS:-200000} no_timer_check nowatchdog rcupdate.rcu_cpu_stall_suppress=1" \
-    -m 1536 -smp 2 -accel tcg,thread=multi $machine -drive "file=$work/disk,format=raw,if=virtio,cache=unsafe" -drive "file=$work/records,format=raw,if=virtio" \
+    -m 1536 -smp 2 -accel tcg,thread=single $machine -drive "file=$work/disk,format=raw,if=virtio,cache=unsafe" -drive "file=$work/records,format=raw,if=virtio" \
     -netdev hubport,id=n0,hubid=0 -device virtio-net-pci,romfile=,netdev=n0 -netdev hubport,id=n1,hubid=0 -device virtio-net-pci,romfile=,netdev=n1
 mkdir "$work/steps"
 tar -C "$work/steps" -xf "$work/records"

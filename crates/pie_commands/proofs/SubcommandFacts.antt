@@ -10,6 +10,10 @@ use Rattle.pie_commands.proofs.Names.{IfSome, codes}
 use Rattle.pie_commands.specs.Explanations.{is_json}
 use Rattle.pie_commands.proofs.Names.{end_of_explain, explain_ends, output_kind_of, output_text, Selection, Explained}
 unfoldable use Rattle.pie_commands.specs.Explanations.{selection_of}
+use Rattle.pie_commands.specs.CutEnds.{CutsInto, CutsLast, EndsTextCut, EndsTextLast, cut_ends, cut_request_of, end_of_cut, is_named}
+use Rattle.pie_commands.specs.declared.cut.CutRequest.{CutRequest}
+use Rattle.pie_commands.specs.declared.cut.CutRequest.TheVariants.{Last, Once}
+use Rattle.pie_commands.specs.declared.cut.Pieces.{Pieces}
 use Rattle.pie_commands.specs.FileAudits.{FindsInHistory}
 use Rattle.pie_commands.specs.Files.{Opens, opens_after}
 use Rattle.clap.specs.Words.{first_of}
@@ -156,11 +160,37 @@ explain-kept (Some selection) whole (Some queue) old new end before now keeps (i
 explain-kept (Some selection) whole queue old new end before now keeps (inr steps) =
     inr (known-kept old new (λ text. is_linux_text text ≡ true) keeps steps.0, steps.1)
 
+-- a cut of a text, and of its last events
+cut-kept : (pieces : Pieces) (old new : Option (List ℕ)) (end : End) (before now : Option (List ℕ)) → IsRetained old new
+    → EndsTextCut pieces new end before now → EndsTextCut pieces old end before now
+cut-kept pieces old new end before now keeps (inl history) = inl (
+  known-kept old new (λ text. is_linux_text text ≡ false) keeps history.0,
+  by-kept end_of_cut (CutsInto pieces) old new end before now keeps history.1,
+)
+cut-kept pieces old new end before now keeps (inr steps) = inr (known-kept old new (λ text. is_linux_text text ≡ true) keeps steps.0, steps.1)
+
+last-kept : (many : ℕ) (old new : Option (List ℕ)) (end : End) (before now : Option (List ℕ)) → IsRetained old new
+    → EndsTextLast many new end before now → EndsTextLast many old end before now
+last-kept many old new end before now keeps (inl history) = inl (
+  known-kept old new (λ text. is_linux_text text ≡ false) keeps history.0,
+  by-kept end_of_cut (CutsLast many) old new end before now keeps history.1,
+)
+last-kept many old new end before now keeps (inr steps) = inr (known-kept old new (λ text. is_linux_text text ≡ true) keeps steps.0, steps.1)
+
+cuts-kept : (opens more : Type 0) (request : Option CutRequest) (named : Bool) (old new : Option (List ℕ)) (end : End) (before now : Option (List ℕ))
+    → (opens → more) → IsRetained old new → cut_ends more request named new end before now → cut_ends opens request named old end before now
+cuts-kept opens more None named old new end before now can keeps promise = promise
+cuts-kept opens more (Some (Once pieces)) named old new end before now can keeps (inl unopened) = inl (unopened.0, λ o. unopened.1 (can o), unopened.2)
+cuts-kept opens more (Some (Once pieces)) named old new end before now can keeps (inr ends) = inr (cut-kept pieces old new end before now keeps ends)
+cuts-kept opens more (Some (Last many)) false old new end before now can keeps promise = promise
+cuts-kept opens more (Some (Last many)) true old new end before now can keeps (inl unopened) = inl (unopened.0, λ o. unopened.1 (can o), unopened.2)
+cuts-kept opens more (Some (Last many)) true old new end before now can keeps (inr ends) = inr (last-kept many old new end before now keeps ends)
+
 -- another subcommand reads one text: its promise also holds of the old files
 text-kept : (subcommand : Subcommand) (options : List Row) (works : Bool) (input : Option (List ℕ)) (old new : Held) (end : End) (before now : Option (List ℕ))
-    → (subcommand ≡ Audit → ⊥) → (subcommand ≡ WhatIf → ⊥) → (subcommand ≡ Explain → ⊥) → Keeps old new → EndsAs subcommand options works input new end before now
-    → EndsAs subcommand options works input old end before now
-text-kept subcommand options works input old new end before now other another third keeps promise = grind (arith, by-kept, given-kept, read-kept)
+    → (subcommand ≡ Audit → ⊥) → (subcommand ≡ WhatIf → ⊥) → (subcommand ≡ Explain → ⊥) → (subcommand ≡ Cut → ⊥) → Keeps old new
+    → EndsAs subcommand options works input new end before now → EndsAs subcommand options works input old end before now
+text-kept subcommand options works input old new end before now other another third fourth keeps promise = grind (arith, by-kept, given-kept, read-kept)
 
 pub EndsAs-kept : (subcommand : Subcommand) (options : List Row) (works : Bool) (input : Option (List ℕ)) (old new : Held) (end : End)
     (before now : Option (List ℕ)) → Keeps old new → EndsAs subcommand options works input new end before now
@@ -171,6 +201,10 @@ EndsAs-kept WhatIf options works input old new end before now keeps promise =
     what_if-kept (Opens works old (file_in options)) (Opens works new (file_in options)) (alteration_of options) (writes_other options)
     (text_given input old (file_in options)) (text_given input new (file_in options)) end before now
     (read-kept works old new (file_in options) keeps) (given-kept input old new (file_in options) keeps) promise
+EndsAs-kept Cut options works input old new end before now keeps promise =
+    cuts-kept (Opens works old (file_in options)) (Opens works new (file_in options)) (cut_request_of options) (is_named (file_in options))
+    (text_given input old (file_in options)) (text_given input new (file_in options)) end before now
+    (read-kept works old new (file_in options) keeps) (given-kept input old new (file_in options) keeps) promise
 EndsAs-kept Explain options works input old new end before now keeps (inl unopened) =
     inl (unopened.0, λ o. unopened.1 (read-kept works old new (file_in options) keeps o), unopened.2)
 EndsAs-kept Explain options works input old new end before now keeps (inr (style, ends)) = inr (
@@ -179,7 +213,7 @@ EndsAs-kept Explain options works input old new end before now keeps (inr (style
       (text_given input new (file_in options)) end before now (given-kept input old new (file_in options) keeps) ends,
 )
 EndsAs-kept other options works input old new end before now keeps promise =
-    text-kept other options works input old new end before now (λ is. cc) (λ is. cc) (λ is. cc) keeps promise
+    text-kept other options works input old new end before now (λ is. cc) (λ is. cc) (λ is. cc) (λ is. cc) keeps promise
 
 -- ---- the three subcommands whose text can have an event that differs
 

@@ -11,9 +11,13 @@ use Rattle.pie_explain.specs.declared.selection.Selection.{Selection}
 use Rattle.pie_linux_history.specs.declared.fault.StepsFault.TheVariants as steps_fault
 use Rattle.pie_record.specs.Text.{records_of}
 use Rattle.pie_record.specs.declared.fault.TraceFault.TheVariants.{Read}
-use Rattle.pie_commands.specs.Ends.{EndsInputAudit}
+use Rattle.pie_cut.specs.declared.fault.CutFault.TheVariants.{Trace as CutTrace}
+use Rattle.pie_commands.specs.CutEnds.{CutsInto, EndsTextCut}
+use Rattle.pie_commands.specs.Ends.{EndsInputAudit, EndsRead}
 use Rattle.pie_commands.specs.Explanations.{explain_ends}
 use Rattle.pie_commands.specs.TextKinds.{IsHistory, IsLinux, TakesByte, is_linux_text}
+use Rattle.pie_commands.specs.declared.cut.Pieces.{Pieces}
+use Rattle.pie_commands.specs.declared.cut.Pieces.TheVariants.{Every, Excerpt}
 use Rattle.pie_commands.specs.declared.end.End.TheVariants.{Fault}
 
 -- ---- the first bytes
@@ -79,4 +83,26 @@ unread-explained known selection whole (Some queue) before = go (either-kind kno
   where
     go : IsHistory known ⊎ IsLinux known → explain_ends (Some selection) whole (Some queue) known (Fault Read) before before
     go (inl is) = inl (is, (inr refl, refl))
+    go (inr is) = inr (is, inl (refl, refl))
+
+no-cut : (known : Option (List ℕ)) (pieces : Pieces) (before : Option (List ℕ))
+    → IfSome known (λ text. CutsInto pieces (records_of text) (Err (CutTrace Read)) before before)
+no-cut None pieces before = tt
+no-cut (Some text) (Excerpt span) before = record {
+  faulted = λ none. let wrong : true ≡ false = none Read refl in cc;
+  stands = λ none. let wrong : true ≡ false = none Read refl in cc;
+  continued = λ none. let wrong : true ≡ false = none Read refl in cc;
+}
+no-cut (Some text) (Every every) before = record {
+  faulted = λ none. let wrong : true ≡ false = none Read refl in cc;
+  stands = λ none. let wrong : true ≡ false = none Read refl in cc;
+  continued = λ none. let wrong : true ≡ false = none Read refl in cc;
+}
+
+pub unread-cut : (opens : Type 0) (known : Option (List ℕ)) (pieces : Pieces) (before : Option (List ℕ))
+    → EndsRead opens (EndsTextCut pieces known) (Fault Read) before before
+unread-cut opens known pieces before = inr (go (either-kind known))
+  where
+    go : IsHistory known ⊎ IsLinux known → EndsTextCut pieces known (Fault Read) before before
+    go (inl is) = inl (is, (Err (CutTrace Read), refl, no-cut known pieces before))
     go (inr is) = inr (is, inl (refl, refl))

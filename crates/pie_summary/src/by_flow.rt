@@ -78,6 +78,7 @@ impl FlowInterval {
     /// # Errors
     ///
     /// `AllocError` if there is no memory for its flow.
+    #[inline(always)]
     pub(crate) fn take(
         &mut self,
         every: Option<u64>,
@@ -130,6 +131,7 @@ impl Report for ByFlow {
         Ok(FlowInterval::empty(page.allocator()))
     }
 
+    #[inline(always)]
     fn report_event(
         &self,
         state: &mut FlowInterval,

@@ -19,6 +19,7 @@ pub struct Flow {
 }
 
 /// Takes one more event, which is of this flow.
+#[inline(always)]
 fn count(rows: &mut IndexMap<u32, Flow>, flow: u32, explained: &Explained) -> Result<(), AllocError>
     ensures { (shown : List Explained) → HasFlows rows.old.entries shown → Some flow ≡ flow_in explained.now
         → OnOk result (HasFlows rows.new.entries (shown ++ explained.now ∷ [])) }
@@ -39,6 +40,7 @@ fn count(rows: &mut IndexMap<u32, Flow>, flow: u32, explained: &Explained) -> Re
 /// # Errors
 ///
 /// `AllocError` if it is the first of its flow, and there is no memory for it.
+#[inline(always)]
 pub(crate) fn take(rows: &mut IndexMap<u32, Flow>, explained: &Explained) -> Result<(), AllocError>
     ensures { (shown : List Explained) → HasFlows rows.old.entries shown
         → OnOk result (HasFlows rows.new.entries (shown ++ explained.now ∷ [])) }

@@ -12,12 +12,16 @@ use Rattle.pie_linux_history.specs.declared.fault.StepsFault.TheVariants as step
 use Rattle.pie_record.specs.Text.{records_of}
 use Rattle.pie_record.specs.declared.fault.TraceFault.TheVariants.{Read}
 use Rattle.pie_cut.specs.declared.fault.CutFault.TheVariants.{Trace as CutTrace}
-use Rattle.pie_commands.specs.CutEnds.{CutsInto, EndsTextCut}
+use Rattle.pie_cut.specs.Excerpt.{HasLast}
+use Rattle.pie_record.specs.declared.fault.TraceFault.{TraceFault}
+use Rattle.pie_commands.proofs.EndFacts.{last-faulted}
+use Rattle.pie_commands.specs.CutEnds.{CutsInto, EndsTextCut, EndsTextLast, last_of}
 use Rattle.pie_commands.specs.Ends.{EndsInputAudit, EndsRead}
 use Rattle.pie_commands.specs.Explanations.{explain_ends}
 use Rattle.pie_commands.specs.TextKinds.{IsHistory, IsLinux, TakesByte, is_linux_text}
 use Rattle.pie_commands.specs.declared.cut.Pieces.{Pieces}
 use Rattle.pie_commands.specs.declared.cut.Pieces.TheVariants.{Every, Excerpt}
+use Rattle.pie_commands.specs.declared.end.End.{End}
 use Rattle.pie_commands.specs.declared.end.End.TheVariants.{Fault}
 
 -- ---- the first bytes
@@ -106,3 +110,25 @@ unread-cut opens known pieces before = inr (go (either-kind known))
     go : IsHistory known ⊎ IsLinux known → EndsTextCut pieces known (Fault Read) before before
     go (inl is) = inl (is, (Err (CutTrace Read), refl, no-cut known pieces before))
     go (inr is) = inr (is, inl (refl, refl))
+
+-- ---- a cut of the last events, after the first reading
+
+pub last_failed : (many : ℕ) (known : Option (List ℕ)) (why : TraceFault) (before : Option (List ℕ))
+    → IfSome known (λ text. is_linux_text text ≡ false → HasLast (records_of text) (Err why)) → EndsTextLast many known (Fault why) before before
+last_failed many None why before counts = inl (tt, last-faulted many None why before tt)
+last_failed many (Some text) why before counts = go (is_linux_text text) refl
+  where
+    go : (is : Bool) → is_linux_text text ≡ is → EndsTextLast many (Some text) (Fault why) before before
+    go false same = inl (same, last-faulted many (Some text) why before (counts same))
+    go true same = inr (same, inl (why, refl, refl))
+
+pub last_cut : (opens : Type 0) (many number : ℕ) (known : Option (List ℕ)) (end : End) (before now : Option (List ℕ))
+    → IfSome known (λ text. is_linux_text text ≡ false → HasLast (records_of text) (Ok number))
+    → EndsRead opens (EndsTextCut (Excerpt (last_of number many)) known) end before now
+    → EndsRead opens (EndsTextLast many known) end before now
+last_cut opens many number known end before now counts (inl unopened) = inl unopened
+last_cut opens many number None end before now counts (inr (inl (is, (outcome, same, cuts)))) = inr (inl (is, (outcome, same, tt)))
+last_cut opens many number (Some text) end before now counts (inr (inl (is, (outcome, same, cuts)))) =
+    inr (inl (is, (outcome, same, (Ok number, counts is, cuts))))
+last_cut opens many number known end before now counts (inr (inr (is, inl unread))) = inr (inr (is, inl (Read, unread.0, unread.1)))
+last_cut opens many number known end before now counts (inr (inr (is, inr cut))) = inr (inr (is, inr cut))

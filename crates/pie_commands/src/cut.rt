@@ -230,6 +230,7 @@ fn last_event<H: Screen, R: Read + Drop, E: Write>(
 }
 
 /// Cuts the last `many` events out of the file `name`, which the options name. The file is read twice.
+#[tactic(auto, using(crate::proofs::TextKindFacts::last_cut))]
 fn cut_last<H: NamedFiles + Screen, R: Read + Drop, W: Write, E: Write>(
     rt: &H,
     alloc: Global,

@@ -109,8 +109,8 @@ def periods_of(path, time_of_period="50ms"):
 
 
 def of_records(folder):
-    """Checks all examples, whole."""
-    for path in sorted((ROOT / "examples").glob("*.history")):
+    """Checks all examples, whole, and a text of pie-watch."""
+    for path in [*sorted((ROOT / "examples").glob("*.history")), ROOT / "tests/rows/linux_steps.csv"]:
         records, (head, rows) = Path(folder, f"{path.stem}.csv"), periods_of(path)
         records.write_text("".join([head, *rows]))
         status, text, errors = metrics(records)

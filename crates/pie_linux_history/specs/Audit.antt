@@ -55,11 +55,12 @@ Audits columns before [] result = (counts : StepsCounts) × (result ≡ Ok (Clea
 Audits columns before (row ∷ rows) result = (taken : Result (Option StepDifference) StepsFault) × Taken (queue_and_step columns row) (next before) taken
     × Ends taken result (Audits columns (next before) rows result)
 
--- the audit of a text: its first row names the columns
+-- the audit after the first row, which names the columns
 abbrev pub AuditsAfter : Result Columns StepsFault → List Row → Result StepsFinding StepsFault → Type 0
 AuditsAfter (Err why) rows result = result ≡ Err why
 AuditsAfter (Ok columns) rows result = Audits columns 0 rows result
 
+-- the finding of a text of these records
 abbrev pub AuditsText : List Row → Result StepsFinding StepsFault → Type 0
 AuditsText [] result = result ≡ Err (Trace fault.NoOpen)
 AuditsText (names ∷ rows) result = AuditsAfter (columns_of names) rows result

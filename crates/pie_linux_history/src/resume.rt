@@ -6,8 +6,8 @@
 //! | numbers | row | columns |
 //! |---|---|---|
 //! | family, last step, parameters, counters, limit of memory, flows | `resume` | `kind`, `seq`, `target` to `dqrate` and `x0`, `packets_in` to `maxq`, `truesize`, `x1` |
-//! | state of pie | `resume` | `a_..` |
-//! | state, backlog and `listed` of each flow of fq_pie that is not as a new one | `flow` | `a_..`, `backlog`, `x1` |
+//! | state of pie | `resume` | `a_qdelay` to `a_backlog_old` |
+//! | state, backlog and `listed` of each flow of fq_pie that is not as a new one | `flow` | `a_qdelay` to `a_backlog_old`, `backlog`, `x1` |
 //! | waiting packets | `wait` | `size`, `pktlen`, `truesize`, `enq`, `ns`, `flow` |
 //! | lengths of the last departures, from the oldest | `wait` | `pktlen`; `x0` is 2 |
 //! | departures that the kernel may count again | `resume` | `qlen0`, `bl0` |

@@ -14,6 +14,9 @@ connects 1
 for name in a b; do
     /bin/ip netns exec $name $box sysctl -q -w net.ipv4.tcp_ecn=1
 done
+for at in a:a0 r:ra r:rb b:b0; do
+    /bin/ip netns exec ${at%:*} $box sysctl -q -w net.ipv6.conf.${at#*:}.disable_ipv6=1
+done
 $box sleep 1
 
 # records NAME WORDS..: records to a compact file of this name. The ring buffer has room for all steps, also if pie-watch has to wait
@@ -23,10 +26,17 @@ records() {
     watches $name --ring 128 --compact -o /tmp/$name.steps "$@"
 }
 
+# knows: the hosts at the link know their addresses, so that no ARP packet passes the queue later
+knows() {
+    /bin/ip -n r neigh replace 10.0.2.1 lladdr $(/bin/ip netns exec b $box cat /sys/class/net/b0/address) dev rb nud permanent
+    /bin/ip -n b neigh replace 10.0.2.2 lladdr $(/bin/ip netns exec r $box cat /sys/class/net/rb/address) dev b0 nud permanent
+}
+
 # stops STATUS: ends the recording, and keeps tc's later counters
 stops() {
     ends $1
     counters > /tmp/$name.later
+    /bin/ip -n a route del blackhole 10.0.2.1
 }
 
 # counters: prints tc's counters, without the probability, which changes in an idle queue
@@ -34,8 +44,9 @@ counters() {
     /bin/tc -n r -s -j qdisc show dev rb | $box sed 's/"prob":[^,]*,//g; s/"delay":[^,]*,//g'
 }
 
-# keeps: keeps tc's counters, at a moment when no packet comes
+# keeps: keeps tc's counters. Until `stops` no packet comes, also none that TCP sends again
 keeps() {
+    /bin/ip -n a route add blackhole 10.0.2.1 || echo "FAILED blackhole"
     until counters > /tmp/$name.earlier && $box sleep 0.3 && counters > /tmp/$name.json && $box cmp -s /tmp/$name.earlier /tmp/$name.json; do :; done
 }
 
@@ -64,6 +75,8 @@ rate() {
     /bin/tc -n r class change dev rb parent 1: classid 1:1 htb rate $1 || echo "FAILED rate $1"
 }
 
+knows
+
 # a queue that works already, with packets that wait: 1 kB/s leaves, and more arrives until it is recorded
 queues pie ecn
 carries
@@ -82,6 +95,7 @@ changes pie limit 10
 /bin/ip -n r link set rb down
 /bin/ip -n r link set rb up
 /bin/ip -n r route replace 10.0.2.0/24 dev rb
+knows
 changes pie limit 500 bytemode
 carries
 floods $packets 700

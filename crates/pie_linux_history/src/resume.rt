@@ -236,7 +236,7 @@ impl QueueRows<'_> {
         };
         let flows = u32::try_from(queue.flows.len()).unwrap_or(u32::MAX);
         let resume = resume_step(&queue.numbers, other_memory(queue), flows, &state);
-        self.write_row(None, resume, output)?;
+        self.write_row(None, self.moment, resume, output)?;
         self.write_departed(queue, output)?;
         for place in 0..flows {
             if let Some(flow) = queue.flows.get(place as usize) {
@@ -253,7 +253,7 @@ impl QueueRows<'_> {
             let before = RETURNED - back;
             if before <= queue.count {
                 let length = queue.sent[queue.count.wrapping_sub(before) % RETURNED];
-                self.write_row(None, departed_step(has_flows, length), output)?;
+                self.write_row(None, self.moment, departed_step(has_flows, length), output)?;
             }
         }
         Ok(())
@@ -270,24 +270,26 @@ impl QueueRows<'_> {
         let named = if has_flows { Some(place) } else { None };
         if has_flows && !(is_new(&flow.numbers) && flow.waiting.is_empty()) {
             let length = u32::try_from(flow.waiting.len()).unwrap_or(u32::MAX);
-            self.write_row(named, flow_step(&flow.numbers, length), output)?;
+            self.write_row(named, self.moment, flow_step(&flow.numbers, length), output)?;
         }
         for waiting in flow.waiting.iter() {
-            self.write_row(named, wait_step(has_flows, waiting), output)?;
+            self.write_row(named, waiting.moment, wait_step(has_flows, waiting), output)?;
         }
         Ok(())
     }
 
-    /// Writes a row of this flow. A step without a moment has that of the cut.
-    fn write_row<W: Write>(&self, flow: Option<u32>, step: Step, output: &mut W) -> io::Result<()> {
+    /// Writes a row of this flow at this moment.
+    fn write_row<W: Write>(
+        &self,
+        flow: Option<u32>,
+        moment: u64,
+        step: Step,
+        output: &mut W,
+    ) -> io::Result<()> {
         let step = Step {
             flow,
             number: self.number,
-            moment: if step.moment == 0 {
-                self.moment
-            } else {
-                step.moment
-            },
+            moment,
             ..step
         };
         write_step(self.columns, self.name, &step, output)

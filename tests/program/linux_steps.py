@@ -157,6 +157,21 @@ check(field(ROWS[at], "qlen0") == "28" and found == (2, f"differs,{at + 1}\n", d
 # ---- an explanation
 
 
+def refuse_in_turn(library, met, words):
+    """Checks a command over a few steps while each allocation, read and write fails in turn."""
+    text = text_of(mixed[:14]).encode()
+    want = run_program(words, text)
+    for variable, says in {"REFUSE_MEMORY": MEMORY, "REFUSE_READ": read_fault(errno.EIO), "REFUSE_WRITE": write_fault(errno.EIO)}.items():
+        places = 0
+        for on in ONCE_AND_ON:
+            for place, (status, output, errors), is_refused in in_turn(library, met, words, text, variable, on, REFUSE_STEP="700"):
+                places += is_refused
+                did_with_less = variable == "REFUSE_MEMORY" and not on and (status, output, errors) == want
+                holds = (status, errors) == (1, says) and want[1].startswith(output) or did_with_less
+                check(holds if is_refused else (status, output, errors) == want, words, variable, place, on, status, output[-80:], errors)
+        check(places > 2, words, variable, "was refused at", places, "places")
+
+
 def explained(*words, rows=ROWS):
     """Returns the status, the blocks and the error stream."""
     status, output, errors = run(rows, words=["explain", *words])
@@ -256,20 +271,8 @@ with tempfile.TemporaryDirectory() as folder:
         for size in (1, 2, 3, 4, 5, 7, 4096):
             got = run(ROWS, LD_PRELOAD=library, REFUSE_MET=met, REFUSE_STEP=str(size))
             check(got == CLEAN, "reads of", size, "bytes:", got)
-        few = mixed[:14]
-        text = text_of(few).encode()
-        wants = {"REFUSE_MEMORY": MEMORY, "REFUSE_READ": read_fault(errno.EIO), "REFUSE_WRITE": write_fault(errno.EIO)}
         for words in (["audit"], ["explain", "--all"]):
-            want = run_program(words, text)
-            for variable, says in wants.items():
-                places = 0
-                for on in ONCE_AND_ON:
-                    for place, (status, output, errors), is_refused in in_turn(library, met, words, text, variable, on, REFUSE_STEP="700"):
-                        places += is_refused
-                        did_with_less = variable == "REFUSE_MEMORY" and not on and (status, output, errors) == want
-                        holds = (status, errors) == (1, says) and want[1].startswith(output) or did_with_less
-                        check(holds if is_refused else (status, output, errors) == want, words, variable, place, on, status, output[-80:], errors)
-                check(places > 2, words, variable, "was refused at", places, "places")
+            refuse_in_turn(library, met, words)
 
 # texts that begin almost so are histories; each is read as one, to its last byte
 for begin in ("", "q", "qi", "qid", "qid;", "qi,d", "Qid,", "qxd,", " qid,", "\ufeffqid,", '"qid",', "oqid,"):
@@ -455,15 +458,5 @@ with tempfile.TemporaryDirectory() as folder:
         check(run([], words=[*words, steps]) == (1, "", hint), words, "of a named file:", run([], words=[*words, steps]))
     library = refusing(folder, "a cut of a text of pie-watch")
     if library:
-        met, words, text = f"{folder}/met", ["cut", "--every", "5"], text_of(mixed[:14]).encode()
-        want = run_program(words, text)
-        for variable, says in {"REFUSE_MEMORY": MEMORY, "REFUSE_READ": read_fault(errno.EIO), "REFUSE_WRITE": write_fault(errno.EIO)}.items():
-            places = 0
-            for on in ONCE_AND_ON:
-                for place, (status, output, errors), is_refused in in_turn(library, met, words, text, variable, on, REFUSE_STEP="700"):
-                    places += is_refused
-                    did_with_less = variable == "REFUSE_MEMORY" and not on and (status, output, errors) == want
-                    holds = (status, errors) == (1, says) and want[1].startswith(output) or did_with_less
-                    check(holds if is_refused else (status, output, errors) == want, words, variable, place, on, status, output[-80:], errors)
-            check(places > 2, words, variable, "was refused at", places, "places")
+        refuse_in_turn(library, f"{folder}/met", ["cut", "--every", "5"])
 finish()

@@ -1,5 +1,5 @@
 #!/usr/bin/env python3
-"""Runs each command of README.md and of the pages of bindings/ and examples/ in a fresh copy of the repository, and
+"""Runs each command of README.md, docs/LIBRARY.md and the pages of bindings/ and examples/ in a fresh copy of the repository, and
 follows each link of every page.
 
 An indented block is one bash script. It starts at the top of the copy, with the files that earlier blocks of its
@@ -29,7 +29,7 @@ from checks import NAME, ROOT, check, finish  # noqa: E402
 BUILT = ["crates/pie/out/pie", "crates/pie_c/out/libpie_c.a", "crates/pie_link_c/out/libpie_link_c.a"]
 # folders in which make takes long: built once here for their check.sh (with the same lock) and for the copies
 MADE = ["bindings/dpdk", "bindings/ns3"]
-RUN = ["README.md", "bindings/**/*.md", "examples/**/*.md"]
+RUN = ["README.md", "docs/LIBRARY.md", "bindings/**/*.md", "examples/**/*.md"]
 LINKED = [*RUN, "*.md", "docs/*.md", "bench/*.md"]
 LINK = re.compile(r"\]\(([^)\s]+)\)")
 # a stand-in for rt, in the folder of a crate whose program or library was built

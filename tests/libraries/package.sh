@@ -1,6 +1,6 @@
 #!/usr/bin/env bash
 # Uses the library and the program as a package: `make install` into a temporary folder. From an empty folder it
-# builds and runs the README's example, by pkg-config, in C11 and C++17 with warnings as errors, and by CMake; and a
+# builds and runs the example of docs/LIBRARY.md, by pkg-config, in C11 and C++17 with warnings as errors, and by CMake; and a
 # Rust program that depends on bindings/rust. It installs below DESTDIR as packagers do, and uninstalls. Then it makes
 # the archive, unpacks it elsewhere, and uses program and library without the toolchain. The libraries are those of
 # the proved crates, the program that of dist/. Prints a line NOT RUN for a missing tool.
@@ -49,9 +49,9 @@ while read -r file; do
 done < "$work/installed"
 mkdir "$work/empty"
 
-# the README's example in C: the block that includes pie.h
-awk '/^    #include "pie.h"/ {inside = 1} inside && /^[^ ]/ {exit} inside {sub(/^    /, ""); print}' README.md > "$work/empty/example.c"
-grep -q pie_update "$work/empty/example.c" || fail "the README has no example in C"
+# the example in C of docs/LIBRARY.md: the block that includes pie.h
+awk '/^    #include "pie.h"/ {inside = 1} inside && /^[^ ]/ {exit} inside {sub(/^    /, ""); print}' docs/LIBRARY.md > "$work/empty/example.c"
+grep -q pie_update "$work/empty/example.c" || fail "docs/LIBRARY.md has no example in C"
 export PKG_CONFIG_PATH=$prefix/lib/pkgconfig
 if ! command -v pkg-config > /dev/null; then
     not_run "no pkg-config here, so nothing was built over the installed library"
@@ -59,21 +59,21 @@ else
     expect "pkg-config --modversion" "$version" pkg-config --modversion pie_c
     for compiler in "${CC:-cc} -std=c11" "${CXX:-c++} -x c++ -std=c++17"; do
         if ! command -v "${compiler%% *}" > /dev/null; then
-            not_run "no ${compiler%% *} here, so the README's example was not built by it"
+            not_run "no ${compiler%% *} here, so the example of docs/LIBRARY.md was not built by it"
             continue
         fi
         # shellcheck disable=SC2046,SC2086
         (cd "$work/empty" && $compiler $warnings $(pkg-config --cflags pie_c) -c -o example.o example.c &&
-            ${compiler%% *} -o example example.o $(pkg-config --libs pie_c)) || fail "$compiler does not build the README's example"
-        expect "the README's example by $compiler" "$wanted" "$work/empty/example"
+            ${compiler%% *} -o example example.o $(pkg-config --libs pie_c)) || fail "$compiler does not build the example of docs/LIBRARY.md"
+        expect "the example of docs/LIBRARY.md by $compiler" "$wanted" "$work/empty/example"
         # shellcheck disable=SC2046,SC2086
         (cd "$work/empty" && $compiler $warnings $(pkg-config --cflags pie_c) -c -o follow.o "$repository/tests/libraries/follow.c") ||
             fail "$compiler does not build a program over pie_follow.h and pie_text.h"
     done
     # shellcheck disable=SC2046
     (cd "$work/empty" && "${CC:-cc}" $(pkg-config --cflags pie) -o example example.c $(pkg-config --libs pie)) ||
-        fail "the README's example is not built over libpie.so"
-    expect "the README's example over libpie.so" "$wanted" env LD_LIBRARY_PATH="$prefix/lib" "$work/empty/example"
+        fail "the example of docs/LIBRARY.md is not built over libpie.so"
+    expect "the example of docs/LIBRARY.md over libpie.so" "$wanted" env LD_LIBRARY_PATH="$prefix/lib" "$work/empty/example"
     # the calls of a link are in the shared library too
     # shellcheck disable=SC2046
     "${CC:-cc}" -std=c11 $(pkg-config --cflags pie) -o "$work/empty/threads" bindings/c/threads.c $(pkg-config --libs pie) ||
@@ -90,9 +90,9 @@ foreach(library pie pie_c pie_link)
 endforeach()
 END
     cmake -S "$work/empty" -B "$work/cmake" -DCMAKE_PREFIX_PATH="$prefix" > "$work/said" && cmake --build "$work/cmake" > "$work/said" ||
-        fail "CMake does not build the README's example: $(cat "$work/said")"
+        fail "CMake does not build the example of docs/LIBRARY.md: $(cat "$work/said")"
     for library in pie pie_c pie_link; do
-        expect "the README's example by CMake over juniperbowls::$library" "$wanted" "$work/cmake/example_$library"
+        expect "the example of docs/LIBRARY.md by CMake over juniperbowls::$library" "$wanted" "$work/cmake/example_$library"
     done
     sed -i 's/juniperbowls 0.1/juniperbowls 99/' "$work/empty/CMakeLists.txt"
     if cmake -S "$work/empty" -B "$work/cmake99" -DCMAKE_PREFIX_PATH="$prefix" > "$work/said" 2>&1; then
@@ -176,7 +176,7 @@ if command -v pkg-config > /dev/null; then
     for library in pie_c pie; do
         # shellcheck disable=SC2046
         (cd "$work/empty" && export PKG_CONFIG_PATH=$unpacked/lib/pkgconfig && bare cc -o example example.c \
-            $(pkg-config --cflags --libs $library)) || fail "the README's example is not built over $library of the archive"
-        expect "the README's example over $library of the archive" "$wanted" env LD_LIBRARY_PATH="$unpacked/lib" "$work/empty/example"
+            $(pkg-config --cflags --libs $library)) || fail "the example of docs/LIBRARY.md is not built over $library of the archive"
+        expect "the example of docs/LIBRARY.md over $library of the archive" "$wanted" env LD_LIBRARY_PATH="$unpacked/lib" "$work/empty/example"
     done
 fi

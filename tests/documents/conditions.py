@@ -8,8 +8,6 @@ the words for a condition or those of NUMBERS are not in the paragraph, if the w
 if a law has no paragraph. A condition that is a record of crates/pie_guarantees/specs counts as its fields. Every law
 also has the condition IsLawful, which the head of the page states.
 
-It also compares the order of the checks of a preamble on docs/FORMATS.md with that of the code.
-
 usage: tests/documents/conditions.py
 needs: nothing
 """
@@ -214,18 +212,6 @@ def fields_of(premise, known):
         yield from below if below != [text] else [f"{name}.{field}"]
 
 
-def check_order():
-    """Compares the order of the checks of a preamble with that of the code."""
-    code = (ROOT / "crates/pie_aqm/src/soundness.rt").read_text()
-    registers = re.findall(r"^    Register::(\w+),$", code, re.M)
-    words = {"Params": "a parameter in force", "Moment": "a moment above", "Prob": "`<prob>`", "OldDelay": "`<old>`", "Accu": "`<accu>`", "Burst": "`<burst>`",
-             "Last": "`<last>`", "Average": "`<average>`", "CycleStart": "`<start>`", "CycleCount": "`<counted>`", "Waited": "field 44", "Active": "`<active>`"}
-    page = " ".join((ROOT / "docs/FORMATS.md").read_text().split())
-    listed = page.partition("Impossible are, in this order:")[2].partition("6. Each statistic")[0]
-    places = [listed.find(words[register]) for register in registers]
-    check(registers and min(places) >= 0 and places == sorted(places), f"docs/FORMATS.md lists the checks of a preamble in another order than {registers}")
-
-
 def main():
     laws = clauses()
     known = {name: fields for name, fields in records().items() if name != "IsLawful"}
@@ -246,7 +232,6 @@ def main():
                 check(not text or word in text, f"docs/GUARANTEES.md does not state for {law} `{condition}` in the words: {word}")
         for word in NUMBERS.get(law, []):
             check(word in text, f"docs/GUARANTEES.md does not state for {law} the words: {word}")
-    check_order()
     finish()
 
 

@@ -2,8 +2,9 @@
 """Runs the program on large inputs, and compares its output with a line of Python for each record: 1.2 million
 events that are run, audited, migrated and explained; a fold of the greatest log, 2^20 events, and folds of 5000; a
 full log; 65536 packets, and one too many; packets with the tag 0; an excerpt with 70,000 packets and 60,000 events,
-which is cut, run, audited, explained, cut again and cut into segments; a fault after record 100,000; ten million
-records with a short log, also summed up; and 2.5 million explanations. Each command stores one record, its queue and
+which is cut, run, audited, explained, cut again and cut into segments; faults after record 100,000, in the last of
+70,000 packets and after 2.5 million records; ten million records with a short log, also summed up; and 2.5 million
+explanations. Each command stores one record, its queue and
 its log, so its memory does not grow with the text: it runs with its address space limited to MEMORY bytes.
 
 usage: tests/program/large.py [PROGRAM]      PROGRAM: crates/pie/out/pie by default
@@ -177,6 +178,12 @@ def deep_excerpt(work):
             cause = f'pie: line {len(text) + 1} of given, field 4 (answer): "lef"; allowed is empty\n'
             told = f"{fault}{cause}" if "given" in words else fault
             compare(work, f"{name} with a fault:", words, text + ["depart,7,1,lef\n"], None, (1, told))
+    # the last packet arrives before its predecessor, whose moment bounds it
+    damaged = [*excerpt]
+    damaged[QUEUED] = f"queued,{QUEUED - 1},1,{ECNS[(QUEUED - 1) % 4]},0\n"
+    cause = f'pie: line {QUEUED + 1} of given, field 5 (since): "0"; allowed is a number from {QUEUED - 2} to {QUEUED - 1}\n'
+    told = f"record {QUEUED + 1}: a packet that arrived before its predecessor\n{cause}"
+    compare(work, f"{name} with a fault:", ["audit", "given"], damaged, [], (1, told))
     print(f"{NAME}: {name} {len(excerpt)} records")
 
 
@@ -193,6 +200,9 @@ def ten_million(work):
     history[1] = "depart,7,1,empty\n" * EXPLAINED
     explained = (f"{number},depart,7,1,1,,,empty,,0,0,0,0,0,150000000,,,,1,,0,0,0,0,0,150000000,1\n" for number in range(1, EXPLAINED + 1))
     compare(work, "2.5 million explanations:", ["explain", "--all", "--csv"], history[:2], [HEADER, *explained])
+    last = EXPLAINED + 2
+    told = f'record {last}: unknown word\npie: line {last} of given, field 4 (answer): "lef"; allowed is empty\n'
+    compare(work, "2.5 million records with a fault:", ["audit", "given"], [*history[:2], "depart,7,1,lef\n"], [], (1, told))
 
 
 def limit():

@@ -1,5 +1,7 @@
 //! Files that are no trace and no history, by their first bytes.
 
+use crate::line_finder::Located;
+
 /// A property of a whole file.
 #[derive(Clone, Copy)]
 pub enum Hint {
@@ -18,9 +20,9 @@ pub enum Hint {
 }
 
 impl Hint {
-    /// Returns the property of a file with these first bytes, if it is certain.
-    pub(crate) fn of(first: [u8; 4]) -> Option<Hint> {
-        match first {
+    /// Returns the property of a file in which the first record was searched, if it is certain.
+    pub(crate) fn of(located: &Located) -> Option<Hint> {
+        match located.head {
             [0x1f, 0x8b, _, _] => Some(Hint::Gzip),
             [0xa1, 0xb2, 0xc3, 0xd4]
             | [0xd4, 0xc3, 0xb2, 0xa1]
@@ -29,6 +31,8 @@ impl Hint {
             | [0x0a, 0x0d, 0x0d, 0x0a] => Some(Hint::Capture),
             [0xff, 0xfe, _, _] | [0xfe, 0xff, _, _] => Some(Hint::Utf16),
             [b'q', b'i', b'd', b','] => Some(Hint::Steps),
+            _ if located.is_empty => Some(Hint::Empty),
+            _ if located.line.is_none() => Some(Hint::NoRecord),
             _ => None,
         }
     }

@@ -1,31 +1,28 @@
 //! The cause of a text's fault (this project's own): the line and the field of the file, and what is allowed there.
 //!
-//! `find_cause` reads a text again, up to the record of its fault. Its clause `line` states the line in which the record begins, by csv's definition
-//! of a record. Its clause `reason` states the reason, by `IsReasonAt` over the records of the text: for an unknown kind, a number of fields, a number,
-//! a keyword and an opening exactly the field, its content and what is allowed there; for a preamble that is not accepted the content of the field,
-//! which is in no permitted range. Tests cover which field of a preamble is named, and the hints about whole files. `refused_field` returns the first field after a record's kind, from left
-//! to right, that the record's form does not accept; its clause `fault` relates the field to the fault that pie_record reports.
+//! `find_cause` reads a text again, up to the record of its fault. One walk over the table of records (src/table.rt)
+//! finds its problem: a kind, a number of fields, or the first field that is not allowed. If the table allows the
+//! record, src/bounds.rt finds the first number that another number bounds. `write_cause` writes the lines that
+//! describe the cause.
 //!
-//! `write_cause` writes exactly the text of `cause_words` (specs/Message.antt). The names of fields are `field_name`.
+//! Both are proved safe and total. tests/program/damaged_texts.py compares their lines with those of an independent
+//! reader, and tests/documents/records.py compares the table with docs/FORMATS.md.
 #![tactic(auto)]
 
-mod allowed;
+mod bounds;
 mod cause;
-mod excerpt;
 mod field;
-mod fields;
-mod first_record;
-mod head_reader;
 mod hint;
+mod keywords;
 mod line_finder;
 mod message;
-mod permitted;
 mod queue;
 mod quoted;
-mod refused;
-mod statistics;
+mod table;
 mod text;
+mod walk;
 
-pub use cause::{Cause, FieldCause, find_cause};
+pub use cause::{Cause, find_cause};
 pub use message::write_cause;
+pub use table::{queued_field_name, resume_field_name};
 pub use text::TextKind;

@@ -1,42 +1,86 @@
 //! The queue of an excerpt's preamble, as far as its records were read.
-ghost use Rattle.std.specs.Prelude.{◌≡◌};
-ghost use Rattle.pie_diagnosis.specs.{number_in};
 
+use crate::bounds::Numbers;
+use crate::field::Allowed;
+use crate::table::Shape;
+use crate::text::{Place, TextKind};
+use crate::walk::{Problem, problem_of, shape_of};
 use pie_record::Record;
-use pie_record::field::number_at;
+use pie_record::field::has_word;
 
-/// The sums of the `queued` records that were read.
+/// The packets that a `resume` record announces, and the sums of the `queued` records that were read.
 #[derive(Clone, Copy)]
-pub(crate) struct QueueRead {
-    /// The number of packets.
-    pub(crate) packets: u64,
-    /// The sum of their sizes in bytes.
-    pub(crate) bytes: u64,
-    /// The effective moment at which the last of them arrived.
-    pub(crate) newest: u64,
+pub(crate) struct Queue {
+    announced_packets: u128,
+    announced_bytes: u128,
+    moment: u128,
+    packets: u128,
+    bytes: u128,
+    newest: u128,
 }
 
-impl QueueRead {
-    /// Returns the queue before the first packet.
-    pub(crate) fn new() -> QueueRead {
-        QueueRead {
+impl Queue {
+    /// Returns the queue after the first record of a text. Only an excerpt announces packets.
+    pub(crate) fn after(first: &Record) -> Queue {
+        let mut queue = Queue {
+            announced_packets: 0,
+            announced_bytes: 0,
+            moment: 0,
             packets: 0,
             bytes: 0,
             newest: 0,
+        };
+        match shape_of(Place::First(TextKind::History), first) {
+            Ok(shape) if has_word(first, 0, b"resume") => {
+                let mut numbers = Numbers::new(first, shape);
+                numbers.go_to("count");
+                queue.announced_packets = numbers.number("packets");
+                queue.announced_bytes = numbers.number("bytes");
+                queue.moment = numbers.number("moment");
+            }
+            _ => {}
         }
+        queue
+    }
+
+    /// Returns true if further packets are announced.
+    pub(crate) fn is_open(&self) -> bool {
+        self.packets < self.announced_packets
     }
 
     /// Adds the packet of a `queued` record.
     pub(crate) fn add(&mut self, row: &Record) {
-        self.packets = self.packets.saturating_add(1);
-        self.bytes = self.bytes.saturating_add(number_in(row, 2));
-        self.newest = number_in(row, 4);
+        if let Ok(shape) = shape_of(Place::Preamble, row) {
+            let numbers = Numbers::new(row, shape);
+            self.packets = self.packets.saturating_add(1);
+            self.bytes = self.bytes.saturating_add(numbers.number("size"));
+            self.newest = numbers.number("since");
+        }
     }
-}
 
-/// Returns the number in the field at `place`, or 0 if the field is no number of 64 bits.
-pub(crate) fn number_in(row: &Record, place: usize) -> u64
-    ensures { result ≡ number_in row.now place }
-{
-    number_at(row, place, u64::MAX).unwrap_or(0)
+    /// Returns the problem of a record that is not of the next packet in the queue.
+    pub(crate) fn problem_of_next(&self, row: &Record) -> Option<Problem> {
+        if let Some(problem) = problem_of(Place::Preamble, row) {
+            return Some(problem);
+        }
+        let mut numbers = Numbers::new(row, shape_of(Place::Preamble, row).ok()?);
+        let left = self.announced_bytes.saturating_sub(self.bytes);
+        numbers.range("size", 1, 65535);
+        if left == 0 {
+            numbers.allow("size", Allowed::NoPacket);
+        } else {
+            numbers.range("size", 1, left);
+        }
+        numbers.range("since", self.newest, self.moment);
+        numbers.problem
+    }
+
+    /// Returns the problem of a `resume` record that announces more than the `queued` records contain.
+    pub(crate) fn problem_of_end(&self, first: &Record, shape: Shape) -> Option<Problem> {
+        let mut numbers = Numbers::new(first, shape);
+        numbers.go_to("count");
+        numbers.only("packets", self.packets);
+        numbers.only("bytes", self.bytes);
+        numbers.problem
+    }
 }

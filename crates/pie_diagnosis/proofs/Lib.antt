@@ -1,5 +1,0 @@
-mod Examples
-mod FaultFacts
-pub mod LineFacts
-pub mod RefusedFacts
-pub mod RowFacts

@@ -1,0 +1,295 @@
+//! The bounds that connect numbers of openings and of preambles (docs/FORMATS.md, "Checks of a preamble").
+//!
+//! The bounds are in the order in which readers check them, so the first violated one is the cause of the fault.
+
+use crate::field::Allowed;
+use crate::table::Shape;
+use crate::walk::Problem;
+use pie_record::Record;
+use pie_record::field::{has_word, is_kind, long_number_at};
+use pie_record::words::Kind;
+
+/// The greatest moment, in nanoseconds.
+const MAX_MOMENT: u128 = (1 << 60) - 1;
+
+/// The ranges of the parameters before `dq_threshold`.
+const PARAMETERS: [(&str, u128, u128); 8] = [
+    ("target", 2, 10_000_000_000),
+    ("t_update", 1, 10_000_000_000),
+    ("max_burst", 0, 1_000_000_000_000),
+    ("alpha", 0, 1_000_000),
+    ("beta", 0, 1_000_000),
+    ("mean_pkt", 1, 65535),
+    ("limit_bytes", 1, 1 << 30),
+    ("mark_ecnth", 0, 1_000_000_000_000),
+];
+
+/// The statistics that count events, and the most that each of them is for one event.
+const COUNTS: [(&str, u128); 13] = [
+    ("arrivals", 1),
+    ("enqueued", 1),
+    ("marked", 1),
+    ("early", 1),
+    ("over_bytes", 1),
+    ("over_packets", 1),
+    ("left", 1),
+    ("left_bytes", 65535),
+    ("empty", 1),
+    ("updates", 1),
+    ("resets", 1),
+    ("changes", 1),
+    ("waited", 1 << 60),
+];
+
+/// The values of an excerpt's opening that bound its state.
+#[derive(Clone, Copy)]
+struct Opened {
+    moment: u128,
+    packets: u128,
+    events: u128,
+    is_always_active: bool,
+    is_stamp: bool,
+    is_random: bool,
+}
+
+/// The numbers of a record by their names, and the first of them that is out of its bounds.
+#[derive(Clone, Copy)]
+pub(crate) struct Numbers<'a> {
+    row: &'a Record,
+    shape: Shape,
+    /// The place from which on a name is searched.
+    from: usize,
+    /// The first number that is out of its bounds.
+    pub(crate) problem: Option<Problem>,
+}
+
+impl<'a> Numbers<'a> {
+    /// Begins before the first field.
+    pub(crate) fn new(row: &'a Record, shape: Shape) -> Numbers<'a> {
+        Numbers {
+            row,
+            shape,
+            from: 1,
+            problem: None,
+        }
+    }
+
+    /// Returns the first place with this name.
+    fn place(&self, name: &str) -> Option<usize> {
+        for place in self.from..self.row.len() {
+            if self.shape.field(place)?.name() == name {
+                return Some(place);
+            }
+        }
+        None
+    }
+
+    /// Searches further names from the first place with this name on.
+    pub(crate) fn go_to(&mut self, name: &str) {
+        if let Some(place) = self.place(name) {
+            self.from = place;
+        }
+    }
+
+    /// Returns the number of this name; 0 if the record has none.
+    pub(crate) fn number(&self, name: &str) -> u128 {
+        match self.place(name) {
+            Some(place) => long_number_at(self.row, place, u128::MAX).unwrap_or(0),
+            None => 0,
+        }
+    }
+
+    /// Returns the sum of the numbers of these names.
+    fn sum(&self, names: &[&str]) -> u128 {
+        let mut sum: u128 = 0;
+        for number in 0..names.len() {
+            sum = sum.saturating_add(self.number(names[number]));
+        }
+        sum
+    }
+
+    /// Returns true if the field of this name is this keyword.
+    fn is(&self, name: &str, word: &[u8]) -> bool {
+        match self.place(name) {
+            Some(place) => has_word(self.row, place, word),
+            None => false,
+        }
+    }
+
+    /// Allows these contents in the field of this name, if the record has one.
+    pub(crate) fn allow(&mut self, name: &'static str, allowed: Allowed) {
+        match self.place(name) {
+            Some(place) if self.problem.is_none() && !allowed.accepts(self.row, place) => {
+                self.problem = Some(Problem::of_field(self.row, place, name, allowed));
+            }
+            _ => {}
+        }
+    }
+
+    /// Allows the numbers from `least` to `most` in the field of this name.
+    pub(crate) fn range(&mut self, name: &'static str, least: u128, most: u128) {
+        self.allow(name, Allowed::Range { least, most });
+    }
+
+    /// Allows the numbers up to `most`.
+    fn up_to(&mut self, name: &'static str, most: u128) {
+        self.range(name, 0, most);
+    }
+
+    /// Allows one number.
+    pub(crate) fn only(&mut self, name: &'static str, number: u128) {
+        self.range(name, number, number);
+    }
+
+    /// Checks the nine parameters.
+    fn check_parameters(&mut self) {
+        for number in 0..PARAMETERS.len() {
+            let (name, least, most) = PARAMETERS[number];
+            self.range(name, least, most);
+        }
+        self.allow("dq_threshold", Allowed::Thresholds);
+    }
+
+    /// Checks an opening, which allows greater limits in version three.
+    pub(crate) fn check_opening(&mut self, is_of_version_three: bool) {
+        let (packets, events) = if is_of_version_three {
+            (1 << 20, 1 << 47)
+        } else {
+            (65536, 1 << 40)
+        };
+        self.check_parameters();
+        self.range("packets", 1, packets);
+        self.range("tail", 1, 1 << 20);
+        self.range("events", 1, events);
+        self.up_to("moment", MAX_MOMENT);
+    }
+
+    /// Checks a `resume` record.
+    pub(crate) fn check_resume(&mut self) {
+        let opened = Opened {
+            moment: self.number("moment"),
+            packets: self.number("packets"),
+            events: self.number("events"),
+            is_always_active: self.is("profile", b"1"),
+            is_stamp: self.is("delay", b"stamp"),
+            is_random: self.is("picking", b"random"),
+        };
+        self.check_placed(opened);
+        self.check_opening(true);
+        self.go_to("dq_threshold");
+        let in_force = self.from.saturating_add(1);
+        self.go_to("count");
+        self.up_to("count", opened.events);
+        self.up_to("packets", opened.packets);
+        self.up_to("bytes", 1 << 30);
+        let state = self.from;
+        self.from = in_force;
+        self.check_parameters();
+        let threshold = self.number("dq_threshold");
+        self.from = state;
+        self.check_registers(opened, threshold);
+        self.check_counts();
+        self.check_sums();
+        self.check_values();
+        self.check_elements(opened);
+    }
+
+    /// Checks the two fields that other fields of the record bound when it is read.
+    fn check_placed(&mut self, opened: Opened) {
+        let first = self.from;
+        self.go_to("count");
+        let count = self.number("count");
+        let is_early = self.number("moment") < opened.moment;
+        if !self.is("set_by", b"") {
+            self.up_to("set_by", count);
+        }
+        if is_early && opened.moment <= MAX_MOMENT {
+            self.range("moment", opened.moment, MAX_MOMENT);
+        }
+        self.from = first;
+        if is_early {
+            self.up_to("moment", MAX_MOMENT);
+        }
+    }
+
+    /// Checks that a controller can have each number of the state.
+    fn check_registers(&mut self, opened: Opened, threshold: u128) {
+        let moment = self.number("moment");
+        self.up_to("moment", MAX_MOMENT);
+        self.up_to("prob", 1_000_000_000_000);
+        self.up_to("old", 1 << 40);
+        self.up_to("accu", 8_499_999_999_999);
+        self.up_to("burst", 1_000_000_000_000);
+        self.up_to("last", moment);
+        self.up_to("average", MAX_MOMENT);
+        self.up_to("start", moment);
+        self.up_to("counted", threshold.saturating_sub(1));
+        self.up_to("last_wait", 1 << 40);
+        if opened.is_always_active {
+            self.only("active", 1);
+        }
+    }
+
+    /// Checks that each statistic is possible for the number of events.
+    fn check_counts(&mut self) {
+        let count = self.number("count");
+        for number in 0..COUNTS.len() {
+            let (name, most) = COUNTS[number];
+            self.up_to(name, count.saturating_mul(most));
+        }
+    }
+
+    /// Checks the numbers that are sums of others.
+    fn check_sums(&mut self) {
+        let events = self.sum(&["arrivals", "left", "empty", "updates", "resets", "changes"]);
+        let queued = self.sum(&["enqueued", "marked"]);
+        let dropped = self.sum(&["early", "over_bytes", "over_packets"]);
+        self.only("count", events);
+        self.only("arrivals", queued.saturating_add(dropped));
+        self.up_to("left", queued);
+        let waiting = queued.saturating_sub(self.number("left"));
+        self.only("packets", waiting);
+    }
+
+    /// Checks the greatest values and the waits.
+    fn check_values(&mut self) {
+        let most = u128::from(u64::MAX);
+        let (bytes, delay, waited) = (
+            self.number("bytes"),
+            self.number("old"),
+            self.number("waited"),
+        );
+        let waits = self.number("left").saturating_mul(self.number("moment"));
+        self.range("largest_queue", bytes, most);
+        self.range("largest_delay", delay, most);
+        self.up_to("last_wait", waited);
+        self.up_to("waited", waits);
+    }
+
+    /// Checks the numbers that are 0 without an update or with these elements.
+    fn check_elements(&mut self, opened: Opened) {
+        if self.number("updates") == 0 {
+            self.only("prob", 0);
+        }
+        if opened.is_stamp {
+            self.only("average", 0);
+            self.only("measuring", 0);
+        } else {
+            self.only("last_wait", 0);
+        }
+        if opened.is_random {
+            self.only("accu", 0);
+        }
+    }
+}
+
+/// Returns the first number of a first record that is out of its bounds.
+pub(crate) fn bound_problem(row: &Record, shape: Shape) -> Option<Problem> {
+    let mut numbers = Numbers::new(row, shape);
+    if has_word(row, 0, b"resume") {
+        numbers.check_resume();
+    } else {
+        numbers.check_opening(is_kind(row, Kind::Open3));
+    }
+    numbers.problem
+}

@@ -86,11 +86,16 @@ def differences(lines, packets):
     return different
 
 
-def extcap(history, out, *words, using=PROGRAM):
-    """Captures a history to its end. Returns the status and standard error."""
+def extcap_to(out, history, *words, using=PROGRAM):
+    """Captures a history to its end in a new file. Returns the status and standard error."""
     every = [EXTCAP, "--capture", "--extcap-interface", "pie", "--extcap-version=4.0", "--fifo", out, "--history", history, "--once", "--pie", using]
     done = subprocess.run([*every, *words], capture_output=True, text=True, check=False)
     return done.returncode, done.stderr
+
+
+def extcap(history, out, *words, using=PROGRAM):
+    """Captures a history to its end in a file that may exist. Returns the status and standard error."""
+    return extcap_to(out, history, "--force", *words, using=using)
 
 
 def read(out):
@@ -222,6 +227,16 @@ def hold_faults(folder):
                         ([history, out, "--every"], "unrecognized arguments: --every; --help tells more")):
         done = extcap(*words)
         check(done == (1, f"pie-extcap: {says}\n"), done)
+    # without --force no file is replaced; a pipe, a device and a new file are written
+    kept, link, new = folder / "capture", folder / "dangling", folder / "new"
+    kept.write_text("a capture")
+    link.symlink_to(folder / "missing")
+    for to in (kept, link):
+        done = extcap_to(to, history)
+        check(done == (1, f"pie-extcap: {to}: the file exists; --force replaces it\n"), f"{to}: {done}")
+    check(kept.read_text() == "a capture" and not (folder / "missing").exists(), "a capture was overwritten")
+    check(extcap_to(new, history) == (0, "") and extcap_to("/dev/null", history) == (0, ""), "a new file and a device are outputs")
+    check(extcap(history, kept) == (0, "") and kept.read_bytes() == new.read_bytes(), "--force replaces a file")
     # an output never replaces an input
     kept = folder / "kept"
     kept.write_text(text)

@@ -1,25 +1,18 @@
--- `pie advise`: the link that its options describe, and its end.
-use Rattle.std.specs.Prelude.{ℕ, ◌≡◌, ◌==◌, List, [], Bool, Option, Some, None, Result, Ok, Err, codes, if◌then◌else◌, option_and_then}
-use Rattle.std.specs.Io.KnownBytes.{Appends}
+-- `pie advise`: the link that its options describe.
+use Rattle.std.specs.Prelude.{ℕ, ◌==◌, List, Bool, Option, Some, None, Result, Ok, Err, codes, if◌then◌else◌, option_and_then}
 use Rattle.std.specs.Result.{result_ok}
 use Rattle.clap.specs.Words.{Row, Text, first_of}
-use Rattle.pie_advise.specs.Advice.{IsAdvice, opening_for_link, tuning_for}
 use Rattle.pie_advise.specs.Request.{range_in}
 use Rattle.pie_advise.specs.declared.request.Range.{Range}
 use Rattle.pie_advise.specs.declared.request.Request.{Request}
-use Rattle.pie_params.specs.Params.{IsInRange}
-use Rattle.pie_record.specs.declared.fault.TraceFault.TheVariants as trace_fault
 use Rattle.pie_units.specs.Number.{rate_of}
-use Rattle.pie_units.specs.Opening.{overhead_of, params_for}
+use Rattle.pie_units.specs.Opening.{overhead_of}
 use Rattle.pie_units.specs.declared.layer.Overhead.{Overhead}
 use Rattle.pie_units.specs.declared.layer.Overhead.TheVariants.{Added}
 use Rattle.pie_units.specs.declared.unit.Quantity.{Quantity}
 use Rattle.pie_units.specs.declared.unit.Quantity.TheVariants.{Packets, Time}
-use Rattle.pie_commands.specs.Ends.{WritesNothing}
 use Rattle.pie_commands.specs.Tuning.{given_or}
-use Rattle.pie_commands.specs.Words.{flag_given}
-use Rattle.pie_commands.specs.declared.end.End.{End}
-use Rattle.pie_commands.specs.declared.end.End.TheVariants.{Done, Differs, Fault, Unopened, CannotStart, NoOutputFile, Failed}
+use Rattle.pie_commands.specs.Values.{flag_given}
 
 -- the rate of the options
 abbrev pub rate_given : List Row → Option ℕ
@@ -48,26 +41,3 @@ abbrev pub request_in : List Row → Option Request
 request_in options =
     request_with (rate_given options) (range_given (codes "rtt") Time options) (range_given (codes "flows") Packets options) (overhead_given options)
     (flag_given (codes "ecn") options)
-
--- the advice about the link was written, and the parameters are in their ranges
-pub record WritesAdvice (request : Request) (before now : Option (List ℕ)) : Type 0 where
-  pub in_range : IsInRange (params_for (tuning_for request))
-  pub text : List ℕ
-  pub advice : IsAdvice request (opening_for_link request) [] text
-  pub written : Appends before now text
-
--- the end of an advice about a link: it was written; or the writer failed; or there was no memory and nothing was
--- written; or a parameter is out of its range and nothing was written
-abbrev pub advises : Option Request → End → Option (List ℕ) → Option (List ℕ) → Type 0
-advises None end before now = WritesNothing end before now
-advises (Some request) Done before now = WritesAdvice request before now
-advises (Some request) Differs before now = ⊥
-advises (Some request) (Fault why) before now = why ≡ trace_fault.Write
-advises (Some request) Unopened before now = ⊥
-advises (Some request) CannotStart before now = now ≡ before
-advises (Some request) NoOutputFile before now = ⊥
-advises (Some request) Failed before now = (now ≡ before) × (IsInRange (params_for (tuning_for request)) → ⊥)
-
--- the end of `pie advise`; if the options describe no link, nothing is written
-abbrev pub EndsAdvise : List Row → End → Option (List ℕ) → Option (List ℕ) → Type 0
-EndsAdvise options = advises (request_in options)

@@ -1,20 +1,17 @@
 -- The two kinds of texts that an audit and an explanation read, and their recognition by the first bytes.
-use Rattle.std.specs.Prelude.{ℕ, ◌≡◌, ◌∷◌, Bool, true, false, List, [], Option, Some, None, Result, Ok, Err, IfSome, codes, take}
+use Rattle.std.specs.Prelude.{ℕ, ◌≡◌, ◌∷◌, ◌++◌, Bool, List, [], Option, Some, None, Result, Ok, Err, IfSome, codes, take}
+use Rattle.std.specs.Io.Chain.{chain_remaining}
 use Rattle.std.specs.Io.KnownBytes.{Consumes, Keeps, prepend_known}
 use Rattle.std.specs.Str.{bytes_eq}
 use Rattle.std.specs.declared.io.Error.{Error}
+use Rattle.std.specs.declared.io.traits.Chain.{Chain}
+use Rattle.pie_commands.specs.declared.head.Head.{Head}
+use Rattle.pie_commands.specs.declared.progress.ProgressReader.{ProgressReader}
 
 -- true if a text is one of recorded steps of Linux's `pie` and `fq_pie`, as `pie-watch` writes it: its first row begins
 -- with the column `qid`
 abbrev pub is_linux_text : List ℕ → Bool
 is_linux_text text = bytes_eq (take 4 text) (codes "qid,")
-
--- the text is a history or an excerpt, or has the fault of one; below, it is one of recorded steps
-abbrev pub IsHistory : Option (List ℕ) → Type 0
-IsHistory known = IfSome known (λ text. is_linux_text text ≡ false)
-
-abbrev pub IsLinux : Option (List ℕ) → Type 0
-IsLinux known = IfSome known (λ text. is_linux_text text ≡ true)
 
 -- ---- the first bytes
 
@@ -27,3 +24,19 @@ TakesByte before (Err why) after = Keeps before after
 -- these bytes, and then those that remain, are the text
 abbrev pub IsAhead : Option (List ℕ) → List ℕ → Option (List ℕ) → Type 0
 IsAhead before bytes after = IfSome before (λ text. prepend_known bytes after ≡ Some text)
+
+-- the bytes that were read to recognize a text
+abbrev pub with_other : List ℕ → Option ℕ → List ℕ
+with_other first None = first
+with_other first (Some byte) = first ++ byte ∷ []
+
+abbrev pub head_bytes : Head → List ℕ
+head_bytes head = with_other head.header.now head.other
+
+-- the inner reader, after the bytes that were read to recognize the text
+abbrev pub inner_of : {R W C : Type 0} → ProgressReader R W C → Chain Head R
+inner_of watched = watched.inner
+
+-- the bytes that the reader will return, if they are known
+abbrev pub remaining_of : {R W C : Type 0} → (R → Option (List ℕ)) → ProgressReader R W C → Option (List ℕ)
+remaining_of remaining watched = chain_remaining (λ head. Some (head_bytes head)) remaining watched.inner

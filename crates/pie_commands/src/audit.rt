@@ -1,17 +1,4 @@
 //! `pie audit`: of one text, or of files, each in turn; with `--joined` of the files of one history, in its order.
-ghost use Rattle.std.specs.Prelude.{◌≡◌, ◌<◌, ◌||◌, [], Err, IfErr, IfOk, IfSome, None, Ok, OnErr, OnOk, false, get_or, length, map, true, ⊤};
-ghost use Rattle.std.specs.Io.KnownBytes.{Appends};
-ghost use Rattle.clap.specs.Words.{found_of, rows_of};
-ghost use Rattle.pie_audit.specs.Text.{Finds};
-ghost use Rattle.pie_commands.specs.AuditJson.{json_line};
-ghost use Rattle.pie_commands.specs.Ends.{EndsInputAudit, WritesFinding, end_found};
-ghost use Rattle.pie_commands.specs.FileAudits.{EndsAudit, EndsFileAudits, FindsJoined, HasReadOutcome, HasTextOutcome, IsFoundEnd, is_broken, line_of_joint, lines_of, named_line, worst, written_lines};
-ghost use Rattle.pie_commands.specs.Files.{CanOpen, ReadsNamed, left_for};
-ghost use Rattle.pie_commands.specs.Subcommands.{EndsAs};
-ghost use Rattle.pie_commands.specs.declared.audit.Unaudited.{Unaudited};
-ghost use Rattle.pie_commands.specs.declared.options.subcommand.Subcommand.{Subcommand};
-ghost use Rattle.pie_cut.specs.declared.joint_audit.Joined.{Joined};
-ghost use Rattle.pie_record.specs.Text.{records_of};
 
 use crate::audit_json::put_object;
 use crate::difference::{EventTexts, event_texts, report_difference};
@@ -34,9 +21,7 @@ use std::io::{Read, Write};
 use std::time::Clock;
 
 /// Returns the end of an audit with this finding.
-fn end_of(found: Finding) -> End
-    ensures { result ≡ end_found found }
-{
+fn end_of(found: Finding) -> End {
     match found {
         Finding::Clean { .. } => End::Done,
         Finding::Differs { .. } => End::Differs,
@@ -49,9 +34,7 @@ fn report_end<W: Write, E: Write>(
     found: Result<Finding, TraceFault>,
     output: &mut W,
     errors: &mut E,
-) -> End
-    ensures { WritesFinding found result (W.contents output.old) (W.contents output.new) }
-{
+) -> End {
     match found {
         Ok(found) => match write_finding(found, output) {
             Ok(()) => end_of(found),
@@ -93,12 +76,7 @@ fn found_in<R: Read + Drop>(
     reader: R,
     end: &mut Option<TextEnd>,
     unlike: &mut Option<UnlikeRecords>,
-) -> Result<Joined, TraceFault>
-    ensures finds { IfOk result (λ joined. IfSome (R.remaining reader) (λ text. FindsJoined are_joined (records_of text) end.old joined end.new)) }
-    ensures end { IfOk result (λ joined. IsFoundEnd are_joined joined end.new) }
-    ensures fault { IfSome (R.remaining reader) (λ text. IfErr result (λ why. Finds (records_of text) (Err why))) }
-    ensures none { OnErr result (are_joined ≡ true → end.new ≡ None) }
-{
+) -> Result<Joined, TraceFault> {
     if are_joined {
         return audit_joined(alloc, reader, end, unlike);
     }
@@ -118,9 +96,7 @@ fn report_unaudited<H: NamedFiles, E: Write>(
     name: &str,
     why: TraceFault,
     errors: &mut E,
-) -> Unaudited
-    ensures { result ≡ Unaudited.Faulty why }
-{
+) -> Unaudited {
     named_fault(errors, name, why);
     if name != "-" {
         report_cause(rt, alloc, AUDIT, why, name, errors);
@@ -135,9 +111,7 @@ fn found_in_steps<R: Read + Drop>(
     are_joined: bool,
     reader: R,
     steps: &mut Option<StepsFinding>,
-) -> Result<Joined, Option<StepsFault>>
-    ensures { IfOk result (λ joined. (are_joined ≡ false) × (joined.joint ≡ None)) }
-{
+) -> Result<Joined, Option<StepsFault>> {
     if are_joined {
         return Err(None);
     }
@@ -159,9 +133,7 @@ fn report_unaudited_steps<E: Write>(
     name: &str,
     why: Option<StepsFault>,
     errors: &mut E,
-) -> Unaudited
-    ensures { result ≡ Unaudited.Unopened → ⊥ }
-{
+) -> Unaudited {
     let Some(why) = why else {
         named_fault(errors, name, NOT_JOINED);
         return Unaudited::Unfit;
@@ -185,9 +157,7 @@ fn audit_opened<H: NamedFiles + Clock, R: Read + Drop, E: Write>(
     end: &mut Option<TextEnd>,
     details: &mut Details,
     errors: &mut E,
-) -> Result<Joined, Unaudited>
-    ensures { HasTextOutcome are_joined ⊤ (R.remaining reader) end.old result end.new }
-{
+) -> Result<Joined, Unaudited> {
     let (watched, kind) = ProgressReader::recognizing(reader, &mut *errors, rt, is_shown);
     match kind {
         Ok(false) => match found_in(alloc, are_joined, watched, end, &mut details.unlike) {
@@ -222,11 +192,7 @@ fn audit_named<H: NamedFiles + Clock, R: Read + Drop, E: Write>(
     end: &mut Option<TextEnd>,
     details: &mut Details,
     errors: &mut E,
-) -> Result<Joined, Unaudited>
-    ensures writes_line { HasReadOutcome are_joined ((H.works ≡ true) × CanOpen input.old (H.holds rt.now name.now) name.now)
-        (ReadsNamed R.remaining input.old (H.holds rt.now) name.now) end.old result end.new }
-    ensures input { input.new ≡ left_for name.now input.old }
-{
+) -> Result<Joined, Unaudited> {
     details.steps = None;
     details.unlike = None;
     let Some(reader) = reader_named(rt, name, input, errors) else {
@@ -239,9 +205,7 @@ fn audit_named<H: NamedFiles + Clock, R: Read + Drop, E: Write>(
 }
 
 /// Writes the line of a finding, behind the name of its file.
-fn put_finding<W: Write>(name: &str, found: Finding, output: &mut W) -> io::Result<()>
-    ensures { OnOk result (Appends (W.contents output.old) (W.contents output.new) (named_line name.now found)) }
-{
+fn put_finding<W: Write>(name: &str, found: Finding, output: &mut W) -> io::Result<()> {
     match found {
         Finding::Clean { events } => writeln!(output, "{name}: clean,{events}"),
         Finding::Differs { event } => writeln!(output, "{name}: differs,{event}"),
@@ -249,9 +213,7 @@ fn put_finding<W: Write>(name: &str, found: Finding, output: &mut W) -> io::Resu
 }
 
 /// Writes the line of a joint, if there is one, after the name of the second of the two files.
-fn put_joint<W: Write>(name: &str, joint: Option<Joint>, output: &mut W) -> io::Result<()>
-    ensures { OnOk result (Appends (W.contents output.old) (W.contents output.new) (line_of_joint name.now joint)) }
-{
+fn put_joint<W: Write>(name: &str, joint: Option<Joint>, output: &mut W) -> io::Result<()> {
     match joint {
         None => Ok(()),
         Some(Joint::Follows) => writeln!(output, "{name}: follows"),
@@ -261,9 +223,7 @@ fn put_joint<W: Write>(name: &str, joint: Option<Joint>, output: &mut W) -> io::
 }
 
 /// Writes the line of a file's finding and the line of its joint, and flushes the writer.
-fn write_joined<W: Write>(name: &str, joined: Joined, output: &mut W) -> io::Result<()>
-    ensures { OnOk result (Appends (W.contents output.old) (W.contents output.new) (lines_of name.now (Ok joined))) }
-{
+fn write_joined<W: Write>(name: &str, joined: Joined, output: &mut W) -> io::Result<()> {
     put_finding(name, joined.finding, output)?;
     put_joint(name, joined.joint, output)?;
     output.flush()
@@ -276,9 +236,7 @@ fn write_object<W: Write>(
     recorded: &[u8],
     right: &[u8],
     output: &mut W,
-) -> io::Result<()>
-    ensures { OnOk result (Appends (W.contents output.old) (W.contents output.new) (json_line name.now joined (recorded.now, right.now))) }
-{
+) -> io::Result<()> {
     put_object(name, joined, recorded, right, output)?;
     output.flush()
 }
@@ -291,11 +249,7 @@ fn write_outcome<W: Write>(
     recorded: &[u8],
     right: &[u8],
     output: &mut W,
-) -> io::Result<()>
-    ensures written { OnOk result (Appends (W.contents output.old) (W.contents output.new)
-        (written_lines is_json name.now outcome (recorded.now, right.now))) }
-    ensures audited { IfErr result (λ _. (joined : Joined) × (outcome ≡ Ok joined)) }
-{
+) -> io::Result<()> {
     match outcome {
         Ok(joined) => {
             if is_json {
@@ -349,9 +303,7 @@ fn report_outcome<H: NamedFiles, E: Write>(
 }
 
 /// Returns true if an event of the file differs, or if the file does not continue at the end of the file before it.
-fn is_broken(outcome: Result<Joined, Unaudited>) -> bool
-    ensures { result ≡ is_broken outcome }
-{
+fn is_broken(outcome: Result<Joined, Unaudited>) -> bool {
     match outcome {
         Err(_) => false,
         Ok(joined) => match joined.finding {
@@ -365,22 +317,12 @@ fn is_broken(outcome: Result<Joined, Unaudited>) -> bool
 }
 
 /// Returns the worst end: `unfound` is true if a file could not be audited, `different` if an event or a joint differs.
-fn worst(unfound: bool, different: bool) -> End
-    ensures { result ≡ worst unfound different }
-{
+fn worst(unfound: bool, different: bool) -> End {
     match (unfound, different) {
         (true, _) => End::Failed,
         (false, true) => End::Differs,
         (false, false) => End::Done,
     }
-}
-
-/// Returns the name at this place.
-fn name_at<'a>(names: &[&'a str], place: usize) -> &'a str
-    requires { place < length names.now }
-    ensures { result.now ≡ get_or (map (λ name. name.now) names.now) place [] }
-{
-    names[place]
 }
 
 /// Audits each file in turn and writes its finding. If they `are_joined`, also writes the joint of the file with the file
@@ -397,10 +339,7 @@ fn audit_files<H: NamedFiles + Clock, R: Read + Drop, W: Write, E: Write>(
     input: R,
     output: &mut W,
     errors: &mut E,
-) -> End
-    ensures { EndsFileAudits H.works are_joined is_json (R.remaining input) (H.holds rt.now) (map (λ name. name.now) names.now) result (W.contents output.old)
-        (W.contents output.new) }
-{
+) -> End {
     let mut stdin = Some(input);
     let mut end: Option<TextEnd> = None;
     let mut details = Details {
@@ -409,8 +348,7 @@ fn audit_files<H: NamedFiles + Clock, R: Read + Drop, W: Write, E: Write>(
     };
     let mut unfound = false;
     let mut broken = false;
-    for place in 0..names.len() {
-        let name = name_at(names, place);
+    for name in names {
         let outcome = audit_named(
             rt,
             alloc,
@@ -447,9 +385,7 @@ fn audit_input<H: NamedFiles + Clock, R: Read + Drop, W: Write, E: Write>(
     input: R,
     output: &mut W,
     errors: &mut E,
-) -> End
-    ensures { EndsInputAudit (R.remaining input) result (W.contents output.old) (W.contents output.new) }
-{
+) -> End {
     // The type equals the type of a file's reader, so an audit is compiled once.
     let reader: Either<R, H::File> = Left(input);
     let (watched, kind) = ProgressReader::recognizing(reader, &mut *errors, rt, is_shown);
@@ -479,9 +415,7 @@ fn audit_alone<H: NamedFiles + Clock, R: Read + Drop, W: Write, E: Write>(
     input: R,
     output: &mut W,
     errors: &mut E,
-) -> End
-    ensures { EndsAudit H.works are_joined is_json (R.remaining input) (H.holds rt.now) [] result (W.contents output.old) (W.contents output.new) }
-{
+) -> End {
     if is_json {
         return audit_files(
             rt,
@@ -507,10 +441,7 @@ pub(crate) fn audit<H: NamedFiles + Screen, R: Read + Drop, W: Write, E: Write>(
     input: R,
     output: &mut W,
     errors: &mut E,
-) -> End
-    ensures { EndsAs Subcommand.Audit (rows_of (found_of options.now)) H.works (R.remaining input) (H.holds rt.now) result (W.contents output.old)
-        (W.contents output.new) }
-{
+) -> End {
     let is_shown = shows_progress(rt, options, false);
     let are_joined = flag(options, "joined");
     let is_json = flag(options, "json");

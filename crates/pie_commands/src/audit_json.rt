@@ -1,8 +1,4 @@
 //! The objects of `pie audit --json`.
-ghost use Rattle.std.specs.Prelude.{OnOk};
-ghost use Rattle.std.specs.Io.KnownBytes.{Appends};
-ghost use Rattle.pie_commands.specs.AuditJson.{clean_members, difference_members, finding_members, joint_members, json_line, members_of_joint, number_member, text_member};
-ghost use Rattle.pie_cut.specs.declared.joint_audit.Joint.{Joint};
 
 use pie_audit::Finding;
 use pie_cut::{Joined, Joint};
@@ -11,9 +7,7 @@ use std::io;
 use std::io::Write;
 
 /// Writes a member with this text, after its name. Writes nothing if the text is empty.
-fn put_text<W: Write>(name: &str, text: &[u8], output: &mut W) -> io::Result<()>
-    ensures { OnOk result (Appends (W.contents output.old) (W.contents output.new) (text_member name.now text.now)) }
-{
+fn put_text<W: Write>(name: &str, text: &[u8], output: &mut W) -> io::Result<()> {
     match text {
         [] => Ok(()),
         [_, ..] => {
@@ -24,10 +18,7 @@ fn put_text<W: Write>(name: &str, text: &[u8], output: &mut W) -> io::Result<()>
 }
 
 /// Writes a member with this number, after its name.
-#[tactic(auto, unfolding(crate::specs::AuditJson::number_member))]
-fn put_number<W: Write>(name: &str, number: u64, output: &mut W) -> io::Result<()>
-    ensures { OnOk result (Appends (W.contents output.old) (W.contents output.new) (number_member name.now number)) }
-{
+fn put_number<W: Write>(name: &str, number: u64, output: &mut W) -> io::Result<()> {
     write!(output, "{name}{number}")
 }
 
@@ -37,10 +28,7 @@ fn put_difference<W: Write>(
     recorded: &[u8],
     right: &[u8],
     output: &mut W,
-) -> io::Result<()>
-    ensures { OnOk result (Appends (W.contents output.old) (W.contents output.new)
-        (difference_members event (recorded.now, right.now))) }
-{
+) -> io::Result<()> {
     output.write_all(b",\"finding\":\"differs\"")?;
     put_number(",\"event\":", event, output)?;
     put_text(",\"recorded\":", recorded, output)?;
@@ -48,9 +36,7 @@ fn put_difference<W: Write>(
 }
 
 /// Writes the members of the finding of a clean file.
-fn put_clean<W: Write>(events: u64, output: &mut W) -> io::Result<()>
-    ensures { OnOk result (Appends (W.contents output.old) (W.contents output.new) (clean_members events)) }
-{
+fn put_clean<W: Write>(events: u64, output: &mut W) -> io::Result<()> {
     output.write_all(b",\"finding\":\"clean\"")?;
     put_number(",\"events\":", events, output)
 }
@@ -61,9 +47,7 @@ fn put_finding<W: Write>(
     recorded: &[u8],
     right: &[u8],
     output: &mut W,
-) -> io::Result<()>
-    ensures { OnOk result (Appends (W.contents output.old) (W.contents output.new) (finding_members finding (recorded.now, right.now))) }
-{
+) -> io::Result<()> {
     match finding {
         Finding::Clean { events } => put_clean(events, output),
         Finding::Differs { event } => put_difference(event, recorded, right, output),
@@ -71,26 +55,20 @@ fn put_finding<W: Write>(
 }
 
 /// Writes the members of a gap.
-fn put_gap<W: Write>(last: u64, first: u64, output: &mut W) -> io::Result<()>
-    ensures { OnOk result (Appends (W.contents output.old) (W.contents output.new) (joint_members (Joint.Gap last first))) }
-{
+fn put_gap<W: Write>(last: u64, first: u64, output: &mut W) -> io::Result<()> {
     output.write_all(b",\"joint\":\"gap\"")?;
     put_number(",\"last\":", last, output)?;
     put_number(",\"first\":", first, output)
 }
 
 /// Writes the members of a joint that is unlike.
-fn put_unlike<W: Write>(last: u64, output: &mut W) -> io::Result<()>
-    ensures { OnOk result (Appends (W.contents output.old) (W.contents output.new) (joint_members (Joint.Unlike last))) }
-{
+fn put_unlike<W: Write>(last: u64, output: &mut W) -> io::Result<()> {
     output.write_all(b",\"joint\":\"unlike\"")?;
     put_number(",\"last\":", last, output)
 }
 
 /// Writes the members of a joint, if there is one.
-fn put_joint<W: Write>(joint: Option<Joint>, output: &mut W) -> io::Result<()>
-    ensures { OnOk result (Appends (W.contents output.old) (W.contents output.new) (members_of_joint joint)) }
-{
+fn put_joint<W: Write>(joint: Option<Joint>, output: &mut W) -> io::Result<()> {
     match joint {
         None => Ok(()),
         Some(Joint::Follows) => output.write_all(b",\"joint\":\"follows\""),
@@ -107,9 +85,7 @@ pub(crate) fn put_object<W: Write>(
     recorded: &[u8],
     right: &[u8],
     output: &mut W,
-) -> io::Result<()>
-    ensures { OnOk result (Appends (W.contents output.old) (W.contents output.new) (json_line name.now joined (recorded.now, right.now))) }
-{
+) -> io::Result<()> {
     output.write_all(b"{\"file\":")?;
     write_string(output, name.as_bytes())?;
     put_finding(joined.finding, recorded, right, output)?;

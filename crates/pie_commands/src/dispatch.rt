@@ -1,9 +1,4 @@
 //! The call of a subcommand's function, whose output goes to the caller's writer or to a new file.
-ghost use Rattle.std.specs.Prelude.{◌≡◌, option_map};
-ghost use Rattle.clap.specs.Words.{found_of, rows_of};
-ghost use Rattle.pie_commands.specs.Files.{EndsWithNewFile, file_of};
-ghost use Rattle.pie_commands.specs.Words.{file_in, is_forced};
-ghost use Rattle.pie_commands.specs.Subcommands.{EndsAs, output_for};
 
 use crate::advise::advise;
 use crate::audit::audit;
@@ -39,10 +34,7 @@ pub(crate) fn dispatch<
     input: R,
     output: &mut W,
     errors: &mut E,
-) -> End
-    ensures { EndsAs subcommand (rows_of (found_of options.now)) H.works (R.remaining input) (H.holds rt.now) result (W.contents output.old)
-        (W.contents output.new) }
-{
+) -> End {
     match subcommand {
         Subcommand::Run => run(rt, alloc, options, input, output, errors),
         Subcommand::Audit => audit(rt, alloc, options, input, output, errors),
@@ -70,10 +62,7 @@ pub(crate) fn dispatch_to_file<
     name: &str,
     input: R,
     errors: &mut E,
-) -> End
-    ensures { EndsWithNewFile H.works (file_of (file_in (rows_of (found_of options.now)))) (is_forced (rows_of (found_of options.now))) name.now H.fresh
-        (H.holds rt.old) (H.holds rt.new) (EndsAs subcommand (rows_of (found_of options.now)) H.works (R.remaining input) (H.holds rt.old)) result }
-{
+) -> End {
     let is_forced = flag(options, "force");
     let Some(mut fresh) = create_output(rt, name, file(options), is_forced, errors) else {
         return End::NoOutputFile;
@@ -84,9 +73,7 @@ pub(crate) fn dispatch_to_file<
 }
 
 /// Returns the name of the file that a subcommand writes instead of the caller's writer.
-pub(crate) fn output_for<'a>(subcommand: Subcommand, options: &ArgMatches<'a>) -> Option<&'a str>
-    ensures { option_map (λ name. name.now) result ≡ output_for subcommand (rows_of (found_of options.now)) }
-{
+pub(crate) fn output_for<'a>(subcommand: Subcommand, options: &ArgMatches<'a>) -> Option<&'a str> {
     match subcommand {
         Subcommand::Audit | Subcommand::Storm | Subcommand::Params | Subcommand::Advise => None,
         _ => output(options),

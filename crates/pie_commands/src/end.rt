@@ -1,8 +1,4 @@
 //! The end of the program, its exit status, and the lines on the error stream.
-ghost use Rattle.std.specs.Prelude.{◌≡◌, [], OnOk};
-ghost use Rattle.std.specs.Io.KnownBytes.{Appends};
-ghost use Rattle.pie_commands.specs.Ends.{end_report, end_status, is_unwritten};
-ghost use Rattle.pie_commands.specs.Files.{is_whole, after_output};
 
 use pie_trace::TraceFault;
 use std::fmt::Display;
@@ -32,17 +28,13 @@ pub enum End {
 
 impl End {
     /// Returns true if the writer failed.
-    fn is_unwritten(self) -> bool
-        ensures { result ≡ is_unwritten self }
-    {
+    fn is_unwritten(self) -> bool {
         matches!(self, End::Fault(TraceFault::Write))
     }
 
     /// Returns the exit status: 0 if done, 2 if an event differs, otherwise 1. If the writer failed because its reader
     /// is gone (`is_closed`), as with `head`, it is 141, the status of a program that SIGPIPE ended in a shell.
-    pub fn status(self, is_closed: bool) -> u8
-        ensures { result ≡ end_status is_closed self }
-    {
+    pub fn status(self, is_closed: bool) -> u8 {
         match self {
             End::Done => 0,
             End::Differs => 2,
@@ -57,10 +49,7 @@ impl End {
     /// # Errors
     ///
     /// Returns the error of `errors`.
-    pub fn report<E: Write>(self, is_closed: bool, errors: &mut E) -> io::Result<()>
-        ensures line { OnOk result (Appends (E.contents errors.old) (E.contents errors.new) (end_report is_closed self)) }
-        ensures quiet { end_report is_closed self ≡ [] → E.contents errors.new ≡ E.contents errors.old }
-    {
+    pub fn report<E: Write>(self, is_closed: bool, errors: &mut E) -> io::Result<()> {
         if is_closed || !self.is_unwritten() {
             return Ok(());
         }
@@ -68,16 +57,12 @@ impl End {
     }
 
     /// Returns true if the output is complete.
-    pub(crate) fn is_whole(self) -> bool
-        ensures { result ≡ is_whole self }
-    {
+    pub(crate) fn is_whole(self) -> bool {
         matches!(self, End::Done | End::Differs)
     }
 
     /// Returns the end of a subcommand with this end. `is_there` is true if its output file has its name.
-    pub(crate) fn after_output(self, is_there: bool) -> End
-        ensures { result ≡ after_output self is_there }
-    {
+    pub(crate) fn after_output(self, is_there: bool) -> End {
         if self.is_whole() && !is_there {
             return End::NoOutputFile;
         }
@@ -87,9 +72,7 @@ impl End {
 
 /// Returns the end for a fault and writes its line to `errors`. A writer's fault has no line here: `End::report`
 /// writes it later.
-pub(crate) fn end_with_fault<E: Write>(errors: &mut E, why: TraceFault) -> End
-    ensures { result ≡ End.Fault why }
-{
+pub(crate) fn end_with_fault<E: Write>(errors: &mut E, why: TraceFault) -> End {
     let end = End::Fault(why);
     if !end.is_unwritten() {
         fault(errors, why);
@@ -98,17 +81,13 @@ pub(crate) fn end_with_fault<E: Write>(errors: &mut E, why: TraceFault) -> End
 }
 
 /// Returns the end of a subcommand that cannot begin, and writes its line to `errors`.
-pub(crate) fn end_unable<E: Write, D: Display + Drop>(errors: &mut E, text: D) -> End
-    ensures { result ≡ End.CannotStart }
-{
+pub(crate) fn end_unable<E: Write, D: Display + Drop>(errors: &mut E, text: D) -> End {
     fault(errors, text);
     End::CannotStart
 }
 
 /// Returns `Failed`, and writes its line to `errors`.
-pub(crate) fn end_failed<E: Write, D: Display + Drop>(errors: &mut E, text: D) -> End
-    ensures { result ≡ End.Failed }
-{
+pub(crate) fn end_failed<E: Write, D: Display + Drop>(errors: &mut E, text: D) -> End {
     fault(errors, text);
     End::Failed
 }

@@ -1,12 +1,7 @@
 //! `pie explain`: the choice of events by its options, and its end.
-ghost use Rattle.std.specs.Prelude.{◌≡◌, IfSome};
+ghost use Rattle.std.specs.Prelude.{◌≡◌};
 ghost use Rattle.clap.specs.Words.{found_of, rows_of};
-ghost use Rattle.pie_record.specs.Text.{records_of};
-ghost use Rattle.pie_explain.specs.TextAnswer.{ExplainsText};
-ghost use Rattle.pie_commands.specs.Subcommands.{EndsAs};
-ghost use Rattle.pie_commands.specs.declared.options.subcommand.Subcommand.{Subcommand};
-ghost use Rattle.pie_commands.specs.Explanations.{selection_of, as_json, chosen_events, every_of, is_selected, is_summary, output_kind_of, output_text, plain_kind_of, sums_kind};
-ghost use Rattle.pie_commands.specs.Explanations.{EndsExplainBy, end_of_explain};
+ghost use Rattle.pie_commands.specs.Selections.{as_json, chosen_events, every_of, is_selected, is_summary, output_kind_of, plain_kind_of, selection_of, sums_kind};
 
 use crate::difference::report_difference;
 use crate::end::{End, end_failed, fault};
@@ -113,7 +108,7 @@ fn report_unchosen<E: Write>(options: &ArgMatches<'_>, errors: &mut E) {
 
 /// Returns the selection of these options. If they are not valid together, writes a line to `errors` and returns
 /// `None`.
-#[tactic(auto, unfolding(crate::specs::Explanations::selection_of))]
+#[tactic(auto, unfolding(crate::specs::Selections::selection_of))]
 fn selection_of<E: Write>(options: &ArgMatches<'_>, errors: &mut E) -> Option<Selection>
     ensures { result ≡ selection_of (rows_of (found_of options.now)) }
 {
@@ -247,10 +242,7 @@ fn explain_with<R: Read + Drop, W: Write>(
     output: &mut W,
     selection: Selection,
     kind: OutputKind,
-) -> Result<u64, ExplainFault>
-    ensures { IfSome (R.remaining input) (λ text. ExplainsText selection (output_text kind) (records_of text) result (W.contents output.old)
-        (W.contents output.new)) }
-{
+) -> Result<u64, ExplainFault> {
     match kind {
         OutputKind::Records(each) => pie_explain::explain(alloc, input, output, selection, each),
         OutputKind::Words(each) => pie_explain::explain(alloc, input, output, selection, each),
@@ -279,9 +271,7 @@ fn report_end<H: NamedFiles, E: Write>(
     errors: &mut E,
     name: Option<&str>,
     outcome: Result<u64, ExplainFault>,
-) -> End
-    ensures { result ≡ end_of_explain outcome }
-{
+) -> End {
     match outcome {
         Ok(_) => End::Done,
         Err(ExplainFault::Trace(why)) => {
@@ -314,9 +304,7 @@ fn explain_chosen<H: NamedFiles + Screen, R: Read + Drop, W: Write, E: Write>(
     input: R,
     output: &mut W,
     errors: &mut E,
-) -> End
-    ensures { EndsExplainBy style (rows_of (found_of options.now)) (R.remaining input) result (W.contents output.old) (W.contents output.new) }
-{
+) -> End {
     let Some(selection) = selection_of(options, errors) else {
         return End::Failed;
     };
@@ -356,10 +344,7 @@ pub(crate) fn explain<H: NamedFiles + Screen, R: Read + Drop, W: Write, E: Write
     input: R,
     output: &mut W,
     errors: &mut E,
-) -> End
-    ensures { EndsAs Subcommand.Explain (rows_of (found_of options.now)) H.works (R.remaining input) (H.holds rt.now) result (W.contents output.old)
-        (W.contents output.new) }
-{
+) -> End {
     let Some(reader) = open_input(rt, options, input, errors) else {
         return End::Unopened;
     };

@@ -1,8 +1,5 @@
 //! The lines after a fault of a named file, which describe its cause.
 
-ghost use Rattle.std.specs.Prelude.{◌≡◌};
-ghost use Rattle.pie_commands.specs.Ends.{end_of};
-
 use crate::end::{End, end_with_fault};
 use crate::files::NamedFiles;
 use pie_diagnosis::{Cause, TextKind, find_cause, write_cause};
@@ -101,9 +98,7 @@ pub(crate) fn end_with_fault_in<H: NamedFiles, E: Write>(
     errors: &mut E,
     name: Option<&str>,
     why: TraceFault,
-) -> End
-    ensures { result ≡ End.Fault why }
-{
+) -> End {
     let end = end_with_fault(errors, why);
     if let Some(name) = name {
         report_cause(rt, alloc, reading, why, name, errors);
@@ -120,9 +115,7 @@ pub(crate) fn end_with_result<H: NamedFiles, T: Copy, E: Write>(
     errors: &mut E,
     name: Option<&str>,
     outcome: Result<T, TraceFault>,
-) -> End
-    ensures { result ≡ end_of outcome }
-{
+) -> End {
     match outcome {
         Ok(_) => End::Done,
         Err(why) => end_with_fault_in(rt, alloc, reading, errors, name, why),

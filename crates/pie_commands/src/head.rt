@@ -1,7 +1,7 @@
 //! The first bytes of a text. A text of recorded steps of Linux begins with the column `qid`; no trace, history or excerpt
 //! begins so.
 ghost use Rattle.std.specs.Prelude.{◌≡◌, [], IfOk, IfSome, Some};
-ghost use Rattle.pie_commands.specs.Parts.{head_bytes};
+ghost use Rattle.pie_commands.specs.TextKinds.{head_bytes};
 ghost use Rattle.pie_commands.specs.TextKinds.{IsAhead, TakesByte, is_linux_text};
 
 use std::io;

@@ -2,9 +2,9 @@
 //! of the subcommand. Each subcommand has a file and a function of its name. `options` has the parser of the arguments,
 //! and `files` opens and creates the named files.
 //!
-//! Each subcommand returns an `End`. Contracts relate the end to the text that was read, the text that was written
-//! and the exit status. The output goes to the caller's writer, or to a file that `dispatch_to_file` creates. This file
-//! moves to the name given by `-o` once the output is complete.
+//! Each subcommand returns an `End`. Contracts state what the options select: events, pieces, parameters and plans. Texts,
+//! ends and files have tests. The output goes to the caller's writer, or to a file that `dispatch_to_file` creates. This
+//! file moves to the name given by `-o` once the output is complete.
 //!
 //! `NamedFiles` opens, creates and moves files; `HostRuntime` implements it for the system's files. `create_output`
 //! creates an output under another name beside its own, and `finish_output` moves it once the output is complete. Until

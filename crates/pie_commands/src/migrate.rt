@@ -1,7 +1,4 @@
 //! `pie migrate`: writes a history of version one in version two.
-ghost use Rattle.clap.specs.Words.{found_of, rows_of};
-ghost use Rattle.pie_commands.specs.Subcommands.{EndsAs};
-ghost use Rattle.pie_commands.specs.declared.options.subcommand.Subcommand.{Subcommand};
 
 use crate::end::End;
 use crate::fault_report::{MIGRATE, end_with_result};
@@ -21,10 +18,7 @@ pub(crate) fn migrate<H: NamedFiles + Screen, R: Read + Drop, W: Write, E: Write
     input: R,
     output: &mut W,
     errors: &mut E,
-) -> End
-    ensures { EndsAs Subcommand.Migrate (rows_of (found_of options.now)) H.works (R.remaining input) (H.holds rt.now) result (W.contents output.old)
-        (W.contents output.new) }
-{
+) -> End {
     let Some(reader) = open_input(rt, options, input, errors) else {
         return End::Unopened;
     };

@@ -1,6 +1,6 @@
 //! The parser of the command line: its subcommands and their options.
 //!
-//! `options` returns the command `pie_app` of `clap` (specs/Words.antt), or an error if memory is short. `number`,
+//! `options` returns the command of `clap`, or an error if memory is short. `number`,
 //! `flag`, `file` and the other functions of values.rt read the options that `clap` matched. `Subcommand::named`
 //! returns the subcommand of a name.
 

@@ -5,13 +5,14 @@ ghost use Rattle.pie_units.specs.Opening.{overhead_of};
 ghost use Rattle.pie_units.specs.declared.layer.Layer.{Layer};
 ghost use Rattle.pie_units.specs.declared.layer.Overhead.{Overhead};
 ghost use Rattle.pie_units.specs.declared.options.TuningOptions.{TuningOptions};
-ghost use Rattle.pie_commands.specs.Tuning.{AsksFor, AsksForLayer, EndsParams, given_or, link_layer_by, number_by};
+ghost use Rattle.pie_commands.specs.Tuning.{AsksFor, AsksForLayer, IsRequested, RefusesParams, given_or, link_layer_by, number_by};
 
-use crate::end::{End, end_failed, end_with_fault};
+use crate::end::{End, end_with_fault, fault};
 use crate::options::{flag, number, number_or, parsed, report_keyword, report_nearest, text};
 use crate::storm::decay_of;
 use clap::ArgMatches;
 use pie_book::Limits;
+use pie_event::Opening;
 use pie_params::{Params, RawParams};
 use pie_trace::TraceFault;
 use pie_units::{
@@ -186,27 +187,38 @@ fn warn<E: Write>(
     }
 }
 
+/// Returns the opening of a book with the parameters of these options. Writes warnings to `errors`. If the options request
+/// no such opening, writes a line to `errors` and returns `None`.
+fn opening_in<E: Write>(alloc: Global, options: &ArgMatches<'_>, errors: &mut E) -> Option<Opening>
+    ensures requested { IfSome result (IsRequested (rows_of (found_of options.now))) }
+    ensures none { result ≡ None → RefusesParams (rows_of (found_of options.now)) }
+{
+    let asked = tuning_in(alloc, options, errors)?;
+    let params = match Params::check(params_for(&asked)) {
+        Ok(params) => params,
+        Err(why) => {
+            fault(errors, why);
+            return None;
+        }
+    };
+    if asked.packets == 0 || u64::from(Limits::MAX_PACKETS) < asked.packets {
+        fault(errors, "--limit must be 1 to 1048576 packets");
+        return None;
+    }
+    warn(options, &asked, &params.raw(), errors);
+    Some(opening_for(asked.packets as u32, elements_for(&asked), params))
+}
+
 /// `pie params`: writes the record that opens a book with the parameters of these options.
 pub(crate) fn params<W: Write, E: Write>(
     alloc: Global,
     options: &ArgMatches<'_>,
     output: &mut W,
     errors: &mut E,
-) -> End
-    ensures { EndsParams (rows_of (found_of options.now)) result (W.contents output.old) (W.contents output.new) }
-{
-    let Some(asked) = tuning_in(alloc, options, errors) else {
+) -> End {
+    let Some(opening) = opening_in(alloc, options, errors) else {
         return End::Failed;
     };
-    let params = match Params::check(params_for(&asked)) {
-        Ok(params) => params,
-        Err(why) => return end_failed(errors, why),
-    };
-    if asked.packets == 0 || u64::from(Limits::MAX_PACKETS) < asked.packets {
-        return end_failed(errors, "--limit must be 1 to 1048576 packets");
-    }
-    warn(options, &asked, &params.raw(), errors);
-    let opening = opening_for(asked.packets as u32, elements_for(&asked), params);
     match write_opening(&opening, output) {
         Ok(()) => End::Done,
         Err(_) => end_with_fault(errors, TraceFault::Write),

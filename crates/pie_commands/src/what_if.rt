@@ -1,15 +1,7 @@
 //! `pie what-if`: decides a history again with other parameters, and writes the other history or a comparison.
-ghost use Rattle.std.specs.Prelude.{◌≡◌, Err, IfOk, IfSome, Some, option_map};
+ghost use Rattle.std.specs.Prelude.{◌≡◌};
 ghost use Rattle.clap.specs.Words.{found_of, rows_of};
-ghost use Rattle.pie_record.specs.Text.{records_of};
-ghost use Rattle.pie_what_if.specs.Result.{IsDecidedAgain};
-ghost use Rattle.pie_commands.specs.Files.{text_given};
-ghost use Rattle.pie_commands.specs.Words.{file_in};
-ghost use Rattle.pie_commands.specs.Ends.{EndsBy};
-ghost use Rattle.pie_commands.specs.Subcommands.{EndsAs};
-ghost use Rattle.pie_commands.specs.WhatIfEnds.{EndsCompared, alteration_of, checked_alteration, end_of_what_if, gain_given, other_with, writes_other};
-ghost use Rattle.pie_commands.specs.declared.end.End.{End};
-ghost use Rattle.pie_commands.specs.declared.options.subcommand.Subcommand.{Subcommand};
+ghost use Rattle.pie_commands.specs.Alterations.{alteration_of, checked_alteration, gain_given, other_with};
 
 use crate::comparison::{NO_REACTION, comparison, fault_in_memory};
 use crate::difference::report_difference;
@@ -82,7 +74,7 @@ fn checked_alteration<E: Write>(
 }
 
 /// Returns the alteration of these options. If they are not valid together, writes a line to `errors` and returns `None`.
-#[tactic(auto, unfolding(crate::specs::WhatIfEnds::alteration_of))]
+#[tactic(auto, unfolding(crate::specs::Alterations::alteration_of))]
 fn alteration_of<E: Write>(options: &ArgMatches<'_>, errors: &mut E) -> Option<Alteration>
     ensures { result ≡ alteration_of (rows_of (found_of options.now)) }
 {
@@ -102,9 +94,7 @@ fn alteration_of<E: Write>(options: &ArgMatches<'_>, errors: &mut E) -> Option<A
 }
 
 /// Returns true if the options request the other history, to be written to a file or to standard output.
-fn writes_other(options: &ArgMatches<'_>) -> bool
-    ensures { result ≡ writes_other (rows_of (found_of options.now)) }
-{
+fn writes_other(options: &ArgMatches<'_>) -> bool {
     match text(options, "output") {
         Some(_) => true,
         None => false,
@@ -119,9 +109,7 @@ fn report_end<H: NamedFiles, E: Write>(
     errors: &mut E,
     name: Option<&str>,
     outcome: Result<WhatIfEnd, WhatIfFault>,
-) -> End
-    ensures { result ≡ end_of_what_if outcome }
-{
+) -> End {
     match outcome {
         Ok(_) => End::Done,
         Err(WhatIfFault::Trace(why)) => { end_with_fault_in(rt, alloc, WHAT_IF, errors, name, why) }
@@ -145,9 +133,7 @@ fn write_other<H: NamedFiles + Screen, R: Read + Drop, W: Write, E: Write>(
     reader: R,
     output: &mut W,
     errors: &mut E,
-) -> End
-    ensures { EndsBy end_of_what_if (IsDecidedAgain alteration.now) (R.remaining reader) result (W.contents output.old) (W.contents output.new) }
-{
+) -> End {
     let watched = ProgressReader::new(reader, &mut *errors, rt, shows_progress(rt, options, true));
     let outcome = decide_again(alloc, watched, output, alteration);
     if outcome.is_ok() {
@@ -157,9 +143,7 @@ fn write_other<H: NamedFiles + Screen, R: Read + Drop, W: Write, E: Write>(
 }
 
 /// Returns the bytes of a reader.
-fn read_whole<R: Read + Drop>(alloc: Global, reader: R) -> Result<Vec<u8>, TraceFault>
-    ensures { IfSome (R.remaining reader) (λ text. IfOk result (λ bytes. bytes.items ≡ text)) }
-{
+fn read_whole<R: Read + Drop>(alloc: Global, reader: R) -> Result<Vec<u8>, TraceFault> {
     let mut reader = reader;
     let mut bytes = Vec::new(alloc);
     match reader.read_to_end(&mut bytes) {
@@ -185,9 +169,7 @@ fn end_of_comparison<W: Write, E: Write>(
     page: Result<Vec<u8>, ExplainFault>,
     output: &mut W,
     errors: &mut E,
-) -> End
-    ensures { result ≡ End.Differs → ⊥ }
-{
+) -> End {
     match page {
         Ok(page) => match write_page(&page, output) {
             Ok(()) => End::Done,
@@ -199,7 +181,6 @@ fn end_of_comparison<W: Write, E: Write>(
 }
 
 /// Compares the history in `text` with the other history, which is decided in memory.
-#[tactic(auto, using(crate::proofs::WhatIfFacts::compared, crate::proofs::WhatIfFacts::uncompared))]
 fn compare_text<H: NamedFiles, W: Write, E: Write>(
     rt: &H,
     alloc: Global,
@@ -208,9 +189,7 @@ fn compare_text<H: NamedFiles, W: Write, E: Write>(
     text: &[u8],
     output: &mut W,
     errors: &mut E,
-) -> End
-    ensures { EndsCompared alteration.now (Some text.now) result (W.contents output.old) (W.contents output.new) }
-{
+) -> End {
     let mut other = Vec::new(alloc);
     match decide_again(alloc, text, &mut other, alteration) {
         Ok(_) => {
@@ -230,7 +209,6 @@ fn compare_text<H: NamedFiles, W: Write, E: Write>(
 }
 
 /// Compares the history of `reader`, which is read into memory, with the other history.
-#[tactic(auto, using(crate::proofs::WhatIfFacts::compared_read))]
 fn compare<H: NamedFiles + Screen, R: Read + Drop, W: Write, E: Write>(
     rt: &H,
     alloc: Global,
@@ -239,9 +217,7 @@ fn compare<H: NamedFiles + Screen, R: Read + Drop, W: Write, E: Write>(
     reader: R,
     output: &mut W,
     errors: &mut E,
-) -> End
-    ensures { EndsCompared alteration.now (R.remaining reader) result (W.contents output.old) (W.contents output.new) }
-{
+) -> End {
     let watched = ProgressReader::new(reader, &mut *errors, rt, shows_progress(rt, options, true));
     match read_whole(alloc, watched) {
         Ok(text) => compare_text(rt, alloc, options, alteration, &text, output, errors),
@@ -259,10 +235,7 @@ pub(crate) fn what_if<H: NamedFiles + Screen, R: Read + Drop, W: Write, E: Write
     input: R,
     output: &mut W,
     errors: &mut E,
-) -> End
-    ensures { EndsAs Subcommand.WhatIf (rows_of (found_of options.now)) H.works (R.remaining input) (H.holds rt.now) result (W.contents output.old)
-        (W.contents output.new) }
-{
+) -> End {
     let Some(alteration) = alteration_of(options, errors) else {
         return End::Failed;
     };

@@ -1,7 +1,4 @@
 //! The arguments of a subcommand as data: its options and the files that it reads.
-ghost use Rattle.std.specs.Prelude.{◌≡◌, false};
-ghost use Rattle.clap.specs.Words.{new_rule, rule_of};
-ghost use Rattle.pie_commands.specs.Words.{rule_for, text_rule};
 
 use clap::builder::ValueParser;
 use clap::{Arg, ArgAction};
@@ -73,28 +70,19 @@ pub(crate) const FILE: Argument =
     row!("file": File, "File to read; - is standard input. Default: standard input");
 
 /// Returns an argument of this name, without a kind of value yet.
-fn named<'a>(alloc: Global, name: &'a str, help: &'a str) -> Arg<'a>
-    ensures rule { rule_of result ≡ new_rule name.now }
-    ensures local { result.global ≡ false }
-{
+fn named<'a>(alloc: Global, name: &'a str, help: &'a str) -> Arg<'a> {
     Arg::new(alloc, name).help(help)
 }
 
 /// Returns an option of this name, whose value has the name `value` in the help.
-fn valued<'a>(alloc: Global, argument: Argument, value: &'static str) -> Arg<'a>
-    ensures rule { rule_of result ≡ text_rule argument.name.now }
-    ensures local { result.global ≡ false }
-{
+fn valued<'a>(alloc: Global, argument: Argument, value: &'static str) -> Arg<'a> {
     named(alloc, argument.name, argument.help)
         .long(argument.name)
         .value_name(value)
 }
 
 /// Returns the argument for `clap`.
-pub(crate) fn arg_of<'a>(alloc: Global, argument: Argument) -> Arg<'a>
-    ensures rule { rule_of result ≡ rule_for argument }
-    ensures local { result.global ≡ false }
-{
+pub(crate) fn arg_of<'a>(alloc: Global, argument: Argument) -> Arg<'a> {
     let Argument { name, takes, help } = argument;
     match takes {
         ValueKind::Nothing => named(alloc, name, help)

@@ -1,7 +1,4 @@
 //! The command of `clap` for the command line, built from the tables of the subcommands.
-ghost use Rattle.std.specs.Prelude.{◌≡◌, ◌<◌, ◌∷◌, IfOk, List, [], get_or, length, map};
-ghost use Rattle.clap.specs.Words.{App, Rule, app_of, new_app, new_rule, with_rule};
-ghost use Rattle.pie_commands.specs.Words.{rule_for, Wants, word_of, adds, app_for, pie_alone, pie_app, rules_for, with_rules, with_subcommands};
 
 use crate::options::advise_page::ADVISE;
 use crate::options::argument::{Argument, HelpPage, arg_of};
@@ -29,21 +26,11 @@ fn with_argument<'a>(
     alloc: Global,
     begun: Result<Command<'a>, AllocError>,
     argument: Argument,
-) -> Result<Command<'a>, AllocError>
-    ensures { (rules : List Rule) (whole : App) → Wants with_rule (rule_for argument ∷ rules) whole begun.entry → Wants with_rule rules whole result }
-{
+) -> Result<Command<'a>, AllocError> {
     match begun {
         Ok(command) => command.arg(arg_of(alloc, argument)),
         Err(why) => Err(why),
     }
-}
-
-/// Returns the argument at this place.
-fn argument_at(arguments: &[Argument], place: usize) -> Argument
-    requires { place < length arguments.now }
-    ensures { rule_for result ≡ get_or (map rule_for arguments.now) place (new_rule []) }
-{
-    arguments[place]
 }
 
 /// Builds the subcommand of this name, with its arguments.
@@ -53,21 +40,16 @@ fn command_of<'a>(
     about: &'a str,
     help: &'a str,
     arguments: &[Argument],
-) -> Result<Command<'a>, AllocError>
-    ensures { IfOk result (λ command. app_of command ≡ with_rules (new_app name.now) (map rule_for arguments.now)) }
-{
+) -> Result<Command<'a>, AllocError> {
     let mut command = Ok(Command::new(alloc, name).about(about).after_long_help(help));
-    for place in 0..arguments.len() {
-        command = with_argument(alloc, command, argument_at(arguments, place));
+    for argument in arguments {
+        command = with_argument(alloc, command, *argument);
     }
     command
 }
 
 /// Returns the page of a subcommand.
-fn page_of<'a>(subcommand: Subcommand) -> HelpPage<'a>
-    ensures word { result.word.now ≡ word_of subcommand }
-    ensures arguments { map rule_for result.arguments.now ≡ rules_for subcommand }
-{
+fn page_of<'a>(subcommand: Subcommand) -> HelpPage<'a> {
     match subcommand {
         Subcommand::Run => RUN,
         Subcommand::Audit => AUDIT,
@@ -97,17 +79,13 @@ pub(crate) fn arguments_of(subcommand: Subcommand) -> &'static [Argument] {
 }
 
 /// Returns a subcommand for `clap`, with its arguments.
-fn command_for<'a>(alloc: Global, subcommand: Subcommand) -> Result<Command<'a>, AllocError>
-    ensures { IfOk result (λ command. app_of command ≡ app_for subcommand) }
-{
+fn command_for<'a>(alloc: Global, subcommand: Subcommand) -> Result<Command<'a>, AllocError> {
     let page = page_of(subcommand);
     command_of(alloc, page.word, page.about, page.help, page.arguments)
 }
 
 /// Returns the command `pie` without its subcommands.
-fn alone<'a>(alloc: Global) -> Command<'a>
-    ensures { app_of result ≡ pie_alone }
-{
+fn alone<'a>(alloc: Global) -> Command<'a> {
     Command::new(alloc, "pie")
         .about("A PIE queue controller (RFC 8033) whose every decision is recorded")
         .version(VERSION)
@@ -120,10 +98,7 @@ fn with_subcommand<'a>(
     alloc: Global,
     begun: Result<Command<'a>, AllocError>,
     subcommand: Subcommand,
-) -> Result<Command<'a>, AllocError>
-    ensures { (subcommands : List Subcommand) (whole : App) → Wants adds (subcommand ∷ subcommands) whole begun.entry
-        → Wants adds subcommands whole result }
-{
+) -> Result<Command<'a>, AllocError> {
     match begun {
         Ok(pie) => match command_for(alloc, subcommand) {
             Ok(command) => pie.subcommand(command),
@@ -140,9 +115,7 @@ fn with_subcommand<'a>(
 fn with_all_subcommands<'a>(
     alloc: Global,
     subcommands: &[Subcommand],
-) -> Result<Command<'a>, AllocError>
-    ensures { IfOk result (λ pie. app_of pie ≡ with_subcommands pie_alone subcommands.now) }
-{
+) -> Result<Command<'a>, AllocError> {
     let mut pie = Ok(alone(alloc));
     for subcommand in subcommands {
         pie = with_subcommand(alloc, pie, *subcommand);
@@ -155,9 +128,7 @@ fn with_all_subcommands<'a>(
 /// # Errors
 ///
 /// `AllocError` if memory is short.
-pub(crate) fn options<'a>(alloc: Global) -> Result<Command<'a>, AllocError>
-    ensures { IfOk result (λ options. app_of options ≡ pie_app) }
-{
+pub(crate) fn options<'a>(alloc: Global) -> Result<Command<'a>, AllocError> {
     with_all_subcommands(
         alloc,
         &[

@@ -1,7 +1,5 @@
 //! The lines after the message of a mistake in the command line: the values that an option takes, the nearest keyword, and
 //! the two options that exclude each other.
-ghost use Rattle.std.specs.Prelude.{◌≡◌, IfOk, map, option_map};
-ghost use Rattle.pie_commands.specs.Nearest.{nearer, nearest};
 
 use crate::options::argument::{Argument, ValueKind};
 use crate::options::command_line::arguments_of;
@@ -24,42 +22,21 @@ const FAR: usize = 2;
 /// # Errors
 ///
 /// `AllocError` if memory is short.
-#[tactic(auto, unfolding(crate::specs::Nearest::nearest))]
 fn nearest<'a>(
     alloc: Global,
     word: &str,
     keywords: &[&'a str],
-) -> Result<Option<&'a str>, AllocError>
-    ensures { IfOk result (λ found. option_map (λ text. text.now) found ≡ nearest word.now (map (λ text. text.now) keywords.now)) }
-{
-    match keywords {
-        [] => Ok(None),
-        [first, rest @ ..] => {
-            let later = nearest(alloc, word, rest)?;
-            nearer(alloc, word, *first, later)
+) -> Result<Option<&'a str>, AllocError> {
+    let mut near = None;
+    let mut least = FAR + 1;
+    for keyword in keywords {
+        let distance = levenshtein(alloc, word, keyword)?;
+        if distance < least {
+            least = distance;
+            near = Some(*keyword);
         }
     }
-}
-
-/// Returns the nearer of the keyword `first` and the nearest later one.
-fn nearer<'a>(
-    alloc: Global,
-    word: &str,
-    first: &'a str,
-    later: Option<&'a str>,
-) -> Result<Option<&'a str>, AllocError>
-    ensures { IfOk result (λ found. option_map (λ text. text.now) found ≡ nearer word.now first.now (option_map (λ text. text.now) later.entry)) }
-{
-    let one = levenshtein(alloc, word, first)?;
-    if let Some(other) = later {
-        if levenshtein(alloc, word, other)? < one {
-            return Ok(later);
-        }
-    }
-    if one <= FAR {
-        return Ok(Some(first));
-    }
-    Ok(later)
+    Ok(near)
 }
 
 /// If the text of the option `name` is neither of two keywords, writes a line with the text, and with the keyword that

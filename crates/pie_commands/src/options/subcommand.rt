@@ -1,7 +1,4 @@
 //! The subcommands of `pie`.
-ghost use Rattle.std.specs.Prelude.{◌≡◌, IfSome, Some};
-ghost use Rattle.pie_commands.specs.declared.options.subcommand.Subcommand.{Subcommand};
-ghost use Rattle.pie_commands.specs.Words.{word_of};
 
 /// A subcommand of `pie`.
 #[derive(Clone, Copy)]
@@ -28,10 +25,7 @@ pub(crate) enum Subcommand {
 
 impl Subcommand {
     /// Returns the subcommand of this name.
-    pub(crate) fn named(word: &str) -> Option<Subcommand>
-        ensures named { IfSome result (λ subcommand. word.now ≡ word_of subcommand) }
-        ensures each { (subcommand : Subcommand) → word.now ≡ word_of subcommand → result ≡ Some subcommand }
-    {
+    pub(crate) fn named(word: &str) -> Option<Subcommand> {
         match word {
             "run" => Some(Subcommand::Run),
             "audit" => Some(Subcommand::Audit),

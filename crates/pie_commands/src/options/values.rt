@@ -2,9 +2,7 @@
 ghost use Rattle.std.specs.Prelude.{◌≡◌, ◌≤◌, IfSome, None, Ok, option_map};
 ghost use Rattle.std.specs.Result.{result_ok};
 ghost use Rattle.clap.specs.Words.{first_of, found_of, rows_of};
-ghost use Rattle.pie_commands.specs.Explanations.{bound_given, in_order, moment_given, units_of};
-ghost use Rattle.pie_commands.specs.Files.{file_of};
-ghost use Rattle.pie_commands.specs.Words.{file_in, flag_given, number_given, number_or, output_in};
+ghost use Rattle.pie_commands.specs.Values.{bound_given, flag_given, in_order, moment_given, number_given, number_or, units_of};
 
 use clap::ArgMatches;
 use pie_units::{Moment, MomentFault, When, WhenFault};
@@ -52,16 +50,12 @@ pub(crate) fn text<'a>(options: &ArgMatches<'a>, name: &str) -> Option<&'a str>
 }
 
 /// Returns the file to read that the options name.
-pub(crate) fn file<'a>(options: &ArgMatches<'a>) -> Option<&'a str>
-    ensures { option_map (λ name. name.now) result ≡ file_in (rows_of (found_of options.now)) }
-{
+pub(crate) fn file<'a>(options: &ArgMatches<'a>) -> Option<&'a str> {
     text(options, "file")
 }
 
 /// Returns the file of this name: none for `-`, which is standard input or output.
-pub(crate) fn file_of<'a>(name: Option<&'a str>) -> Option<&'a str>
-    ensures { option_map (λ name. name.now) result ≡ file_of (option_map (λ name. name.now) name.entry) }
-{
+pub(crate) fn file_of<'a>(name: Option<&'a str>) -> Option<&'a str> {
     match name {
         Some(name) => { if name == "-" { None } else { Some(name) } }
         None => None,
@@ -69,9 +63,7 @@ pub(crate) fn file_of<'a>(name: Option<&'a str>) -> Option<&'a str>
 }
 
 /// Returns the output file that the options name.
-pub(crate) fn output<'a>(options: &ArgMatches<'a>) -> Option<&'a str>
-    ensures { option_map (λ name. name.now) result ≡ output_in (rows_of (found_of options.now)) }
-{
+pub(crate) fn output<'a>(options: &ArgMatches<'a>) -> Option<&'a str> {
     file_of(text(options, "output"))
 }
 

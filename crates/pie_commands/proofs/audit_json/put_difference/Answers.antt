@@ -1,6 +1,0 @@
-use Rattle.pie_commands.proofs.AuditJsonFacts.{then_last}
-use Rattle.pie_commands.proofs.audit_json.put_difference.Goals as goal
-
-pub returns : goal.returns
-returns g c = then_last _ _ _ _ _ _ c.in_ok-write_all.ensures.bytes (then_last _ _ _ _ _ _ c.in_ok-put_number.ensures
-    (then_last _ _ _ _ _ _ c.in_ok-put_text.ensures c.put_text-2.ensures))

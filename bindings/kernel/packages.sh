@@ -2,10 +2,11 @@
 # Downloads Debian's kernel headers for another processor, and for aarch64 also its kernel and the programs that boot.sh
 # runs in it; or the kernel 6.12 of Debian 12's backports, with its headers. It unpacks them to a folder. apt uses lists and a state of its own, so the packages and the architectures
 # of this machine stay as they are. Debian 12 has no packages for riscv64, so these headers are Debian 13's, with the
-# programs of kbuild that Debian 12 has in its backports.
+# programs of kbuild that Debian 12 has in its backports. The archive is that of apt's own sources.
 #
 # usage: bindings/kernel/packages.sh aarch64|riscv64|6.12 [FOLDER]      FOLDER: build/debian-aarch64 and so on
 set -eu
+. "$(dirname "$0")/../../tests/shared/apt_uri.sh"
 case ${1-} in
     aarch64) debian=arm64 sources='' ;;
     riscv64) debian=riscv64 sources='trixie bookworm-backports' ;;
@@ -28,7 +29,8 @@ Dir::State::status "$work/status";
 Dir::Cache "$work";
 END
 if [ -n "$sources" ]; then
-    printf 'Types: deb\nURIs: http://deb.debian.org/debian\nSuites: %s\nComponents: main\nSigned-By: /usr/share/keyrings/debian-archive-keyring.gpg\n' "$sources" > "$work/sources/debian.sources"
+    archive=$(apt_uri)
+    printf 'Types: deb\nURIs: %s\nSuites: %s\nComponents: main\nSigned-By: /usr/share/keyrings/debian-archive-keyring.gpg\n' "$archive" "$sources" > "$work/sources/debian.sources"
     printf 'Dir::Etc::sourcelist "/dev/null";\nDir::Etc::sourceparts "%s/sources";\n' "$work" >> "$work/apt.conf"
 fi
 export APT_CONFIG=$work/apt.conf

@@ -3,12 +3,13 @@
 # and juniperbowls-dkms in a folder by apt, which builds the module by DKMS, and debian/tests/kernel runs there. qemu boots that folder with a link of
 # 0.5 Mbit/s as eth0, and the commands of README's "First use" run there: tc qdisc replace, pie-tap follow, pie explain.
 # Datagrams are sent faster than the link, and each drop that tc counts must be explained. It needs root, debootstrap,
-# dpkg-buildpackage with debhelper, qemu and Debian's mirror, and takes some minutes.
+# dpkg-buildpackage with debhelper, qemu and the archive of apt's own sources, and takes some minutes.
 # needs: a request
 #
 # usage: [DEBS=folder with packages] [KEEP=folder for all files] bindings/kernel/trial.sh
 set -eu
 cd "$(dirname "$0")/../.."
+. tests/shared/apt_uri.sh
 me=bindings/kernel/trial.sh
 for program in debootstrap dpkg-buildpackage dh_dkms qemu-system-x86_64 busybox cpio python3; do
     command -v $program > /dev/null || { echo "NOT RUN: $me: no $program here"; exit 0; }
@@ -32,8 +33,8 @@ fi
 inside() {
     chroot "$debian" /usr/bin/env -i DEBIAN_FRONTEND=noninteractive PATH=/usr/sbin:/usr/bin:/sbin:/bin "$@"
 }
-[ -e "$debian/etc/debian_version" ] || debootstrap --variant=minbase --include=iproute2,kmod,procps bookworm "$debian" > "$work/debootstrap.log" 2>&1
-echo 'deb http://deb.debian.org/debian-security bookworm-security main' >> "$debian/etc/apt/sources.list"
+[ -e "$debian/etc/debian_version" ] || debootstrap --variant=minbase --include=iproute2,kmod,procps bookworm "$debian" "$(apt_uri)" > "$work/debootstrap.log" 2>&1
+echo "deb $(apt_uri security) bookworm-security main" >> "$debian/etc/apt/sources.list"
 mount -t proc proc "$debian/proc"
 ln -sfn /proc/self/fd "$debian/dev/fd"
 # no boot loader reads this kernel's own initrd

@@ -9,6 +9,7 @@ usage: examples/replay/comments.py [--force] PIE HISTORY CAPTURE FILE
   CAPTURE  pcap or pcapng: the capture that replay read, or one by `tcpdump --direction=out -i DEVICE -w CAPTURE` at the
            link's first device from its start on"""
 import re
+import shlex
 import struct
 import subprocess
 import sys
@@ -81,15 +82,24 @@ def commented(order, kind, body, comment, most):
     return kind, body[:end] + option(order, COMMENT, comment.encode()) + (body[end:] or option(order, END))
 
 
+def reason(told, history):
+    """Returns the lines of pie about its standard input as lines about a history."""
+    lines = re.sub("^(pie: )?(/dev/stdin: )?", "", told.strip(), flags=re.M).replace(" of /dev/stdin,", ",").replace(" of /dev/stdin:", ":")
+    return lines.replace("/dev/stdin", shlex.quote(history))
+
+
 def explanations(program, history):
     """Returns the explanation of each packet that was lost or marked, by the lower 32 bits of its
     tag."""
     said = {}
+    with open(history, "rb") as file:
+        if file.read(7).removeprefix(b"\xef\xbb\xbf").startswith(b"qid,"):
+            raise OutputError(f"{history}: a text of pie-watch does not have the numbers of frames; take a history of replay or of the link")
     for which in ("--lost", "--marked"):
         with open(history, "rb") as file:
-            done = subprocess.run([program, "explain", which], stdin=file, capture_output=True, text=True, check=False)
+            done = subprocess.run([program, "explain", which, "/dev/stdin"], stdin=file, capture_output=True, text=True, check=False)
         if done.returncode:
-            raise OutputError(f"{history}: {done.stderr.strip()}")
+            raise OutputError(f"{history}: {reason(done.stderr, history)}")
         parts = re.split(r"^(?=event )", done.stdout, flags=re.M)
         said |= {int(re.match(r"event \d+: packet (\d+),", part)[1]) & 0xFFFFFFFF: part.rstrip("\n") for part in parts if part.startswith("event ")}
     return said

@@ -1,5 +1,6 @@
 """pie-fleet: audits and summarizes the histories of many links, and writes one table."""
 import argparse
+import difflib
 import gc
 import subprocess
 import sys
@@ -96,6 +97,15 @@ def check_files(asked, inputs):
     check_outputs([asked.output, journal, *([asked.page] if asked.page else [])], inputs, lambda name: asked.force or name == journal)
 
 
+def check_columns(asked, fields):
+    """Raises `ValueError` if --worst or --worse name no column of numbers. `fields` are those of the summary."""
+    known = set(work.KNOWN + table.SHARES + fields) - set(work.WORDS)
+    for column in [*asked.worst, *(bound.column for bound in asked.worse)]:
+        if column not in known:
+            near = difflib.get_close_matches(column, known, 1)
+            raise ValueError(f"{column}: not a column of numbers{f'; the nearest is {near[0]}' if near else ''}")
+
+
 def gather(asked, rows, add):
     """Finds the histories and has their rows made. Returns the links in order."""
     client = workers = None
@@ -106,11 +116,13 @@ def gather(asked, rows, add):
         if workers.wanted is None:
             raise SystemExit(f"pie-fleet: no worker has {asked.pie}")
         fit = workers.fit(None)
+        check_columns(asked, client.submit(work.fields_of, asked.pie, workers=fit, pure=False).result())
         found, missing = client.submit(work.expand, asked.histories, workers=fit, pure=False).result() if asked.histories else ([], [])
     else:
         found, missing = work.expand(asked.histories)
         if work.version_of(asked.pie) is None:
             raise SystemExit(f"pie-fleet: there is no program {asked.pie} here")
+        check_columns(asked, work.fields_of(asked.pie))
     if missing:
         raise SystemExit(f"pie-fleet: no file is named {missing[0]}")
     sizes = dict(found)

@@ -3,13 +3,17 @@ It uses only the standard library, so a worker needs only this file and `pie`.""
 import glob
 import os
 import re
+import shlex
 import socket
 import subprocess
+
+STDIN = "/dev/stdin"
 
 # The columns of a file before the summary's fields. `status` is that of `pie audit`: 0 clean, 2 differs, 1 otherwise. `finding` is clean, differs
 # or fault, the finding of `pie`; or missing, unread or unreached, if there is no finding.
 FOUND = ("clean", "differs", "fault")
 KNOWN = ["link", "path", "host", "size", "changed", "status", "finding", "event", "note"]
+WORDS = ["link", "path", "host", "finding", "note"]  # (the other columns have numbers)
 
 
 def version_of(pie):
@@ -19,6 +23,12 @@ def version_of(pie):
     except OSError:
         return None
     return told.stdout.strip() if told.returncode == 0 else None
+
+
+def fields_of(pie):
+    """Returns the names of the summary's fields, as `pie` writes them for a history without events."""
+    told = subprocess.run([pie, "explain", "--summary", "--csv"], capture_output=True, text=True, errors="replace", input="open,0,1,1,1\n")
+    return told.stdout.split("\n")[0].split(",")
 
 
 def host_and_version(pie):
@@ -32,7 +42,8 @@ def _stamp(path):
 
 
 def _call(words, history=os.devnull):
-    """Runs a program with a history as its standard input, because `pie` refuses a name that is no text."""
+    """Runs a program with a history as its standard input, because `pie` refuses a name that is no text. The words name it /dev/stdin, so that `pie`
+    can read it again for the line and the field of a fault."""
     with open(history, "rb") as given:
         return subprocess.run(words, capture_output=True, text=True, errors="replace", stdin=given)
 
@@ -49,21 +60,21 @@ def row_of(link, path, host, known, pie):
         return {"link": link, "same": True}
     row["size"], row["changed"] = size, changed
     try:
-        audit = _call([pie, "audit"], path)
-        summed = _call([pie, "explain", "--summary", "--csv"], path)
+        audit = _call([pie, "audit", STDIN], path)
+        summed = _call([pie, "explain", "--summary", "--csv", STDIN], path)
     except OSError as fault:
         return {**row, "finding": "unread", "note": fault.strerror if fault.filename == path else f"{pie}: {fault.strerror}"}
-    found = re.fullmatch(r"(clean|differs),(\d+)\n", audit.stdout)
+    found = re.fullmatch(rf"(?:{STDIN}: )?(clean|differs),(\d+)\n", audit.stdout)
     if found:
         row["status"] = audit.returncode
         row["finding"], row["event"] = found.groups()
     else:
-        row["finding"], row["note"] = "unread" if audit.returncode < 0 else "fault", _reason(audit)
+        row["finding"], row["note"] = "unread" if audit.returncode < 0 else "fault", _reason(audit, path)
     lines = summed.stdout.split("\n")
     if len(lines) > 1 and lines[1]:
         row.update(zip(lines[0].split(","), lines[1].split(",")))
     elif not row["note"]:
-        row.update(status=1, finding="unread", note=f"pie explain: {_reason(summed)}")
+        row.update(status=1, finding="unread", note=f"pie explain: {_reason(summed, path)}")
     try:
         if _stamp(path) != (size, changed):
             row.update(status=1, finding="unread", note="changed while it was read")
@@ -72,12 +83,13 @@ def row_of(link, path, host, known, pie):
     return row
 
 
-def _reason(ended):
-    """Returns one line with the reason why `pie` failed: its first line of faults."""
+def _reason(ended, path):
+    """Returns one line with the reason why `pie` failed: its lines about the file at `path`, without the file's name but with that in a command."""
     if ended.returncode < 0:
         return f"pie was ended by signal {-ended.returncode}"
-    told = ended.stderr.strip().split("\n")[0].removeprefix("pie: ")
-    return told or f"pie ended with {ended.returncode} and said nothing"
+    told = [line.removeprefix("pie: ").removeprefix(f"{STDIN}: ") for line in ended.stderr.strip().split("\n") if line.startswith("pie: ")]
+    told = [re.sub(f" of {STDIN}(?=[,:])", "", line).replace(f"{STDIN} is", "it is").replace(STDIN, shlex.quote(path)) for line in told]
+    return "; ".join(told) or ended.stderr.strip().split("\n")[0] or f"pie ended with {ended.returncode} and said nothing"
 
 
 def rows_of(files, pie, wanted):
@@ -90,12 +102,13 @@ def rows_of(files, pie, wanted):
 
 
 def expand(patterns):
-    """Returns the files that the patterns match, each once, in order, with sizes; and the patterns without a match."""
+    """Returns the files that the patterns match, each once, in order, with sizes; and the patterns without a match. A link to no file is one of them: it
+    has a row of its own, and the size 0."""
     found, missing = {}, []
     for pattern in patterns:
-        names = [name for name in sorted(glob.glob(pattern, recursive=True)) if os.path.isfile(name)]
+        names = [name for name in sorted(glob.glob(pattern, recursive=True)) if os.path.isfile(name) or not os.path.exists(name)]
         for name in names:
-            found[name] = os.path.getsize(name)
+            found[name] = os.path.getsize(name) if os.path.exists(name) else 0
         if not names:
             missing.append(pattern)
     return list(found.items()), missing

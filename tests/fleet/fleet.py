@@ -9,6 +9,7 @@ usage: tests/fleet/fleet.py [PROGRAM [HISTORIES]]      PROGRAM: crates/pie/out/p
 needs: program
 """
 import csv
+import gzip
 import json
 import os
 import random
@@ -112,8 +113,13 @@ def find(name):
     for share, verdicts in {"loss_percent": ("early", "bytes", "packets"), "marks_percent": ("mark",)}.items():
         arrivals = int(row.get("arrivals") or 0)
         row[share] = f"{100 * sum(int(row[verdict]) for verdict in verdicts) / arrivals:.4f}" if arrivals else ""
-    return {**row, "status": str(audit.returncode), "finding": finding or "fault", "event": event,
-            "note": audit.stderr.strip().removeprefix("pie: ")}
+    return {**row, "status": str(audit.returncode), "finding": finding or "fault", "event": event, "note": note(name) if audit.returncode == 1 else ""}
+
+
+def note(name):
+    """Returns the lines of `pie audit` about a file as one, without the file's name: the fault, and its line and field."""
+    told = subprocess.run([PROGRAM, "audit", name], capture_output=True, text=True).stderr
+    return "; ".join(line.removeprefix("pie: ").removeprefix(f"{name}: ").replace(f" of {name}", "") for line in told.strip().split("\n"))
 
 
 def table(path):
@@ -287,6 +293,7 @@ def run_alone(work, names):
     fleet(f"{work}/histories/link00*.history", "-o", f"{work}/alone.csv", "--pie", PROGRAM, status=1, errors="--force")
     run_named(work)
     run_over_files(work)
+    run_mistakes(work)
 
 
 def run_named(work):
@@ -312,6 +319,35 @@ def run_named(work):
     # an unchanged file keeps its row, also in the table of the next day
     fleet(f"{folder}/*.history", "-o", f"{work}/again.csv", "--since", f"{work}/named.csv", "--pie", PROGRAM, status=0)
     check("names that are no text: the next day", all(os.fsdecode(name) in table(f"{work}/again.csv") for name in names))
+
+
+def run_mistakes(work):
+    """Checks that columns that do not exist are refused before any work, that the note of a damaged history has its line and field, or the command that
+    reads it, and that a link to no file has a row."""
+    folder = f"{work}/mistakes"
+    os.mkdir(folder)
+    with open(f"{TOP}/examples/overload.history") as text:
+        lines = text.readlines()
+    with open(f"{folder}/fault.history", "w") as out:
+        out.writelines([*lines[:6], lines[6].replace(",not", ",nott"), *lines[7:]])
+    with open(f"{folder}/a b.history", "wb") as out:
+        out.write(gzip.compress("".join(lines).encode()))
+    os.symlink("nowhere", f"{folder}/gone.history")
+    shutil.copy(f"{TOP}/examples/burst.history", f"{folder}/good.history")
+    pattern, named = f"{folder}/*.history", ["--pie", PROGRAM]
+    for words, told in ((["--worst", "nope"], "nope: not a column of numbers\n"), (["--worst", "mean_wiat"], "mean_wiat: not a column of numbers; the nearest is mean_wait\n"),
+                        (["--worst", "note"], "note: not a column of numbers")):
+        fleet(pattern, *words, "-o", f"{folder}/new.csv", *named, status=1, errors=told)
+        check(f"{words}: no table", not os.path.exists(f"{folder}/new.csv") and not os.path.exists(f"{folder}/new.csv.journal"))
+    fleet(pattern, "-o", f"{folder}/new.csv", *named, status=1, errors="gone.history: missing: No such file or directory")
+    rows = table(f"{folder}/new.csv")
+    notes = {os.path.basename(name): (row["finding"], row["note"]) for name, row in rows.items()}
+    check("the notes of damaged histories", notes == {
+        "a b.history": ("fault", f"the first record is not an open record; it is compressed by gzip; zcat '{folder}/a b.history' | pie audit .. reads it"),
+        "fault.history": ("fault", 'record 7: unknown word; line 7, field 6 (ecn): "nott"; allowed are not, ect0, ect1, ce'),
+        "gone.history": ("missing", "No such file or directory"), "good.history": ("clean", "")}, notes)
+    fleet(pattern, "-o", f"{folder}/next.csv", "--since", f"{folder}/new.csv", "--worse", "nope=20%", *named, status=1, errors="nope: not a column of numbers")
+    fleet(pattern, "-o", f"{folder}/next.csv", "--since", f"{folder}/new.csv", "--worse", "mean_wait=20%", "--worst", "loss_percent", *named, status=1)
 
 
 def run_over_files(work):

@@ -74,6 +74,12 @@ END
     done
     refuse 'to a file that exists' --force "$program" "$work/history" "$work/made.pcap" "$work/replayed.pcapng"
     refuse 'a capture that is none' 'neither pcap nor pcapng' "$program" "$work/history" "$work/history" "$work/none.pcapng"
+    sed '4s/^[a-z]*/dep/' "$work/history" > "$work/fault"
+    gzip -c "$work/history" > "$work/gzip"
+    refuse 'a history with a fault: its first line' 'fault: record 4: unknown kind$' "$program" "$work/fault" "$work/made.pcap" "$work/none.pcapng"
+    refuse 'a history with a fault: its second line' '^line 4, field 1 (kind): "dep"; allowed are ' "$program" "$work/fault" "$work/made.pcap" "$work/none.pcapng"
+    refuse 'a history in gzip' "^$work/gzip is compressed by gzip; zcat $work/gzip | pie explain" "$program" "$work/gzip" "$work/made.pcap" "$work/none.pcapng"
+    refuse 'a text of pie-watch' 'does not have the numbers of frames' "$program" "$top/tests/rows/linux_steps.csv" "$work/made.pcap" "$work/none.pcapng"
     [ ! -e "$work/none.pcapng" ] || fail "an output without a capture"
     "$replay/comments.py" --force "$program" "$work/history" "$work/made.pcap" "$work/replayed.pcapng" || fail "--force replaces nothing"
 else

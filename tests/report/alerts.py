@@ -2,7 +2,8 @@
 """Checks the alerting rules (report/alerts.yml) with `promtool test rules`: over an hour of a queue as in the measured
 scenario `four` no alert fires, and with one number changed exactly the alert of that number fires, at the minute at
 which it is due and not a minute before. Each metric of a rule is one that dashboard.py finds in the writers, or the
-status of an audit.
+status of an audit. After a link died, so that its metrics end, exactly PieStale and PieNoUpdates fire, for two days if
+nobody acts, and until the metrics are there again.
 
 usage: tests/report/alerts.py
 needs: nothing
@@ -55,11 +56,23 @@ CASES = [
     ("PieEventsLost", "warning", {"pie_lost_periods_total": "0x9 1x50"}, 10),
     ("PieEventsLost", "warning", {"pie_unseen_events_total": "0x9 1x50"}, 10),
     ("PieStale", "critical", {"pie_target_seconds": "0.015x9 stale"}, 12),
+    ("PieNoUpdates", "critical", {"pie_updates_total": "0+4000x9 stale"}, 19),
     ("PieAuditDiffers", "critical", {"pie_audit_status": "0x9 2x50"}, 10),
     ("PieAuditFailed", "warning", {"pie_audit_status": "0x9 1x50"}, 10),
 ]
 SILENT = [("as in `four`", {}), ("with a histogram of short waits", {**WITHOUT_PERIODS, **SHORT}), ("with marks below the threshold", {"pie_marked_packets_total": "0+125x60"}),
           ("with few tail drops", {"pie_byte_limit_drops_total": "0+400x60"}), ("at twice the target", {"pie_period_wait_99_seconds": "0.03x60"})]
+
+
+# The alerts of a link that died, and minutes at which they fire; then the minutes after the metrics came back.
+DEAD = [("PieNoUpdates", "critical"), ("PieStale", "critical")]
+DEAD_MINUTES, ALIVE_MINUTES = (20, 70, 75, 120, 1439, 1441, 1600, 2880), (2895, 2940)
+
+
+def died():
+    """Returns the series of a link whose metrics end at minute 10 and begin again at minute 2881, each with the samples of
+    an hour."""
+    return {name: f"{values.replace('x60', 'x9')} stale _x2870 {values}" for name, values in QUIET.items()}
 
 
 def series(changes):
@@ -78,7 +91,8 @@ def main():
     text = RULES.read_text()
     names = set(re.findall(r"^      - alert: (\w+)$", text, re.M))
     check(names == {name for name, *_ in CASES}, "alerts without a case, or cases without an alert:", names ^ {name for name, *_ in CASES})
-    metrics = {re.sub("_(bucket|sum|count)$", "", name) for expr in re.findall(r"^        expr: (.*)$", text, re.M) for name in re.findall(r"\bpie_\w+", expr)}
+    expressions = re.findall(r"^        expr: ((?:.*\n)(?:          .*\n)*)", text, re.M)
+    metrics = {re.sub("_(bucket|sum|count)$", "", name) for expr in expressions for name in re.findall(r"\bpie_\w+", expr)}
     written = (ROOT / "examples/shared/metrics.c").read_text() + (ROOT / "report/pie-metrics").read_text() + (ROOT / "docs/OPERATING.md").read_text()
     for name in sorted(metrics):
         check(re.search(rf"\b(pie_)?{name.removeprefix('pie_')}\b", written), f"nobody writes {name}")
@@ -89,6 +103,8 @@ def main():
     for name, severity, changes, minute in CASES:
         tests.append({"interval": "1m", "name": name, "input_series": series(changes),
                       "promql_expr_test": [firing(minute - 1), firing(minute, (name, severity)), firing(minute + 3, (name, severity))]})
+    tests.append({"interval": "1m", "name": "a link that died", "input_series": series(died()),
+                  "promql_expr_test": [*(firing(minute, *DEAD) for minute in DEAD_MINUTES), *(firing(minute) for minute in ALIVE_MINUTES)]})
     with tempfile.TemporaryDirectory() as folder:
         file = Path(folder, "tests.json")  # (YAML has JSON's forms)
         file.write_text(json.dumps({"rule_files": [str(RULES)], "evaluation_interval": "1m", "tests": tests}))

@@ -9,6 +9,7 @@ usage: tests/report/extcap.py [PROGRAM]      PROGRAM: crates/pie/out/pie by defa
 needs: program
 """
 import csv
+import gzip
 import io
 import os
 import re
@@ -86,11 +87,23 @@ def differences(lines, packets):
     return different
 
 
-def extcap(history, out, *words, using=PROGRAM):
-    """Captures a history to its end. Returns the status and standard error."""
+def extcap_to(out, history, *words, using=PROGRAM):
+    """Captures a history to its end in a new file. Returns the status and standard error."""
     every = [EXTCAP, "--capture", "--extcap-interface", "pie", "--extcap-version=4.0", "--fifo", out, "--history", history, "--once", "--pie", using]
     done = subprocess.run([*every, *words], capture_output=True, text=True, check=False)
     return done.returncode, done.stderr
+
+
+def extcap(history, out, *words, using=PROGRAM):
+    """Captures a history to its end in a file that may exist. Returns the status and standard error."""
+    return extcap_to(out, history, "--force", *words, using=using)
+
+
+def reason(history):
+    """Returns the reason of `pie audit` for a history, without its name, but with that in a command."""
+    told = subprocess.run([PROGRAM, "audit", history], capture_output=True, text=True, check=False).stderr.rstrip("\n")
+    told = told.replace(f"pie: {history} is", f"pie: {history}: {history} is")
+    return re.sub(f"^pie: (?:{re.escape(str(history))}: )?", "", told, flags=re.M).replace(f" of {history}", "")
 
 
 def read(out):
@@ -210,9 +223,26 @@ def hold_faults(folder):
                                                ("fault", text.replace("\ndepart", "\ndep", 1), 1, 2, 2), ("no history", "a,b\n", 1, 0, 0)):
         (folder / "changed").write_text(changed)
         done = extcap(folder / "changed", out)
-        check(done == (status, f"pie-extcap: {folder}/changed: it ends after event {last}; pie audit has the reason\n"), f"{name}: {done}")
+        check(done == (status, f"pie-extcap: {folder}/changed: the capture ends after event {last}: {reason(folder / 'changed')}\n"), f"{name}: {done}")
         found = differences(read(out), packets[:count])
         check(not found, f"{name}: packets before it:", found[:3])
+    # the reason has two lines; a fault in a note is one too; the number of a line after lost events is that of the part
+    (folder / "gzip").write_bytes(gzip.compress(text.encode()))
+    (folder / "note").write_text(f"{text}shown,x\n")
+    before, _, after = with_lost(text).partition("lost,99\n")
+    (folder / "later").write_text(f"{before}lost,99\n" + after.replace("\nupdate,3,", "\nupdate,x,", 1))
+    (folder / "steps").write_text((ROOT / "tests/rows/linux_steps.csv").read_text())
+    for name, says in (("gzip", f"the capture ends after event 0: the first record is not an open record\n{folder}/gzip is compressed by gzip; "
+                                f"zcat {folder}/gzip | pie audit .. reads it"),
+                       ("note", f"record {text.count(chr(10)) + 1}: wrong number of fields\nline {text.count(chr(10)) + 1}: 2 fields; shown has 12"),
+                       ("steps", "a text of pie-watch; a capture needs a history")):
+        done = extcap(folder / name, out)
+        check(done == (1, f"pie-extcap: {folder}/{name}: {says}\n"), f"{name}: {done}")
+    status, told = extcap(folder / "later", out)
+    lines = (folder / "later").read_text().splitlines()
+    at = lines.index("lost,99") + 1
+    bad = next(place for place, line in enumerate(lines) if line.startswith("update,x,")) + 1 - at
+    check(status == 1 and f"\nline {bad}, field 2 (" in told and told.endswith(f"(from line {at + 1} on, which is line 1 and record 1 here)\n"), f"after lost events: {told}")
     for words, says in (([folder / "none", out], f"{folder}/none: No such file or directory"), ([history, folder / "none/a"], f"{folder}/none/a: No such file or directory"),
                         (["", out], "name the history"), ([history, out, "--extcap-capture-filter", "tcp"], "there are no capture filters; use a display filter"),
                         ([history, out, "--flows", folder / "none"], f"{folder}/none: No such file or directory"),
@@ -222,6 +252,16 @@ def hold_faults(folder):
                         ([history, out, "--every"], "unrecognized arguments: --every; --help tells more")):
         done = extcap(*words)
         check(done == (1, f"pie-extcap: {says}\n"), done)
+    # without --force no file is replaced; a pipe, a device and a new file are written
+    kept, link, new = folder / "capture", folder / "dangling", folder / "new"
+    kept.write_text("a capture")
+    link.symlink_to(folder / "missing")
+    for to in (kept, link):
+        done = extcap_to(to, history)
+        check(done == (1, f"pie-extcap: {to}: the file exists; --force replaces it\n"), f"{to}: {done}")
+    check(kept.read_text() == "a capture" and not (folder / "missing").exists(), "a capture was overwritten")
+    check(extcap_to(new, history) == (0, "") and extcap_to("/dev/null", history) == (0, ""), "a new file and a device are outputs")
+    check(extcap(history, kept) == (0, "") and kept.read_bytes() == new.read_bytes(), "--force replaces a file")
     # an output never replaces an input
     kept = folder / "kept"
     kept.write_text(text)

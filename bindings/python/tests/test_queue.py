@@ -143,6 +143,12 @@ def test_a_refusal_uses_no_random_word():
     assert list(why.value.events["word"][why.value.events["kind"] == 1]) == wanted[1:3]
     with pytest.raises(ValueError, match="size"):
         one.offer([1], [2**32], "1kbit")
+    with pytest.raises(ValueError, match=r"^moment: an array of one dimension is wanted, and not one of the shape \(2, 1\)$"):
+        one.offer([[1], [1]], 1, "1kbit")
+    with pytest.raises(ValueError, match=r"^size: an array of one dimension is wanted, and not one of the shape \(1, 2\)$"):
+        one.offer([1, 1], [[1, 1]], "1kbit")
+    with pytest.raises(ValueError, match="^size: there are 3 numbers, and 2 are wanted$"):
+        one.offer([1, 1], [1, 1, 1], "1kbit")
     one.arrive(1, 1)
     told = one.offer([1, 1], 1, "1kbit")
     one.arrive(1, 1)

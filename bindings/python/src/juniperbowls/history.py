@@ -57,8 +57,10 @@ def column(name: str, values: npt.ArrayLike, kind: str, count: int | None = None
     is_within = not found.size or (found.dtype.kind == "u" or found.min() >= 0) and (found.dtype == kind or int(found.max()) <= np.iinfo(kind).max)
     if not is_within:
         raise ValueError(f"{name}: a number does not fit in {np.iinfo(kind).bits} bits without a sign")
-    if found.ndim > 1 or (count is not None and found.ndim == 1 and len(found) != count):
-        raise ValueError(f"{name}: there are {found.shape} numbers, and {count} are wanted")
+    if found.ndim > 1:
+        raise ValueError(f"{name}: an array of one dimension is wanted, and not one of the shape {found.shape}")
+    if count is not None and found.ndim == 1 and len(found) != count:
+        raise ValueError(f"{name}: there are {len(found)} numbers, and {count} are wanted")
     numbers: npt.NDArray[Any] = np.atleast_1d(found.astype(kind, copy=False))
     return np.broadcast_to(numbers, (count,)) if count is not None and found.ndim == 0 else numbers
 

@@ -302,19 +302,25 @@ class Verified:
     """The rules for BPF."""
 
     def used(self, lines):
-        """Returns the lines without the functions, declarations and constants that CALLS do not use."""
+        """Returns the lines of the functions, declarations and constants that CALLS use, each kind in the order of the names. Numbers of attributes, metadata and
+        constants are given anew, so that the functions that are left out change nothing."""
         text = "\n".join(lines) + "\n"
-        found = {it[1]: it for it in re.finditer(rf"^(?:define [^@\n]*@({NAME})\([^\n]*\n(?:(?!\}}).*\n)*\}}\n\n?)", text, re.M)}
-        found |= {it[1]: it for it in re.finditer(rf"^(?:@|declare [^@\n]*@)({NAME})(?: = |\().*\n", text, re.M)}
+        found = {it[1]: it[0] for it in re.finditer(rf"^define [^@\n]*@({NAME})\([^\n]*\n(?:(?!\}}).*\n)*\}}\n", text, re.M)}
+        found |= {it[1]: it[0] for it in re.finditer(rf"^(?:@|declare [^@\n]*@)({NAME})(?: = |\().*\n", text, re.M)}
         kept, open_names = set(), list(CALLS)
         while open_names:
             name = open_names.pop()
             if name in found and name not in kept:
                 kept.add(name)
-                open_names += re.findall(rf"@({NAME})", found[name][0])
-        for name in sorted(found.keys() - kept, key=lambda it: -found[it].start()):
-            text = text[:found[name].start()] + text[found[name].end():]
-        return text.splitlines()
+                open_names += re.findall(rf"@({NAME})", found[name])
+        body = "\n".join(found[name] for name in sorted(kept, key=lambda it: (found[it][:1] != "@", found[it][:3] != "def", it.strip('"'))))
+        head = [line for line in lines if line.startswith("target ")]
+        ends = dict(re.findall(r"^(attributes #\d+|!\d+) = (.*)$", text, re.M))
+        for pattern, form, line in ((r"(?<= )#\d+\b", "#{}", "attributes {}"), (r"(?<![\w!])!\d+\b", "!{}", "{}"), (r"@static\.\d+\b", "@static.{}", "")):
+            order = list(dict.fromkeys(re.findall(pattern, body)))
+            body = re.sub(pattern, lambda it: form.format(order.index(it[0])), body)
+            body += "".join(f"\n{line.format(form.format(number))} = {ends[line.format(it)]}\n" for number, it in enumerate(order) if line)
+        return [*head, "", *body.splitlines()]
 
     def head(self, line, name):
         """Returns the first line of a function, which C programs call or do not."""

@@ -8,9 +8,12 @@ written here a second time, and share no code with lower.py.
 Numbers of 128 bits: the lines of dist/bpf/pie_c.ll that compute a product and a quotient, and pie_div_low of dist/bpf/division.h, are compiled for this
 processor, and wide_numbers.c compares their results with gcc's __int128: 20 million random cases, and all pairs of odd ones.
 
-Faults are planted in both: each must be found.
+Decisions: bpf_calls.c makes 10 million random calls of dist/bpf/pie_c.ll, compiled for this processor, and of dist/'s assembly, over the ranges of all
+parameters, with each profile and all choices. The results must be equal.
 
-usage: tests/libraries/bpf.py [CASES]
+Faults are planted in each: they must be found.
+
+usage: tests/libraries/bpf.py [CASES [CALLS]]
 needs: library
 """
 import re
@@ -25,7 +28,6 @@ from checks import NAME, ROOT, check, finish  # noqa: E402
 
 CALLS = {"pie_open", "pie_arrive_event", "pie_depart_event", "pie_empty_event", "pie_update_event", "pie_reset_event", "pie_set_params_event", "pie_due", "pie_check_params"}
 WORD = r'(?:"[^"]*"|[\w.$-]+)'
-HEAD = re.compile(rf"define [^@]*@({WORD})\(")
 SPLIT = """$.al = trunc i128 ONE to i64
 $.as = lshr i128 ONE, 64
 $.ah = trunc i128 $.as to i64
@@ -69,6 +71,9 @@ FAULTS = [(r"(\.c2 = lshr i64 \S+), 32", r"\1, 31"), (r"\.m3 = add", ".m3 = sub"
           (r" = add i64 (%r\d+), (%r\d+)\n", r" = sub i64 \1, \2\n"), (r"icmp ult", "icmp ule"), (r"alwaysinline nounwind", "nounwind"),
           (r"  ; call void @llvm.trap\(\)\n", ""), (r"define internal (noundef i64 @\"pie_aqm::raw::wait\")", r"define \1")]
 
+# faults of decisions: a line of the module, and its replacement
+DECISIONS = [("%r13 = shl i128 %r12, 64", "%r13 = shl i128 %r12, 63"), ("  %r13 = mul i64 %r12, 98\n", "  %r13 = mul i64 %r12, 97\n")]
+
 
 def run(words, text=None):
     return subprocess.run(list(map(str, words)), input=text, cwd=ROOT, stdout=subprocess.PIPE, stderr=subprocess.STDOUT, text=True, check=False)
@@ -80,13 +85,17 @@ def module_text(module):
 
 
 def by_function(text):
-    """Returns the lines of each function, and of what is outside of functions."""
-    found, name = {"": []}, ""
+    """Returns the lines of each function, declaration and target. Instead of a number of attributes, metadata or a constant, a line has its text."""
+    numbered = dict(re.findall(r"^(?:attributes )?([#!@][\w.]+) = (.*)$", text, re.M))
+    found, name = {}, ""
     for line in text.splitlines():
-        head = HEAD.match(line)
-        name = head[1] if head else name
+        line = line.split(" ; preds = ")[0].rstrip()
+        if not line or line.startswith((";", "source_filename", "attributes ", "!", "@")):
+            continue
+        line = re.sub(r"(?<= )#\d+|(?<![\w!])!\d+|@static\.\d+", lambda it: numbered[it[0]], line)
+        head = re.match(rf"(?:define|declare) [^@]*@({WORD})\(|target (\w+)", line)
+        name = head and (head[1] or head[2]) or name
         found.setdefault(name, []).append(line)
-        name = "" if line == "}" else name
     return found
 
 
@@ -125,43 +134,26 @@ def undone(lines):
     return made
 
 
+def lowered_head(name, line):
+    """Returns the first line of a function or a declaration as it should be."""
+    if name not in CALLS:
+        line = re.sub(r"^define (?!internal )", "define internal ", line)
+    return re.sub(r'\{ [^{}]*"target-cpu"="x86-64-v2" \}', '{ alwaysinline nounwind "target-cpu"="v4" }', line).replace(" captures(none)", " nocapture")
+
+
 def differences(before, after):
     """Returns the lines of the lowered module that should not be as they are."""
     was, now, found = by_function(before), by_function(after), []
-    wanted = used(was)
-    if CALLS - now.keys():
-        found.append(f"without {', '.join(sorted(CALLS - now.keys()))}")
-    if [it for it in was if it in wanted] != [it for it in now if it]:
-        found.append("other functions, or in another order")
-    for name in wanted & now.keys():
-        head = was[name][0] if name in CALLS else re.sub(r"^define (?!internal )", "define internal ", was[name][0])
-        one, two = [head, *was[name][1:]], undone(now[name])
+    wanted = used(was) | {"triple", "datalayout", "pie_div_low"}
+    was |= {"triple": ['target triple = "bpf"'], "datalayout": ['target datalayout = "e-m:e-p:64:64-i64:64-i128:128-n32:64-S128"'],
+            "pie_div_low": ["declare i64 @pie_div_low(i64, i64, i64)"]}
+    if wanted != now.keys():
+        found.append(f"without {sorted(wanted - now.keys())}, and with {sorted(now.keys() - wanted)}")
+    for name in sorted(wanted & now.keys()):
+        one, two = [lowered_head(name, was[name][0]), *was[name][1:]], undone(now[name])
         found += [f"{name}: {a.strip()} became {b.strip()}" for a, b in zip(one, two) if a != b]
         found += [f"{name}: {len(one)} lines became {len(two)}"] * (len(one) != len(two))
-    return found + differences_outside(was[""], now[""], "\n".join(line for name in wanted & was.keys() for line in was[name]))
-
-
-def differences_outside(was, now, text):
-    """Returns the lines outside of functions that should not be as they are. `text` is that of all functions."""
-    names = set(re.findall(rf"@({WORD})", text))
-    lines = []
-    for line in filter(None, was):
-        named = re.match(rf"(?:@|declare [^@]*@)({WORD})", line)
-        if named and named[1] not in names:
-            continue
-        if line.startswith("attributes ") and "target-cpu" in line:
-            number = line.split()[1]
-            line = f'attributes {number} = {{ alwaysinline nounwind "target-cpu"="v4" }}'
-        lines.append(line.replace(" captures(none)", " nocapture"))
-        if line.startswith("declare void @llvm.trap()"):
-            lines.append("declare i64 @pie_div_low(i64, i64, i64)")
-    now = list(filter(None, now))
-    skip = ("target datalayout", "target triple", "; ModuleID", "source_filename")
-    one, two = [it for it in lines if not it.startswith(skip)], [it for it in now if not it.startswith(skip)]
-    found = [f"outside of functions: {a} became {b}" for a, b in zip(one, two) if a != b]
-    if 'target triple = "bpf"' not in now or not any(it.startswith('target datalayout = "e-') for it in now):
-        found.append("another triple, or big-endian numbers")
-    return found + ["other lines outside of functions"] * (len(one) != len(two))
+    return found
 
 
 def group(text, kind):
@@ -188,6 +180,17 @@ def numbers(text, work, cases):
     return done.stdout or run([f"{work}/numbers", cases]).stdout
 
 
+def calls(text, work, count):
+    """Compares random calls of the module with those of libpie_c.a. Returns what bpf_calls.c prints, or the error."""
+    text = re.sub(r"^target datalayout = .*$", "", text.replace('target triple = "bpf"', 'target triple = "x86_64-unknown-linux-gnu"'), flags=re.M)
+    text = re.sub(r"@(pie_(?!div_low)\w+)", r"@bpf_\1", text.replace('"target-cpu"="v4"', ""))
+    done = run(["clang-19", "-O2", "-w", "-x", "ir", "-", "-c", "-o", f"{work}/calls.o"], text)
+    if done.returncode:
+        return done.stdout
+    words = ["gcc", "-O2", "-Wall", "-Wextra", "-Werror", "-Iinclude", "-Idist/bpf", "-o", f"{work}/calls", "tests/libraries/bpf_calls.c", f"{work}/calls.o", "dist/x86_64/pie_c.S"]
+    return run(words).stdout or run([f"{work}/calls", count]).stdout
+
+
 def main():
     cases = sys.argv[1] if len(sys.argv) > 1 else "20000000"
     module = ROOT / "crates/pie_c/out/pie_c.bc"
@@ -203,6 +206,11 @@ def main():
         for pattern, replacement in FAULTS[:FAULTS.index(None)]:
             wrong = re.sub(pattern, replacement, text)
             check(wrong != text and not numbers(wrong, work, "100000").startswith("equal: "), f"wide_numbers.c does not find the fault {pattern}")
+        found = calls(text, work, sys.argv[2] if len(sys.argv) > 2 else "10000000")
+        check(found.startswith("equal: "), f"decisions: {found}")
+        print(f"{NAME}: decisions: {found.strip()}")
+        for old, new in DECISIONS:
+            check(text.count(old) == 1 and not calls(text.replace(old, new), work, "200000").startswith("equal: "), f"bpf_calls.c does not find {new}")
         if not module.exists():
             print(f"NOT RUN: {NAME}: no {module.relative_to(ROOT)} here (bindings/c/library.py writes it), so the lowering was not compared")
             finish()
@@ -216,7 +224,7 @@ def main():
         for pattern, replacement in filter(None, FAULTS):
             wrong = re.sub(pattern, replacement, now, count=1)
             check(wrong != now and differences(before, wrong), f"the comparison does not find the fault {pattern}")
-        print(f"{NAME}: {len(by_function(now)) - 1} functions are the module's; {len(FAULTS) - 1} planted faults are found")
+        print(f"{NAME}: {sum(it[0].startswith('define') for it in by_function(now).values())} functions are the module's; {len(FAULTS) - 1} planted faults are found")
     finish()
 
 

@@ -27,7 +27,7 @@ MACHINE := $(filter-out %gnux32 %ilp32,$(foreach it,$(shell $(CC) -dumpmachine),
 PROCESSOR ?= $(strip $(foreach it,x86_64 aarch64 riscv64 mipsel,$(if $(filter $(it)-%,$(MACHINE)),$(it))) \
 	$(if $(filter arm-% armv7-% armv7l-% armv7a-%,$(MACHINE)),armv7))
 ifeq ($(PROCESSOR)$(filter clean,$(MAKECMDGOALS)),)
-$(error no assembly in dist/ for the machine of $(CC), $(or $(shell $(CC) -dumpmachine),which prints none): dist/ has $(notdir $(patsubst %/,%,$(wildcard dist/*/))), \
+$(error no assembly in dist/ for the machine of $(CC), $(or $(shell $(CC) -dumpmachine),which prints none): dist/ has $(notdir $(patsubst %/pie_c.S,%,$(wildcard dist/*/pie_c.S))), \
 for Linux; big-endian processors are not supported)
 endif
 PIE_C_S ?= dist/$(PROCESSOR)/pie_c.S
@@ -212,7 +212,8 @@ crate: | $(BUILD)
 	rm -rf $(BUILD)/crate
 	mkdir -p $(BUILD)/crate/assembly
 	cp -r $(filter-out bindings/rust/target,$(wildcard bindings/rust/*)) $(BUILD)/crate
-	for it in dist/*/; do mkdir "$(BUILD)/crate/assembly/$$(basename "$$it")" && cp "$$it"*.S "$(BUILD)/crate/assembly/$$(basename "$$it")" || exit 1; done
+	for it in $(patsubst %/pie_c.S,%,$(wildcard dist/*/pie_c.S)); do mkdir "$(BUILD)/crate/assembly/$$(basename "$$it")" && \
+		cp "$$it"/*.S "$(BUILD)/crate/assembly/$$(basename "$$it")" || exit 1; done
 	cp $(PIE_C_S) $(PIE_LINK_C_S) $(BUILD)/crate/assembly/$(PROCESSOR)
 	cp dist/heap.c dist/runtime.h $(BUILD)/crate/assembly
 

@@ -13,9 +13,9 @@ the following lines of it change, and tests/libraries/processors.py compares the
 
 A line that none of these rules covers, and whose meaning depends on the layout, is an error.
 
-usage: dist/lower.py TARGET MODULE OUT      TARGET: x86_64, aarch64, riscv64, armv7 or mipsel
+usage: dist/lower.py TARGET MODULE OUT      TARGET: x86_64, aarch64, riscv64, armv7, mipsel or bpf
                                             MODULE: bitcode, as bindings/c/library.py writes it to crates/CRATE/out/CRATE.bc
-                                            OUT: assembly; if the name ends in .ll, the changed module as text"""
+                                            OUT: assembly; if the name ends in .ll, as for bpf, the changed module as text"""
 import os
 import re
 import shutil
@@ -61,7 +61,10 @@ TARGETS = {
                     "-march=armv7-a -mfpu=vfpv3-d16 -mllvm -expand-div-rem-bits=64", 32, NARROW),
     "mipsel": Target("mipsel-unknown-linux-gnu", '"target-cpu"="mips32r2" "target-features"="+mips32r2,+fpxx,+nooddspreg,-noabicalls"',
                      "-march=mips32r2 -mllvm -expand-div-rem-bits=64", 32, NARROW, compiler="clang-19"),
+    "bpf": Target("bpf", '"target-cpu"="v4"', compiler="clang-19"),
 }
+# the functions that BPF programs call
+CALLS = "pie_open pie_arrive_event pie_depart_event pie_empty_event pie_update_event pie_reset_event pie_set_params_event pie_due pie_check_params".split()
 
 
 def toolchain():
@@ -293,6 +296,107 @@ class Words:
         return f"{match[1]}<{{ {', '.join(kinds)} }}> <{{ {', '.join(values)} }}>{match[3]}"
 
 
+# ---- BPF, which has no products and quotients of 128 bits
+
+class Verified:
+    """The rules for BPF."""
+
+    def used(self, lines):
+        """Returns the lines of the functions, declarations and constants that CALLS use, each kind in the order of the names. Numbers of attributes, metadata and
+        constants are given anew, so that the functions that are left out change nothing."""
+        text = "\n".join(lines) + "\n"
+        found = {it[1]: it[0] for it in re.finditer(rf"^define [^@\n]*@({NAME})\([^\n]*\n(?:(?!\}}).*\n)*\}}\n", text, re.M)}
+        found |= {it[1]: it[0] for it in re.finditer(rf"^(?:@|declare [^@\n]*@)({NAME})(?: = |\().*\n", text, re.M)}
+        kept, open_names = set(), list(CALLS)
+        while open_names:
+            name = open_names.pop()
+            if name in found and name not in kept:
+                kept.add(name)
+                open_names += re.findall(rf"@({NAME})", found[name])
+        body = "\n".join(found[name] for name in sorted(kept, key=lambda it: (found[it][:1] != "@", found[it][:3] != "def", it.strip('"'))))
+        head = [line for line in lines if line.startswith("target ")]
+        ends = dict(re.findall(r"^(attributes #\d+|!\d+) = (.*)$", text, re.M))
+        for pattern, form, line in ((r"(?<= )#\d+\b", "#{}", "attributes {}"), (r"(?<![\w!])!\d+\b", "!{}", "{}"), (r"@static\.\d+\b", "@static.{}", "")):
+            order = list(dict.fromkeys(re.findall(pattern, body)))
+            body = re.sub(pattern, lambda it: form.format(order.index(it[0])), body)
+            body += "".join(f"\n{line.format(form.format(number))} = {ends[line.format(it)]}\n" for number, it in enumerate(order) if line)
+        return [*head, "", *body.splitlines()]
+
+    def head(self, line, name):
+        """Returns the first line of a function, which C programs call or do not."""
+        return line if name in CALLS else re.sub(r"^define (?!internal )", "define internal ", line)
+
+    def outside(self, line):
+        """Returns the line that replaces a line outside of functions."""
+        if line.startswith("attributes ") and '"target-cpu"' in line:
+            line = re.sub(r" (?:alwaysinline|noinline)\b", "", line).replace("{ nounwind", "{ alwaysinline nounwind")
+            return re.sub(r' "(?:probe-stack|stack-probe-size)"="[^"]*"', "", line)
+        if line.startswith("declare void @llvm.trap()"):
+            return f"{line}\ndeclare i64 @pie_div_low(i64, i64, i64)"
+        return line
+
+    def function(self, lines):
+        """Returns the lines that replace those of a function."""
+        return [it for at, line in enumerate(lines) for it in self.line(line, lines[:at])]
+
+    def line(self, line, before):
+        """Returns the lines that replace a line; `before` are the lines of the function before it."""
+        if line == "  call void @llvm.trap()":
+            return ["  ; call void @llvm.trap()"]
+        match = re.fullmatch(r"  (%\S+) = (mul|udiv) i128 (\S+), (\S+)", line)
+        if not match:
+            if re.search(r"= (?:mul|[us]div|[us]rem) .*i128|\.i128\(", line):
+                raise Stop(f"an operation of 128 bits that is not known: {line}")
+            return [line]
+        name, kind, one, two = match.groups()
+        if kind == "mul":
+            return product(name, one, two)
+        if two.isdigit():
+            if int(two) & (int(two) - 1):
+                raise Stop(f"a divisor that is no power of two: {line}")
+            return [line]
+        if not has_64_bits(two, before):
+            raise Stop(f"a divisor that may have more than 64 bits: {line}")
+        return quotient(name, one, two)
+
+
+def has_64_bits(value, before):
+    """Returns true if the value was loaded from a place to which the lines before last stored a converted number of 64 or 32 bits."""
+    text = "\n".join(before)
+    place = re.search(rf"^  {re.escape(value)} = load i128, ptr (%\S+), ", text, re.M)
+    stored = place and re.findall(rf"^  store i128 (%\S+), ptr {re.escape(place[1])}, ", text[:place.start()], re.M)
+    return bool(stored and re.search(rf'^  {re.escape(stored[-1])} = call i128 @"core::convert::wide::U128FromU(?:32|64)::from"\(', text, re.M))
+
+
+def halves(name, value, letter):
+    """Returns the lines that split a number of 128 bits into two of 64 bits."""
+    return [f"  {name}.{letter}l = trunc i128 {value} to i64", f"  {name}.{letter}s = lshr i128 {value}, 64", f"  {name}.{letter}h = trunc i128 {name}.{letter}s to i64"]
+
+
+def joined(name, high, low):
+    """Returns the lines that join two numbers of 64 bits."""
+    return [f"  {name}.jh = zext i64 {high} to i128", f"  {name}.js = shl i128 {name}.jh, 64", f"  {name}.jl = zext i64 {low} to i128",
+            f"  {name} = or i128 {name}.js, {name}.jl"]
+
+
+def product(name, one, two):
+    """Returns the lines of the product modulo 2^128. Of the lower halves, each with the digits h and l of 32 bits, it is computed from four products."""
+    steps = """adl = and i64 .al, 4294967295; adh = lshr i64 .al, 32; bdl = and i64 .bl, 4294967295; bdh = lshr i64 .bl, 32
+        ll = mul i64 .adl, .bdl; lh = mul i64 .adl, .bdh; hl = mul i64 .adh, .bdl; hh = mul i64 .adh, .bdh
+        c1 = lshr i64 .ll, 32; m1 = add i64 .hl, .c1; m2 = and i64 .m1, 4294967295; m3 = add i64 .lh, .m2
+        c2 = lshr i64 .m1, 32; c3 = lshr i64 .m3, 32; u1 = add i64 .hh, .c2; u2 = add i64 .u1, .c3
+        low = mul i64 .al, .bl; x1 = mul i64 .ah, .bl; x2 = mul i64 .al, .bh; u3 = add i64 .u2, .x1; high = add i64 .u3, .x2"""
+    made = [f"  {name}.{re.sub(r'(?<= )[.]', name + '.', it.strip())}" for it in re.split(r"[;\n]", steps)]
+    return [*halves(name, one, "a"), *halves(name, two, "b"), *made, *joined(name, f"{name}.high", f"{name}.low")]
+
+
+def quotient(name, one, two):
+    """Returns the lines of the quotient by a number of 64 bits."""
+    return [*halves(name, one, "a"), f"  {name}.by = trunc i128 {two} to i64", f"  {name}.high = udiv i64 {name}.ah, {name}.by",
+            f"  {name}.rest = urem i64 {name}.ah, {name}.by", f"  {name}.low = call i64 @pie_div_low(i64 {name}.rest, i64 {name}.al, i64 {name}.by)",
+            *joined(name, f"{name}.high", f"{name}.low")]
+
+
 # ---- Calls from and to C
 
 def signatures():
@@ -333,6 +437,9 @@ class Lowering:
     def __init__(self, text, target):
         self.target, self.lines = target, text.splitlines()
         self.words = Words() if target.bits == 32 else None
+        self.verified = Verified() if target is TARGETS["bpf"] else None
+        if self.verified:
+            self.lines = self.verified.used(self.lines)
         self.foreign = set(re.findall(rf"^declare [^@\n]*@((?!llvm\.)\w+)\(", text, re.M))
         # syscall, and functions that pass their first argument to it
         self.through = {"syscall", *re.findall(r'^define [^@\n]*@"?([^"(\n]*)"?\(i64 [^{]*\{\nstart:\n(?:(?!\}).*\n)*?.*@syscall\(i64 %a0,', text, re.M)}
@@ -363,6 +470,7 @@ class Lowering:
         if line.startswith("attributes "):
             if "target-features" in line:
                 raise Stop(f"features of the processor: {line}")
+            line = self.verified.outside(line) if self.verified else line
             # (main, which tests the processor, is for any x86-64)
             return line.replace(CPU, self.target.cpu).replace('"target-cpu"="x86-64"', self.target.cpu)
         if line.startswith("declare "):
@@ -370,6 +478,7 @@ class Lowering:
             if self.target.compiler:
                 # (the name of this attribute in LLVM 19)
                 line = line.replace(" captures(none)", " nocapture")
+            line = self.verified.outside(line) if self.verified else line
             return border(line, name, self.target) if name in self.foreign else line
         if line.startswith("@") and self.words:
             return self.words.constant(line)
@@ -378,10 +487,13 @@ class Lowering:
     def function(self, lines):
         """Returns the lines that replace a function."""
         head = re.match(rf"define ((?:[a-z_]+ )*)(.*?) ?@({NAME})\((.*)\) (.*)\{{", lines[0])
-        is_ours = "internal" not in head[1].split()
         made = lines
+        if self.verified:
+            made = self.verified.function([self.verified.head(lines[0], head[3]), *lines[1:]])
+            head = re.match(rf"define ((?:[a-z_]+ )*)(.*?) ?@({NAME})\((.*)\) (.*)\{{", made[0])
+        is_ours = "internal" not in head[1].split()
         if is_ours:
-            made = self.export(head[3], lines)
+            made = self.export(head[3], made)
         return [made[0], *[it for line in made[1:] for it in self.inside(line)]]
 
     def export(self, name, lines):

@@ -1,7 +1,7 @@
 #!/usr/bin/env bash
 # Makes dist/ anew from the committed crates: the assembly of pie_c, pie_link_c and pie for each
-# processor, MANIFEST, and new lines of abi.txt. It needs the toolchain (rt), and Debian's clang-19 for
-# mipsel. Proofs that `rt ci`, `rt lib` or `rt check` left are used. The three crates themselves are
+# processor, the module of pie_c for BPF, MANIFEST, and new lines of abi.txt. It needs the toolchain (rt), and
+# Debian's clang-19 for mipsel and BPF. Proofs that `rt ci`, `rt lib` or `rt check` left are used. The three crates themselves are
 # proved again, unless bindings/c/library.py has just proved them. lower.py lowers the module of each
 # crate for the other processors. Links and the program need 64-bit words (docs/DECISIONS.md).
 #
@@ -47,6 +47,7 @@ lowered riscv64 pie_c pie_link_c pie
 lowered armv7 pie_c
 lowered mipsel pie_c
 wait "$first"
+dist/lower.py bpf crates/pie_c/out/pie_c.bc "$work/pie_c.ll"
 mkdir -p "$work/x86_64"
 for crate in pie_c pie_link_c pie; do
     cp "crates/$crate/out/$crate.S" "$work/x86_64/"
@@ -60,12 +61,14 @@ for target in x86_64 aarch64 riscv64 armv7 mipsel; do
     rm -f "$work/$target/pie.S"
     cp "$work/$target"/*.S "dist/$target/"
 done
+mkdir -p dist/bpf
+cp "$work/pie_c.ll" dist/bpf/
 {
     echo "version $(sed -n 's/^#define PIE_VERSION "\(.*\)"$/\1/p' include/pie.h)"
     echo "commit $(git rev-list -1 HEAD -- crates crates.txt)"
     echo "crates $(git rev-parse HEAD:crates)"
     echo "rt $(rt version)"
     echo "mipsel $(clang-19 --version | head -n 1)"
-    (cd dist && sha256sum -- */*.S */*.xz | sort -k 2)
+    (cd dist && sha256sum -- */*.S */*.xz bpf/* | sort -k 2)
 } > dist/MANIFEST
 cat dist/MANIFEST

@@ -1,0 +1,219 @@
+#!/bin/busybox sh
+# The first process of the kernel that boot.sh boots. guest_net.sh describes the network: the queue of most tests is on rb in the namespace r.
+. /net.sh
+begins
+loads veth sch_netem sch_htb
+finds_disk
+$box mount -t bpf bpf /bpf
+$box sysctl -q -w net.ipv6.conf.default.disable_ipv6=1
+connects 4
+/bin/tc -n b qdisc add dev b0 root netem delay 10ms limit 10000
+/bin/ip netns exec b /bin/iperf3 -s -D
+/bin/ip netns exec b /bin/iperf3 -s -D -p 5202
+/bin/ip netns exec a /bin/iperf3 -s -D -p 5203
+program=/bin/pie-qdisc
+
+# within NAMESPACE WORDS..: pie-qdisc in a namespace; q WORDS..: in that of the queue
+within() {
+    where=$1
+    shift
+    /bin/ip netns exec $where $program --pins /bpf/pie "$@"
+}
+q() {
+    within r "$@"
+}
+
+# attaches WORDS..: adds a queue
+attaches() {
+    q attach "$@" || echo "FAILED attach $*"
+}
+
+# records NAME WORDS..: records in the background, from before the first packet
+records() {
+    name=$1
+    shift
+    q record "$@" > /tmp/$name.history 2> /tmp/$name.said &
+    reader=$!
+    $box sleep 0.1
+}
+
+# keeps NAME NAMESPACE DEVICE: keeps the statistics of the kernel and of pie-qdisc while no packet comes
+keeps() {
+    $box sleep 0.5
+    /bin/tc -n $2 -s -j qdisc show dev $3 > /tmp/$1.tc
+    within $2 show $3 --json > /tmp/$1.show
+}
+
+# ends STATUS: ends the reader, which has this status
+ends() {
+    $box kill $reader
+    wait $reader
+    status=$?
+    [ $status = $1 ] || echo "FAILED: the reader of $name has status $status: $($box cat /tmp/$name.said)"
+}
+
+# tcp BYTES [WORDS..]: TCP in four flows; udp RATE SECONDS: datagrams
+tcp() {
+    bytes=$1
+    shift
+    /bin/ip netns exec a $box timeout 300 /bin/iperf3 -c 10.0.2.1 -P 4 -n $bytes -f m "$@" > /tmp/said 2>&1 || echo "FAILED tcp: $($box tail -n 3 /tmp/said)"
+}
+udp() {
+    /bin/ip netns exec a $box timeout 300 /bin/iperf3 -c 10.0.2.1 -p 5202 -u -b $1 -t $2 -l 1200 > /tmp/said.udp 2>&1 || echo "FAILED udp: $($box tail -n 3 /tmp/said.udp)"
+}
+
+# refuses TEXT WORDS..: pie-qdisc with these words fails with this text
+refuses() {
+    text=$1
+    shift
+    if q "$@" > /tmp/refused 2>&1 || ! $box grep -q -e "$text" /tmp/refused; then
+        echo "FAILED: not refused: $*: $($box cat /tmp/refused)"
+    fi
+    $box echo "TOLD refused: $* ($($box head -n 1 /tmp/refused))"
+}
+
+q verify > /tmp/verified || echo "FAILED verify"
+
+# no queue yet, and words that are wrong
+refuses 'no queue is attached' show
+refuses 'no such option' attach rb limits 10
+refuses 'out of range' attach rb target 20s
+refuses 'from 1 to 4096' attach rb limit 4097
+refuses 'not a number' attach rb rate 20
+
+# TCP and UDP through 10 Mbit/s; a reader that comes late, and one that is killed
+attaches rb rate 10mbit
+records flows rb
+tcp 400K &
+sender=$!
+udp 4M 1
+wait $sender
+keeps flows r rb
+ends 0
+q show
+records killed rb
+tcp 100K &
+sender=$!
+$box sleep 0.3
+$box kill -9 $reader
+$box sleep 0.3
+records again rb
+wait $sender
+tcp 100K
+keeps again r rb
+ends 0
+
+# changed parameters and another rate, while packets are queued
+records changed rb
+tcp 200K &
+sender=$!
+$box sleep 0.3
+q change rb target 5ms tupdate 10ms rate 5mbit || echo "FAILED change"
+$box sleep 0.3
+q change rb alpha 4 beta 30 max_burst 10ms || echo "FAILED change"
+wait $sender
+keeps changed r rb
+ends 0
+refuses 'cannot change' change rb limit 10
+
+# a ring buffer that is too small for the pauses of its reader: each excerpt is clean, and the lost events are counted
+q record rb -o /tmp/small.part --ring 4096 2> /tmp/small.said &
+reader=$!
+$box sleep 0.1
+q show rb --json > /tmp/small.before
+tcp 100K
+$box sleep 0.1
+tcp 100K
+keeps small r rb
+name=small
+ends 2
+
+# detached under traffic: the record ends with the departures and the reset
+records detached rb
+/bin/ip netns exec a $box ping -q -i 0.001 -s 1400 -c 800 10.0.2.1 > /dev/null &
+sender=$!
+$box sleep 0.5
+q detach rb || echo "FAILED detach"
+wait $reader $sender
+$box grep -q '^reset,' /tmp/detached.history || echo "FAILED: detached has no reset"
+[ ! -e /bpf/pie ] || echo "FAILED: the pins of unused programs stay"
+
+# limits by packets and bytes; the other profile; all choices; two devices at once
+attaches rb rate 2mbit limit 20
+records packets rb
+within r attach ra rate 20mbit on_off random uncapped decay_half bytemode dq_rate_estimator dq_threshold 2048 limit_bytes 30000 || echo "FAILED attach ra"
+q record ra > /tmp/choices.history 2> /tmp/choices.said &
+second=$!
+$box sleep 0.1
+udp 4M 1 &
+sender=$!
+(/bin/ip netns exec b $box timeout 300 /bin/iperf3 -c 10.0.1.1 -p 5203 -u -b 30M -t 1 -l 1200 > /tmp/said.back 2>&1 || echo "FAILED back: $($box tail -n 2 /tmp/said.back)") &
+back=$!
+tcp 100K
+wait $sender $back
+keeps packets r rb
+keeps choices r ra
+ends 0
+$box kill $second
+wait $second || echo "FAILED: the reader of choices"
+/bin/tc -n r -s qdisc show dev ra
+q show
+q detach ra
+q detach rb
+
+# by tc alone, with the defaults: no shaper, so no queue. The kernel refuses it below htb
+attaches ra
+/bin/tc -n r qdisc add dev rb root bpf_pie || echo "FAILED tc"
+records plain rb
+tcp 1M
+keeps plain r rb
+ends 0
+/bin/tc -n r qdisc del dev rb root
+/bin/tc -n r qdisc add dev rb root handle 1: htb default 1
+/bin/tc -n r class add dev rb parent 1: classid 1:1 htb rate 10mbit
+refuses 'only supported on root or mq' attach rb parent 1:1
+/bin/tc -n r qdisc del dev rb root
+
+# four queues below mq
+attaches rb mq rate 3mbit
+for child in 1 2 3 4; do
+    q record rb parent 1:$child > /tmp/mq$child.history 2> /tmp/mq$child.said &
+done
+$box sleep 0.2
+tcp 300K
+udp 2M 1
+keeps mq r rb
+for pid in $($box pidof pie-qdisc); do $box kill $pid; done
+wait
+q detach rb || echo "FAILED detach mq"
+q detach ra
+
+# segments of 64 KiB over lo
+within b attach lo rate 200mbit || echo "FAILED attach lo"
+(within b record lo > /tmp/segments.history 2> /tmp/segments.said) &
+$box sleep 0.1
+/bin/ip netns exec b $box timeout 300 /bin/iperf3 -c 127.0.0.1 -n 2M -f m > /tmp/said 2>&1 || echo "FAILED lo"
+keeps segments b lo
+for pid in $($box pidof pie-qdisc); do $box kill $pid; done
+wait
+[ "$($box grep -c '^arrive,.*,65[0-9][0-9][0-9],' /tmp/segments.history)" -gt 5 ] || echo "FAILED: no segment of 64 KiB"
+within b detach lo
+
+# programs with one fault each
+for fault in $($box cat /mods/mutants); do
+    program=/bin/pie-qdisc-$fault
+    attaches rb rate 5mbit
+    records mutant_$fault rb
+    tcp 150K &
+    sender=$!
+    udp 4M 1
+    wait $sender
+    keeps mutant_$fault r rb
+    ends 0
+    q detach rb
+done
+cd /tmp
+$box tar -cf /dev/vda *
+$box echo "TOLD simulated: $($box cut -d' ' -f1 /proc/uptime) s"
+$box echo ended
+$box poweroff -f

@@ -15,11 +15,11 @@ average, so the share is p / 1.85 (for small p). The controller is the update of
     ((alpha + beta) - beta e^-Ts) / Ts.
 The margins therefore depend on R and on the rate per flow, C / N.
 
-It also writes crates/pie_advise/src/margin_table.rt, from which `pie advise` reads: the least margins
-of all round-trip times and rates per flow up to given ones, rounded down.
+`pie advise` computes the margins of a link by the same model, in fixed-point numbers. Its test compares
+them with another computation (tests/program/advise.py).
 
-With --check nothing is written. The stored picture and table must equal those that this script makes,
-and the margins are compared with other methods:
+With --check nothing is written. The stored picture must equal the one that this script makes, and the
+margins are compared with other methods:
 
 - An integrator with a delay has its margins in closed form.
 - The frequency at which the loop's gain is 1 solves a cubic, if the controller is alpha and beta
@@ -28,7 +28,8 @@ and the margins are compared with other methods:
 - A stepwise simulation of the fluid model, which is not linear, with this project's rule in
   integers, must settle where the margins are positive, and oscillate where they are negative.
 
-The numbers in docs/GUARANTEES.md must be the computed ones.
+The numbers in docs/GUARANTEES.md must be the computed ones, rounded so that each sentence holds: least
+margins down, also those at the edges of the auto-tuning divisor.
 
 usage: docs/margins.py [--check]"""
 import cmath
@@ -43,9 +44,6 @@ PER_PICK = 1 + NEVER  # probability that adds up from pick to pick, on average
 TUNING = ((1e-6, 2048), (1e-5, 512), (1e-4, 128), (1e-3, 32), (1e-2, 8), (1e-1, 2))
 TRIPS = (0.01, 0.02, 0.05, 0.1, 0.2)
 RATES = [10 ** (place / 40) for place in range(-35, 81)]  # Mbit/s for each flow
-TABLE = Path(__file__).resolve().parent.parent / "crates/pie_advise/src/margin_table.rt"
-TABLE_TRIPS = (0.001, 0.01, 0.02, 0.05, 0.1, 0.2)  # the table has rows and columns for all of these but the first
-TABLE_RATES = (0.05, 0.1, 0.2, 0.5, 1, 2, 5, 10, 20, 50, 100, 200, 500, 1000)
 
 
 def divisor(prob):
@@ -106,55 +104,6 @@ def curve(trip, rates=RATES):
         share = share_at(rate, trip + TARGET)
         if share <= 0.5:
             yield rate, margins(Loop(trip + TARGET, share))
-
-
-def between(least, greatest, steps=12):
-    """Returns values from `least` to `greatest`, with equal ratios."""
-    return [least * (greatest / least) ** (step / steps) for step in range(steps + 1)]
-
-
-def lesser(*found):
-    """Returns the least of each of these margins; None if there are none."""
-    found = [both for both in found if both]
-    return (min(it[0] for it in found), min(it[1] for it in found)) if found else None
-
-
-def least_table():
-    """Returns a row for each round-trip time of the table, with the least margins for each rate per flow."""
-    rows = []
-    for trips in zip(TABLE_TRIPS, TABLE_TRIPS[1:]):
-        row = []
-        for place, rates in enumerate(zip(TABLE_RATES, TABLE_RATES[1:])):
-            here = [both for trip in between(*trips) for _, both in curve(trip, between(*rates))]
-            row.append(lesser(*here, rows[-1][place] if rows else None, row[-1] if row else None))
-        rows.append(row)
-    return rows
-
-
-def entry(both):
-    if both is None:
-        return "Margin::Outside"
-    return "Margin::Unstable" if min(both) < 0 else f"Margin::Stable({math.floor(both[0])}, {math.floor(both[1])})"
-
-
-def numbers(name, about, values, scale):
-    """Returns the source of a constant of whole numbers, as `rt fmt` lays it out."""
-    words = [f"{value * scale:_.0f}" for value in values]
-    begun = f"/// {about}\npub(crate) const {name}: [u64; {len(words)}] = ["
-    line = f"{begun}{', '.join(words)}];\n"
-    return line if len(line.splitlines()[1]) <= 100 else f"{begun}\n{''.join(f'    {word},{chr(10)}' for word in words)}];\n"
-
-
-def table():
-    """Returns the source of the table."""
-    rows = least_table()
-    entries = "".join(f"    {entry(both)},\n" for row in rows for both in row)
-    return (f"//! The margins of stability, written by docs/margins.py.\n\nuse crate::margin::Margin;\n\n"
-            f"{numbers('TRIPS', 'Round-trip times without the queue, in nanoseconds.', TABLE_TRIPS[1:], 1e9)}\n"
-            f"{numbers('RATES', 'Rates per flow, in bits per second.', TABLE_RATES[1:], 1e6)}\n"
-            "/// The least margins of all round-trip times and rates per flow up to those of the entry: for each round-trip time an\n"
-            "/// entry for each rate per flow.\n"
-            f"pub(crate) const MARGINS: [Margin; {len(rows) * len(rows[0])}] = [\n{entries}];\n")
 
 
 def drawn():
@@ -232,22 +181,46 @@ def packets_to_a_pick(prob):
     return mean
 
 
+def rates_at(trip, steps):
+    """Returns rates per flow over the width of the picture, in Mbit/s, and those just below, at and above each edge of the
+    auto-tuning divisor."""
+    rates = [10 ** (place / steps) for place in range(round(steps * math.log10(RATES[0])), 2 * steps + 1)]
+    edges = [math.sqrt(2 * PER_PICK / below) / (trip + TARGET) * PACKET / 1e6 for below, _ in TUNING]
+    return sorted([*rates, *(edge * part for edge in edges for part in (1 - 1e-9, 1 + 1e-9) if RATES[0] < edge < RATES[-1])])
+
+
 def least_margins(trip):
-    """Returns the least phase margin and the least gain margin of all rates that are drawn."""
-    found = [both for _, both in curve(trip)]
+    """Returns the least phase margin and the least gain margin of all rates in the picture."""
+    found = [both for _, both in curve(trip, rates_at(trip, 400))]
     return min(phase for phase, _ in found), min(gain for _, gain in found)
 
 
-def stable_up_to(trip):
-    """Returns the rate per flow, in Mbit/s, from which on the loop is not stable."""
-    return next(rate for rate, (phase, gain) in curve(trip, [10 ** (place / 4000) for place in range(-3500, 8001)]) if phase < 0 or gain < 0)
+def stable_ranges(trip):
+    """Returns the ranges of rates per flow, in Mbit/s, in which the loop is stable."""
+    ranges, was_stable = [], False
+    for rate, both in curve(trip, rates_at(trip, 4000)):
+        if min(both) >= 0:
+            ranges = [*ranges[:-1], (ranges[-1][0], rate)] if was_stable else [*ranges, (rate, rate)]
+        was_stable = min(both) >= 0
+    return ranges
+
+
+def up(number, places):
+    return math.ceil(number * 10 ** places) / 10 ** places
+
+
+def down(number, places):
+    return math.floor(number * 10 ** places) / 10 ** places
 
 
 def stated():
     """Returns the sentences of docs/GUARANTEES.md that contain computed numbers."""
     phase, gain = least_margins(0.05)
-    return (f"(at least {gain:.1f} dB and {phase:.1f} degrees at 50 ms)", f"stable up to {stable_up_to(0.1):.2f} Mbit/s per flow at 100 ms",
-            f"up to {stable_up_to(0.2):.2f} Mbit/s at 200 ms")
+    (_, low), (from_, to) = stable_ranges(0.1)
+    ((_, lowest),) = stable_ranges(0.2)
+    return (f"(at least {down(gain, 1):.1f} dB and {down(phase, 1):.1f} degrees at 50 ms)",
+            f"stable up to {down(low, 2):.2f} Mbit/s per flow at 100 ms, and from {up(from_, 2):.2f} to {down(to, 2):.2f} Mbit/s",
+            f"up to {down(lowest, 2):.2f} Mbit/s at 200 ms")
 
 
 def checks():
@@ -278,13 +251,9 @@ def checks():
 def main():
     is_check = sys.argv[1:] == ["--check"]
     keep("margins.svg", drawn(), is_check)
-    if not is_check:
-        TABLE.write_text(table())
-    else:
-        if TABLE.read_text() != table():
-            sys.exit(f"docs/margins.py: {TABLE} is not the table that this script writes")
+    if is_check:
         checks()
-        print("docs/margins.py: the stored picture and table are those that this script makes; other methods find the same margins, and simulations agree")
+        print("docs/margins.py: the stored picture is the one that this script makes; other methods find the same margins, and simulations agree")
 
 
 if __name__ == "__main__":

@@ -57,8 +57,13 @@ class Bar:
             print(f"\r{' ' * 80}\r", end="", file=sys.stderr, flush=True)
 
 
+def plain(line):
+    """Returns a line without control characters, which names of files may have: a terminal would obey them."""
+    return "".join(f"\\x{ord(it):02x}" if ord(it) < 32 or ord(it) == 127 else it for it in line)
+
+
 def tell(line):
-    print(f"pie-fleet: {line}", file=sys.stderr)
+    print(plain(f"pie-fleet: {line}"), file=sys.stderr)
 
 
 def listed(path):
@@ -149,7 +154,7 @@ def print_worst(rows, column):
     chosen = table.worst(rows, column)
     print(f"the greatest {column}:")
     for row in chosen:
-        print(f"  {row[column]:>16}  {row['link']}")
+        print(plain(f"  {row[column]:>16}  {row['link']}"))
 
 
 def main(words):
@@ -174,7 +179,7 @@ def main(words):
         page.write(asked.page, ended, asked.reports, asked.force)
     found = changes.changes(before, ended, asked.worse) if asked.since else []
     for line in found:
-        print(line)
+        print(plain(line))
     for column in asked.worst:
         print_worst(ended, column)
     for row in ended:

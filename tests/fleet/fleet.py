@@ -298,7 +298,7 @@ def run_alone(work, names):
 
 def run_named(work):
     """Checks names that are no text, of a pattern and of a list: each history has its row, with the bytes of its name."""
-    folder, links = f"{work}/named", [b"caf\xe9", b"\xff\xfe\xfd", "caf\u00e9".encode(), b"a b, 'c' \"d\"", b"-x", b"new\nline"]
+    folder, links = f"{work}/named", [b"caf\xe9", b"\xff\xfe\xfd", "caf\u00e9".encode(), b"a b, 'c' \"d\"", b"-x", b"new\nline", b"esc\x1b[1m"]
     os.mkdir(folder)
     names = [os.path.join(os.fsencode(folder), link + b".history") for link in links]
     for name in names:
@@ -310,12 +310,13 @@ def run_named(work):
     with open(f"{work}/named.csv", "rb") as text:
         bytes_of_table = text.read()
     rows = list(csv.DictReader(bytes_of_table.decode(errors="surrogateescape").splitlines(keepends=True)))
-    check("names that are no text", {os.fsencode(row["path"]) for row in rows} == set(names) and len(rows) == 8, rows)
+    check("names that are no text", {os.fsencode(row["path"]) for row in rows} == set(names) and len(rows) == 9, rows)
     check("names that are no text: clean", all(row["finding"] == "clean" for row in rows), rows)
     check("names that are no text: the worst", b"caf\xe9.history" in os.fsencode(told), told)
+    check("names with control characters", "new\\x0aline.history\n" in told and "esc\\x1b[1m.history\n" in told and "\x1b" not in told, told)
     with open(f"{work}/named.html", encoding="utf-8") as text:
         page = text.read()
-    check("names that are no text: the page", page.count("<tr") == 9 and "\\xff\\xfe\\xfd.history" in page and "caf\ufffd.history" in page, page)
+    check("names that are no text: the page", page.count("<tr") == 10 and "\\xff\\xfe\\xfd.history" in page and "caf\ufffd.history" in page, page)
     # an unchanged file keeps its row, also in the table of the next day
     fleet(f"{folder}/*.history", "-o", f"{work}/again.csv", "--since", f"{work}/named.csv", "--pie", PROGRAM, status=0)
     check("names that are no text: the next day", all(os.fsdecode(name) in table(f"{work}/again.csv") for name in names))

@@ -14,6 +14,7 @@ needs: program
 """
 import base64
 import csv
+import gzip
 import hashlib
 import io
 import json
@@ -95,7 +96,7 @@ def broken(folder):
     at = next(place for place in range(600, len(lines)) if lines[place].endswith(",enqueue\n"))
     texts = {
         "differs": (2, "".join([*lines[:at], lines[at].replace(",enqueue\n", ",early\n"), *lines[at + 1 :]]), str(at)),
-        "fault": (1, "".join([*lines[:700], "nonsense\n"]), "record 701"),
+        "fault": (1, "".join([*lines[:700], "nonsense\n"]), f"pie-report: {folder}/fault.history: record 701: unknown kind; line 701, field 1 (kind): \"nonsense\"; allowed are "),
         "hostile": (1, "".join([*lines[:700], f"arrive,1,{HOSTILE},1,1250,not,7,enqueue\n"]), "record 701"),
         "hostile words": (1, "".join([*lines[:700], f"arrive,1,999999999,1,1250,{HOSTILE},7,{HOSTILE}\n"]), "record 701"),
         "no events": (0, lines[0], ""),
@@ -257,8 +258,11 @@ def files(folder):
                         (("--pie", f"{folder}/none"), "cannot run")):
         status, page, errors = report(history, *words)
         check(status == 1 and told in errors and not page, f"{words}: {status}, {errors}")
-    for path in ("-", folder, f"{folder}/none"):
-        check(report(path)[0] == 1, f"{path}: read as a history")
+    Path(folder, "gzip").write_bytes(gzip.compress(history.read_bytes()))
+    for path, told in (("-", "-: No such file or directory"), (folder, f"{folder}: not a file; a report reads its history twice"),
+                       (f"{folder}/none", f"{folder}/none: No such file or directory"), (f"{folder}/a\x1b[1m\nb", f"{folder}/a\\x1b[1m\\x0ab: No such file or directory"),
+                       (f"{folder}/gzip", f"the first record is not an open record; {folder}/gzip is compressed by gzip; zcat {folder}/gzip | pie explain .. reads it")):
+        check(report(path) == (1, "", f"pie-report: {told}\n"), f"{path}: {report(path)}")
     check(history.read_text() == (ROOT / "examples/burst.history").read_text(), "the history was changed")
     counting = Path(folder, "pie-that-counts")
     counting.write_text(f"#!/bin/sh\necho \"$*\" >> {folder}/calls\nexec {PROGRAM} \"$@\"\n")

@@ -1,5 +1,4 @@
 pub mod Advice
-pub mod Margins
+pub mod Numbers
 pub mod Outlook
 pub mod Request
-pub mod Settings

@@ -4,10 +4,13 @@ ghost use Rattle.pie_params.specs.Params.{IsInRange, first_bad};
 ghost use Rattle.pie_record.specs.Text.{text_of};
 ghost use Rattle.pie_record.specs.Write.{opening_row};
 ghost use Rattle.pie_units.specs.Opening.{params_for};
-ghost use Rattle.pie_advise.specs.Advice.{IsAdvice, front_words, opening_for_link, tuning_for};
-ghost use Rattle.pie_advise.specs.Outlook.{outlook_words};
+ghost use Rattle.pie_advise.specs.Advice.{opening_for_link, tuning_for};
+ghost use Rattle.pie_advise.specs.Numbers.{numbers_for};
+ghost use Rattle.pie_advise.specs.Outlook.{IsOutlook};
 
-use crate::outlook::{mean_wait, push_outlook};
+use crate::expectation::push_expectation;
+use crate::numbers::{Numbers, numbers_for};
+use crate::outlook::{Outlook, outlook_for};
 use crate::request::Request;
 use crate::setting::{push_lines, push_settings};
 use pie_event::Opening;
@@ -62,15 +65,36 @@ pub fn opening_for_link(request: &Request) -> Result<Opening, BadParam>
     }
 }
 
-/// Writes the parameters with their reasons, and the lines that configure the queue.
-#[tactic(auto, unfolding(crate::specs::Advice::front_words))]
-fn push_front(page: &mut Page, request: &Request, opening: &Opening) -> Result<(), AllocError>
-    ensures { OnOk result (page.new ≡ page.old ++ front_words request.now opening.now) }
+/// The advice about an opening for a link, in numbers.
+#[derive(Clone, Copy, Debug, PartialEq, Eq)]
+pub struct Advice {
+    /// The parameters in the units of other queues.
+    pub numbers: Numbers,
+    /// What to expect.
+    pub outlook: Outlook,
+}
+
+/// Returns the advice about an opening for a link.
+pub fn advice_for(request: &Request, opening: &Opening) -> Advice
+    ensures numbers { result.numbers ≡ numbers_for opening.now }
+    ensures outlook { IsOutlook request.now opening.now.params result.outlook }
 {
-    let params = opening.params.raw();
+    Advice {
+        numbers: numbers_for(opening),
+        outlook: outlook_for(request, &opening.params.raw()),
+    }
+}
+
+/// Writes the parameters with their reasons, and the lines that configure the queue.
+fn push_front(
+    page: &mut Page,
+    request: &Request,
+    opening: &Opening,
+    numbers: &Numbers,
+) -> Result<(), AllocError> {
     let mut words = page.words();
-    push_settings(&mut words, request, &params, opening.limits.packets)?;
-    push_lines(&mut words, request, &params)?;
+    push_settings(&mut words, request, opening, numbers)?;
+    push_lines(&mut words, request, &opening.params.raw(), numbers)?;
     page.put(words)
 }
 
@@ -83,31 +107,26 @@ fn push_record(page: &mut Page, opening: &Opening) -> Result<(), AllocError>
     page.push(row.as_bytes())
 }
 
-/// Writes the margins, the mean wait `wait`, and the warnings.
-fn push_end(
-    page: &mut Page,
-    request: &Request,
-    opening: &Opening,
-    wait: u64,
-) -> Result<(), AllocError>
-    ensures { OnOk result (page.new ≡ page.old ++ outlook_words request.now opening.now.params wait) }
-{
-    let params = opening.params.raw();
+/// Writes the margins, the mean wait, and the warnings.
+fn push_end(page: &mut Page, request: &Request, outlook: &Outlook) -> Result<(), AllocError> {
     let mut words = page.words();
-    push_outlook(&mut words, request, &params, wait)?;
+    push_expectation(&mut words, request, outlook)?;
     page.put(words)
 }
 
-/// Writes the advice about an opening for a link onto `page`: exactly the text of `IsAdvice`.
+/// Writes the advice about an opening for a link onto `page`: each parameter with its reason, the lines that configure
+/// the queue, the record of the opening, the mean wait, the margins of stability, and warnings.
 ///
 /// # Errors
 ///
 /// `AllocError` if memory is short.
-pub fn push_advice(page: &mut Page, request: &Request, opening: &Opening) -> Result<(), AllocError>
-    ensures { OnOk result (IsAdvice request.now opening.now page.old page.new) }
-{
-    let wait = mean_wait(request.rate, &opening.params.raw());
-    push_front(page, request, opening)?;
+pub fn push_advice(
+    page: &mut Page,
+    request: &Request,
+    opening: &Opening,
+    advice: &Advice,
+) -> Result<(), AllocError> {
+    push_front(page, request, opening, &advice.numbers)?;
     push_record(page, opening)?;
-    push_end(page, request, opening, wait)
+    push_end(page, request, &advice.outlook)
 }

@@ -1,19 +1,26 @@
 //! Advice on the parameters of a queue for a link: its rate, the round-trip times and the number of its flows.
 //!
-//! `opening_for_link` returns the opening that `pie params` gives for the rate. `push_advice` writes exactly the text of
-//! `IsAdvice`: each parameter with its reason, the lines that configure it, the margins of stability, the predicted mean
-//! wait, and a warning for each condition that holds. The definitions are in specs/Advice.antt.
+//! `opening_for_link` returns the opening that `pie params` gives for the rate. `advice_for` returns the parameters in
+//! the units of other queues (`numbers_for`), the predicted mean wait, and the conditions of the warnings (`IsOutlook`).
+//! Both are proved. `push_advice` writes them with their reasons; its words are tested.
 //!
-//! The margins are those of docs/margins.py, which writes margin_table.rt. They are computed from a linear model, and
-//! not proved.
+//! The margins of stability are those of docs/margins.py, at the link that is asked for. They are computed from a linear
+//! model in fixed-point arithmetic, and tested, not proved.
 #![tactic(auto)]
 
 mod advice;
+mod expectation;
+mod fixed;
+mod least;
 mod margin;
-mod margin_table;
+mod numbers;
 mod outlook;
 mod request;
 mod setting;
 
-pub use advice::{opening_for_link, push_advice};
-pub use request::{Range, Request, range_in};
+pub use advice::{Advice, advice_for, opening_for_link, push_advice};
+pub use least::RangeMargins;
+pub use margin::Margins;
+pub use numbers::Numbers;
+pub use outlook::Outlook;
+pub use request::{Range, RangeEnd, RangeFault, Request, range_in};

@@ -1,50 +1,222 @@
-//! Margins of stability of the control loop.
-ghost use Rattle.std.specs.Prelude.{◌≡◌, ◌≤◌, length};
-ghost use Rattle.pie_advise.specs.Margins.{margin_at, place_in};
+//! Margins of stability of the control loop at one round-trip time and one window, with the default parameters.
+//!
+//! The model is that of docs/margins.py, which has its sources. N Reno flows with a window of W packets at a round-trip
+//! time R, which includes the target delay, lose a share 2 / W^2 of their packets. The probability is 1.85 times that
+//! share, because probabilities accumulate. With angles per round trip, x = w R, the gain of the open loop at a frequency
+//! w is
+//!
+//! |alpha + beta - beta e^-jwT| (R W)^2 / (4 T x 1.85 divisor) / (sqrt(1 + (x W / 2)^2) sqrt(1 + x^2))
+//!
+//! and its phase lags by pi / 2 + x + atan(x) + atan(x W / 2), less the angle of alpha + beta - beta e^-jwT. T is
+//! `t_update`, and the divisor that of auto-tuning (RFC 8033, section 4.2). Everything is fixed-point arithmetic. The
+//! results are tested against floating-point numbers, and not proved (tests/program/advise.py).
+use crate::fixed::{ONE, RIGHT_ANGLE, angle, logarithm, narrowed, product, sine};
 
-use crate::margin_table::{MARGINS, RATES, TRIPS};
-
-/// The margin of stability at all round-trip times and rates per flow up to given ones.
+/// Margins of stability. The loop is unstable if one is below 0.
 #[derive(Clone, Copy, Debug, PartialEq, Eq)]
-pub(crate) enum Margin {
-    /// The model does not apply: the windows are below two packets, or the rate per flow is above the computed ones.
-    Outside,
-    /// The loop is unstable.
-    Unstable,
-    /// The loop is stable, with at least this phase margin in degrees and this gain margin in decibels.
-    Stable(u8, u8),
+pub struct Margins {
+    /// The phase margin, in hundredths of a degree.
+    pub phase: i64,
+    /// The gain margin, in hundredths of a decibel.
+    pub gain: i64,
 }
 
-/// Returns the number of bounds before the first that is at least `value`.
-fn place_in(bounds: &[u64], value: u64) -> usize
-    ensures place { result ≡ place_in bounds.now value }
-    ensures within { result ≤ length bounds.now }
-{
-    match bounds {
-        [] => 0,
-        [first, rest @ ..] => {
-            if value <= *first {
-                0
-            } else {
-                place_in(rest, value) + 1
-            }
+/// The target delay, in nanoseconds.
+pub(crate) const TARGET: u64 = 15_000_000;
+
+/// The gain `alpha`, per second.
+const ALPHA: u64 = 125_000_000;
+
+/// Twice the gain `beta`, per second.
+const TWICE_BETA: u64 = 2_500_000_000;
+
+/// The greatest frequency, in billionths of a radian per second: pi over `t_update`. The gain is below 1 there, and the
+/// phase lags by more than pi.
+const GREATEST: u64 = 209_439_510_239;
+
+/// The number of halvings from `GREATEST` to 1.
+const HALVINGS: u32 = 38;
+
+/// The logarithm of the constant 4 T x 1.85 and of the units in the quotient of `levels`: 4 log 10^6 + 2 log 0.111.
+const LEVEL: u64 = 73_383_537_441;
+
+/// The least window of the model, in millionths of a packet.
+pub(crate) const LEAST_WINDOW: u64 = 2_000_000;
+
+/// The greatest window of the model, in millionths of a packet. The probability is 3.7 x 10^-12 there, and has steps of
+/// 10^-12.
+pub(crate) const GREATEST_WINDOW: u64 = 1_000_000_000_000;
+
+/// An edge of auto-tuning: the window, in millionths of a packet, above which a greater divisor applies.
+#[derive(Clone, Copy)]
+pub(crate) struct Edge {
+    pub(crate) window: u64,
+    divisor: u64,
+}
+
+/// The edges of auto-tuning. The window is the square root of 3.7 over the probability 0.1, 0.01 and so on (RFC 8033,
+/// section 4.2).
+pub(crate) const EDGES: [Edge; 6] = [
+    Edge {
+        window: 6_082_762,
+        divisor: 2,
+    },
+    Edge {
+        window: 19_235_384,
+        divisor: 8,
+    },
+    Edge {
+        window: 60_827_625,
+        divisor: 32,
+    },
+    Edge {
+        window: 192_353_840,
+        divisor: 128,
+    },
+    Edge {
+        window: 608_276_253,
+        divisor: 512,
+    },
+    Edge {
+        window: 1_923_538_406,
+        divisor: 2048,
+    },
+];
+
+/// Returns the auto-tuning divisor at a window, in millionths of a packet.
+fn divisor(window: u64) -> u64 {
+    let mut divisor = 1;
+    for edge in EDGES {
+        if window > edge.window {
+            divisor = edge.divisor;
         }
     }
+    divisor
 }
 
-/// Returns the margin at all round-trip times up to `trip` nanoseconds and all rates per flow up to `rate` bits per
-/// second, with the default parameters (this project's own, docs/margins.py). Above the greatest round-trip time of the
-/// table, 200 ms, the loop is unstable.
-#[tactic(auto, unfolding(crate::specs::Margins::margin_at))]
-pub(crate) fn margin_at(trip: u64, rate: u64) -> Margin
-    ensures { result ≡ margin_at trip rate }
-{
-    let (row, column) = (place_in(&TRIPS, trip), place_in(&RATES, rate));
-    if row == TRIPS.len() {
-        return Margin::Unstable;
+/// The open loop at a round-trip time, in nanoseconds and with the target delay, and a window, in millionths of a
+/// packet.
+#[derive(Clone, Copy)]
+struct Loop {
+    trip: u64,
+    window: u64,
+}
+
+/// The sum of logarithms of a quotient, above and below its line.
+#[derive(Clone, Copy)]
+struct Levels {
+    above: u64,
+    below: u64,
+}
+
+impl Loop {
+    /// Returns the angle of one round trip at a frequency in billionths of a radian per second.
+    fn trip_angle(self, frequency: u64) -> u64 {
+        product(frequency, self.trip)
     }
-    if column == RATES.len() {
-        return Margin::Outside;
+
+    /// Returns an angle times half the window.
+    fn half_window(self, angle: u64) -> u64 {
+        narrowed(u128::from(angle) * u128::from(self.window) / 2_000_000)
     }
-    MARGINS[row * RATES.len() + column]
+
+    /// Returns the angle by which the phase lags.
+    fn lag(self, frequency: u64) -> u64 {
+        let angle_of_trip = self.trip_angle(frequency);
+        let (real, imaginary) = controller(frequency);
+        RIGHT_ANGLE
+            .saturating_add(angle_of_trip)
+            .saturating_add(angle(angle_of_trip, ONE))
+            .saturating_add(angle(self.half_window(angle_of_trip), ONE))
+            .saturating_sub(angle(imaginary, real))
+    }
+
+    /// Returns twice the logarithm of the gain.
+    fn levels(self, frequency: u64) -> Levels {
+        let angle_of_trip = self.trip_angle(frequency);
+        let (real, imaginary) = controller(frequency);
+        let carried = u128::from(self.trip) * u128::from(self.window);
+        let above = logarithm(squares(real, imaginary)).saturating_add(logarithm(
+            carried,
+        ).saturating_mul(4));
+        let below = logarithm(u128::from(angle_of_trip))
+            .saturating_add(logarithm(u128::from(divisor(self.window))))
+            .saturating_mul(2)
+            .saturating_add(logarithm(squares(ONE, angle_of_trip)))
+            .saturating_add(logarithm(squares(ONE, self.half_window(angle_of_trip))))
+            .saturating_add(LEVEL);
+        Levels { above, below }
+    }
+
+    /// Returns the greatest frequency at which the gain is at least 1.
+    fn gain_crossing(self) -> u64 {
+        let (mut low, mut high) = (1, GREATEST);
+        for _ in 0..HALVINGS {
+            let middle = middle(low, high);
+            let levels = self.levels(middle);
+            if levels.above > levels.below {
+                low = middle;
+            } else {
+                high = middle;
+            }
+        }
+        low
+    }
+
+    /// Returns the greatest frequency at which the phase lags by less than pi.
+    fn phase_crossing(self) -> u64 {
+        let (mut low, mut high) = (1, GREATEST);
+        for _ in 0..HALVINGS {
+            let middle = middle(low, high);
+            if self.lag(middle) < 2 * RIGHT_ANGLE {
+                low = middle;
+            } else {
+                high = middle;
+            }
+        }
+        low
+    }
+}
+
+/// Returns the mean of two numbers, rounded down.
+fn middle(low: u64, high: u64) -> u64 {
+    ((u128::from(low) + u128::from(high)) / 2) as u64
+}
+
+/// Returns the sum of two squares.
+fn squares(left: u64, right: u64) -> u128 {
+    let (left, right) = (u128::from(left), u128::from(right));
+    (left * left).saturating_add(right * right)
+}
+
+/// Returns the real and the imaginary part of alpha + beta - beta e^-jwT at a frequency w: with the half angle h = w T / 2
+/// they are alpha + 2 beta sin^2 h and 2 beta sin h cos h.
+fn controller(frequency: u64) -> (u64, u64) {
+    let half = product(frequency, 7_500_000).min(RIGHT_ANGLE);
+    let sine_of_half = sine(half);
+    let lead = product(TWICE_BETA, sine_of_half);
+    let cosine = sine(RIGHT_ANGLE.saturating_sub(half));
+    (
+        ALPHA.saturating_add(product(lead, sine_of_half)),
+        product(lead, cosine),
+    )
+}
+
+/// Returns `above` - `below`, times `factor` / 10^18, less 3, and rounded down.
+fn margin(above: u64, below: u64, factor: u64) -> i64 {
+    let distance = u128::from(above.abs_diff(below)) * u128::from(factor);
+    let part = (distance / 1_000_000_000_000_000_000).min(1_000_000_000) as i64;
+    if above < below { -part - 4 } else { part - 3 }
+}
+
+/// Returns the margins at a round-trip time, in nanoseconds and with the target delay, and a window, in millionths of a
+/// packet: at most the exact ones, and at least those less 0.05 degrees and 0.05 decibels.
+pub(crate) fn margins_at(trip: u64, window: u64) -> Margins {
+    let open = Loop { trip, window };
+    let lag = open.lag(open.gain_crossing());
+    let levels = open.levels(open.phase_crossing());
+    Margins {
+        phase: margin(2 * RIGHT_ANGLE, lag, 5_729_577_951_308),
+        gain: margin(levels.below, levels.above, 301_029_995_664),
+    }
 }

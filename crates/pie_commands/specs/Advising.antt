@@ -20,7 +20,7 @@ rate_given options = option_and_then (λ text. result_ok (rate_of text)) (first_
 
 -- the range of an option of this name
 abbrev pub range_given : Text → Quantity → List Row → Option Range
-range_given name kind options = option_and_then (λ text. range_in kind text) (first_of name options)
+range_given name kind options = option_and_then (λ text. result_ok (range_in kind text)) (first_of name options)
 
 -- the overhead of the options: none without the option
 abbrev pub overhead_given : List Row → Option Overhead

@@ -7,7 +7,7 @@ use crate::end::{End, end_failed, end_unable, end_with_fault};
 use crate::options::{flag, parsed, text};
 use crate::params::overhead_in;
 use clap::ArgMatches;
-use pie_advise::{Range, Request, opening_for_link, push_advice, range_in};
+use pie_advise::{Range, Request, advice_for, opening_for_link, push_advice, range_in};
 use pie_event::Opening;
 use pie_text::Page;
 use pie_trace::TraceFault;
@@ -44,14 +44,13 @@ fn range_given<E: Write>(
         );
         return None;
     };
-    let range = range_in(kind, text.as_bytes());
-    if range.is_none() {
-        let _ = writeln!(
-            errors,
-            "pie: --{name} must be a value, or the least and the greatest one with a dash between them, such as {example}"
-        );
+    match range_in(kind, text.as_bytes()) {
+        Ok(range) => Some(range),
+        Err(why) => {
+            let _ = writeln!(errors, "pie: --{name} {why}");
+            None
+        }
     }
-    range
 }
 
 /// Returns the link that the options describe. If a value is missing or not valid, writes a line to `errors`.
@@ -97,7 +96,8 @@ fn write_advice<W: Write, E: Write>(
     errors: &mut E,
 ) -> End {
     let mut page = Page::new(alloc);
-    match push_advice(&mut page, request, opening) {
+    let advice = advice_for(request, opening);
+    match push_advice(&mut page, request, opening, &advice) {
         Ok(()) => write_whole(page.as_bytes(), output, errors),
         Err(_) => end_unable(errors, "out of memory"),
     }
@@ -115,6 +115,9 @@ pub(crate) fn advise<W: Write, E: Write>(
     };
     match opening_for_link(&request) {
         Ok(opening) => write_advice(alloc, &request, &opening, output, errors),
-        Err(why) => end_failed(errors, why),
+        Err(_) => end_failed(
+            errors,
+            "--overhead must be at most 64511: mean_pkt is 1024 bytes and the overhead, and at most 65535",
+        ),
     }
 }

@@ -124,6 +124,20 @@ expect 'two choices' 1 '' "${choices}pie: --lost and --all are both given\n" "$h
 expect 'two choices of packets' 1 '' "${choices}pie: --lost and --marked are both given\n" "$history" explain --lost --marked
 marked='10,arrive,1,1001003,1001003,5,500,mark,picked_by_word,2048,2,2000000,903954174169,0,0,ect0,0,,1,9,2548,3,2488281,903954174169,0,0,1\n'
 expect 'a marked packet' 0 "$header$marked" '' "$history" explain --csv --marked
+expect 'a marked packet in words' 0 'event 10: packet 5, 500 bytes, ECT(0): queued and marked
+  at 1.001003 ms, by caller 1
+  picked: its random word, 0.0000 %%, is below the probability, 90.3954 %%
+  marked: its endpoints understand a mark, and the probability is below 100.0000 %%
+  before it: 2 packets, 2048 bytes, a delay of 2.000000 ms
+  probability 90.3954 %%, set by event 9; last update at 1.001002 ms; burst allowance 0.000000 ms
+' '' "$history" explain --marked
+# an excerpt whose first record does not name the event that set the probability
+"$program" cut --event 487 "$top/examples/marks.history" | awk -F, -v OFS=, '$1 == "resume" {$31 = ""} {print}' > "$work/unnamed"
+unnamed=$("$program" explain --event 487 "$work/unnamed" | tail -n 1)
+if [ "$unnamed" != '  probability 6.5027 %, set before this text begins; last update at 405.000000 ms; burst allowance 0.000000 ms' ]; then
+    echo "$script: an event that is not named set the probability: $unnamed"
+    failed=1
+fi
 expect 'no packet marked before a changed verdict' 2 "$header" "$differs" "$changed" explain --csv --marked
 
 # Each selection of events, in words and CSV, with each exit status: 0; 2 if the tenth event differs; 1 if a fault

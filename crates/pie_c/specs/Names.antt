@@ -40,6 +40,6 @@ unfoldable pub use Rattle.pie_record.specs.Text.{rows_text}
 pub use Rattle.pie_record.specs.Write.{event_row, written_rows}
 unfoldable pub use Rattle.pie_record.specs.Write.{opening_row}
 pub use Rattle.pie_record.specs.declared.clock.Clock.{Clock}
-pub use Rattle.pie_summary.specs.LiveInterval.{Holds, IsSet, HasConditions, clock_of, form_in, length_of, meter_input_of}
+pub use Rattle.pie_summary.specs.LiveInterval.{Holds, IsSet, HasConditions, clock_of, has_wall, length_of, meter_input_of}
 pub use Rattle.pie_summary.specs.declared.live_interval.LiveInterval.{LiveInterval}
 pub use Rattle.pie_summary.specs.declared.meter_input.Conditions.{Conditions}

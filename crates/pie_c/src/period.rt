@@ -1,6 +1,6 @@
 //! The intervals of a running summary: their opening, the wall-clock time, and their records.
 ghost use Rattle.std.specs.Prelude.{◌≡◌, ◌==◌, [], List, if◌then◌else◌};
-ghost use Rattle.pie_c.specs.{moment_refusal, after_writing, count_written, every_refusal, Explained, LiveInterval, Holds, form_in, length_of};
+ghost use Rattle.pie_c.specs.{moment_refusal, after_writing, count_written, every_refusal, Explained, LiveInterval, Holds, has_wall, length_of};
 ghost use Rattle.pie_summary.specs.Interval.{at_last};
 ghost use Rattle.pie_summary.specs.Summary.{header, summary_text_of};
 
@@ -55,9 +55,9 @@ pub extern "C" fn pie_period_clock(period: &mut LiveInterval, moment: u64, unix:
 #[unsafe(no_mangle)]
 pub extern "C" fn pie_write_period(period: &LiveInterval, out: &mut [u8]) -> usize
     ensures count { (all : List Explained) → Holds period.now all
-        → result ≡ count_written (at_last (length_of period.now) (summary_text_of (form_in period.now)) all) out.old }
+        → result ≡ count_written (at_last (length_of period.now) (summary_text_of (has_wall period.now)) all) out.old }
     ensures bytes { (all : List Explained) → Holds period.now all
-        → out.new ≡ after_writing (at_last (length_of period.now) (summary_text_of (form_in period.now)) all) out.old }
+        → out.new ≡ after_writing (at_last (length_of period.now) (summary_text_of (has_wall period.now)) all) out.old }
 {
     let mut line = LongRow::new();
     period.put_record(&mut line);
@@ -67,8 +67,8 @@ pub extern "C" fn pie_write_period(period: &LiveInterval, out: &mut [u8]) -> usi
 /// Writes the header row of the records.
 #[unsafe(no_mangle)]
 pub extern "C" fn pie_write_period_header(period: &LiveInterval, out: &mut [u8]) -> usize
-    ensures count { result ≡ count_written (header (form_in period.now)) out.old }
-    ensures bytes { out.new ≡ after_writing (header (form_in period.now)) out.old }
+    ensures count { result ≡ count_written (header (has_wall period.now)) out.old }
+    ensures bytes { out.new ≡ after_writing (header (has_wall period.now)) out.old }
 {
     let mut line = LongRow::new();
     period.put_header(&mut line);

@@ -11,7 +11,7 @@ use Rattle.pie_units.specs.declared.moment.MomentFault.{MomentFault}
 use Rattle.pie_units.specs.declared.when.When.{When}
 use Rattle.pie_commands.specs.Values.{bound_given, flag_given, in_order, moment_given, number_given}
 use Rattle.pie_commands.specs.declared.explain.OutputKind.{OutputKind}
-use Rattle.pie_commands.specs.declared.explain.OutputKind.TheVariants.{Digest, Flows, JsonRecords, JsonSums, Lines, Records, Sums, Words}
+use Rattle.pie_commands.specs.declared.explain.OutputKind.TheVariants.{Digest, Flows, Lines, Records, Sums, Words}
 
 -- ---- the events
 
@@ -104,24 +104,13 @@ sums_kind full style (Some every) form =
 -- lost and marked packets. Sums and summaries cover all events or each interval
 abbrev pub output_kind_by : Bool → Bool → Option ℕ → Bool → LineStyle → Option ℕ → Form → OutputKind
 output_kind_by true packets (Some most) full style every form =
-    Flows (record { report = record { form = form; every = every; most = most }; is_json = false })
-output_kind_by true true None full style every form = Digest (record { form = form; every = every; packets = true })
+    Flows (record { form = form; every = every; most = most })
+output_kind_by true true None full style every form = Digest (record { form = form; every = every })
 output_kind_by true false None full style every form = sums_kind full style every form
 output_kind_by false packets flows full style every form = each_kind form
 
--- the kind of output without `--json`, as CSV or not
-abbrev pub plain_kind_of : LineStyle → List Row → Bool → OutputKind
-plain_kind_of style options csv =
-    output_kind_by (is_summary options) (is_digest options) (flows_of options) (flag_given (codes "full") options) style (every_of options)
-    (form_of options csv)
-
--- the kind with objects of JSON instead of CSV
-abbrev pub as_json : OutputKind → OutputKind
-as_json (Records records) = JsonRecords records
-as_json (Sums sums) = JsonSums sums
-as_json (Flows flows) = Flows (record { report = flows.report; is_json = true })
-as_json kind = kind
-
+-- the kind of output of these options: with `--json` in CSV, whose objects are written
 abbrev pub output_kind_of : LineStyle → List Row → OutputKind
 output_kind_of style options =
-    if is_json options then as_json (plain_kind_of style options true) else plain_kind_of style options (flag_given (codes "csv") options)
+    output_kind_by (is_summary options) (is_digest options) (flows_of options) (flag_given (codes "full") options) style (every_of options)
+    (form_of options (flag_given (codes "csv") options || is_json options))

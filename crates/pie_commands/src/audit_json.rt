@@ -1,8 +1,8 @@
 //! The objects of `pie audit --json`.
 
+use crate::json::write_string;
 use pie_audit::Finding;
 use pie_cut::{Joined, Joint};
-use pie_json::write_string;
 use std::io;
 use std::io::Write;
 

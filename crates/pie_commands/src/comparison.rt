@@ -1,7 +1,7 @@
 //! The comparison of a history with the other history of `pie what-if`, by the numbers of their summaries.
 
 use pie_explain::{EventChoice, ExplainFault, Form, Selection, explain};
-use pie_summary::Digest;
+use pie_summary::SummariesOnly;
 use pie_trace::TraceFault;
 use pie_units::When;
 use std::alloc::{AllocError, Global};
@@ -54,11 +54,7 @@ fn summary_of(alloc: Global, text: &[u8], from: u64) -> Result<Vec<u8>, ExplainF
         csv: true,
         by_wall: false,
     };
-    let sums = Digest {
-        form,
-        every: None,
-        packets: false,
-    };
+    let sums = SummariesOnly { form, every: None };
     match explain(alloc, text, &mut written, selection, sums) {
         Ok(_) => Ok(written),
         Err(ExplainFault::Trace(why)) => {

@@ -1,12 +1,13 @@
 //! `pie explain`: the choice of events by its options, and its end.
 ghost use Rattle.std.specs.Prelude.{◌≡◌};
 ghost use Rattle.clap.specs.Words.{found_of, rows_of};
-ghost use Rattle.pie_commands.specs.Selections.{as_json, chosen_events, every_of, is_selected, is_summary, output_kind_of, plain_kind_of, selection_of, sums_kind};
+ghost use Rattle.pie_commands.specs.Selections.{chosen_events, every_of, is_selected, is_summary, output_kind_of, selection_of, sums_kind};
 
 use crate::difference::report_difference;
 use crate::end::{End, end_failed, fault};
 use crate::fault_report::{EXPLAIN, end_with_fault_in};
 use crate::files::{NamedFiles, open_input};
+use crate::json::JsonWriter;
 use crate::options::{
     NO_ORDER, bound, file, flag, in_order, moment, number, parsed, report_two, text,
 };
@@ -14,7 +15,6 @@ use crate::progress::{ProgressReader, Screen, shows_progress, writes_to_terminal
 use crate::steps::{explain_steps, report_explained};
 use clap::ArgMatches;
 use pie_explain::{EventChoice, EventRecords, ExplainFault, Form, Selection, Words};
-use pie_json::AsJson;
 use pie_summary::{ByFlow, Digest, IntervalLines, LineStyle, SummariesOnly};
 use std::alloc::Global;
 use std::io::{Read, Write};
@@ -150,28 +150,8 @@ pub(crate) enum OutputKind {
     Lines(IntervalLines),
     /// Summaries, and between them the words for lost and marked packets.
     Digest(Digest),
-    /// Sums by flow, with rows for a limited number of flows; in CSV also as objects of JSON. One type for both, so that
-    /// the sums have one copy of their code.
-    Flows(AsJson<ByFlow>),
-    /// `EventRecords` as objects of JSON.
-    JsonRecords(EventRecords),
-    /// `Sums` in CSV as objects of JSON.
-    JsonSums(SummariesOnly),
-}
-
-/// Returns the kind with objects of JSON instead of CSV.
-fn as_json(kind: OutputKind) -> OutputKind
-    ensures { result ≡ as_json kind }
-{
-    match kind {
-        OutputKind::Records(each) => OutputKind::JsonRecords(each),
-        OutputKind::Sums(sums) => OutputKind::JsonSums(sums),
-        OutputKind::Flows(AsJson { report, .. }) => OutputKind::Flows(AsJson {
-            report,
-            is_json: true,
-        }),
-        _ => kind,
-    }
+    /// Sums by flow, with rows for a limited number of flows.
+    Flows(ByFlow),
 }
 
 /// Returns the kind of summaries: of each interval in words a line, unless `full`, in this style.
@@ -195,24 +175,20 @@ fn sums_kind(full: bool, style: LineStyle, every: Option<u64>, form: Form) -> Ou
     }
 }
 
-/// Returns the kind of output that these options request, without `--json`: each event, or sums over the events. `csv` is
-/// true for CSV. Lines have this style.
-fn plain_kind_of(options: &ArgMatches<'_>, style: LineStyle, csv: bool) -> OutputKind
-    ensures { result ≡ plain_kind_of style (rows_of (found_of options.now)) csv }
+/// Returns the kind of output that these options request: each event, or sums over the events. With `--json` it is in CSV,
+/// whose objects are written. Lines have this style.
+fn output_kind_of(options: &ArgMatches<'_>, style: LineStyle) -> OutputKind
+    ensures { result ≡ output_kind_of style (rows_of (found_of options.now)) }
 {
-    let by_wall = flag(options, "wall");
+    let (csv, by_wall) = (
+        flag(options, "csv") || flag(options, "json"),
+        flag(options, "wall"),
+    );
     let (packets, flows) = (flag(options, "digest"), number(options, "flows"));
     let (every, form) = (every_of(options), Form { csv, by_wall });
     match (is_summary(options), packets, flows) {
-        (true, _, Some(most)) => OutputKind::Flows(AsJson {
-            report: ByFlow { form, every, most },
-            is_json: false,
-        }),
-        (true, true, None) => OutputKind::Digest(Digest {
-            form,
-            every,
-            packets: true,
-        }),
+        (true, _, Some(most)) => OutputKind::Flows(ByFlow { form, every, most }),
+        (true, true, None) => OutputKind::Digest(Digest { form, every }),
         (true, false, None) => sums_kind(flag(options, "full"), style, every, form),
         (false, _, _) => {
             if csv {
@@ -224,42 +200,25 @@ fn plain_kind_of(options: &ArgMatches<'_>, style: LineStyle, csv: bool) -> Outpu
     }
 }
 
-/// Returns the kind of output that these options request. With `--json` it has the objects for the CSV text. Lines have
-/// this style.
-fn output_kind_of(options: &ArgMatches<'_>, style: LineStyle) -> OutputKind
-    ensures { result ≡ output_kind_of style (rows_of (found_of options.now)) }
-{
-    if flag(options, "json") {
-        return as_json(plain_kind_of(options, style, true));
-    }
-    plain_kind_of(options, style, flag(options, "csv"))
-}
-
 /// Writes the explanations of the chosen events.
 fn explain_with<R: Read + Drop, W: Write>(
     alloc: Global,
     input: R,
-    output: &mut W,
+    output: &mut JsonWriter<'_, W>,
     selection: Selection,
     kind: OutputKind,
 ) -> Result<u64, ExplainFault> {
-    match kind {
+    let outcome = match kind {
         OutputKind::Records(each) => pie_explain::explain(alloc, input, output, selection, each),
         OutputKind::Words(each) => pie_explain::explain(alloc, input, output, selection, each),
         OutputKind::Sums(sums) => pie_explain::explain(alloc, input, output, selection, sums),
         OutputKind::Lines(lines) => pie_explain::explain(alloc, input, output, selection, lines),
         OutputKind::Digest(digest) => pie_explain::explain(alloc, input, output, selection, digest),
         OutputKind::Flows(flows) => pie_explain::explain(alloc, input, output, selection, flows),
-        OutputKind::JsonRecords(report) => {
-            let is_json = true;
-            let objects = AsJson { report, is_json };
-            pie_explain::explain(alloc, input, output, selection, objects)
-        }
-        OutputKind::JsonSums(report) => {
-            let is_json = true;
-            let objects = AsJson { report, is_json };
-            pie_explain::explain(alloc, input, output, selection, objects)
-        }
+    };
+    match outcome {
+        Err(ExplainFault::Trace(why)) => Err(ExplainFault::Trace(output.fault_of(why))),
+        _ => outcome,
     }
 }
 
@@ -310,10 +269,11 @@ fn explain_chosen<H: NamedFiles + Screen, R: Read + Drop, W: Write, E: Write>(
     };
     let is_shown = shows_progress(rt, options, true);
     let (watched, kind) = ProgressReader::recognizing(input, &mut *errors, rt, is_shown);
+    let mut output = JsonWriter::new(alloc, output, flag(options, "json"));
     match kind {
         Ok(true) => {
             let (kind, queue) = (output_kind_of(options, style), text(options, "queue"));
-            let outcome = explain_steps(alloc, watched, output, selection, queue, kind);
+            let outcome = explain_steps(alloc, watched, &mut output, selection, queue, kind);
             report_explained(errors, file(options), selection, queue, outcome)
         }
         Ok(false) => {
@@ -322,7 +282,7 @@ fn explain_chosen<H: NamedFiles + Screen, R: Read + Drop, W: Write, E: Write>(
                 return end_failed(errors, QUEUE_OF_STEPS);
             }
             let kind = output_kind_of(options, style);
-            let outcome = explain_with(alloc, watched, output, selection, kind);
+            let outcome = explain_with(alloc, watched, &mut output, selection, kind);
             report_end(rt, alloc, errors, file(options), outcome)
         }
         Err(why) => {

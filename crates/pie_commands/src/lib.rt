@@ -32,6 +32,7 @@ mod fault_report;
 mod files;
 mod head;
 mod joint;
+mod json;
 mod migrate;
 mod options;
 mod params;

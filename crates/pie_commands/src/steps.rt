@@ -3,9 +3,9 @@
 
 use crate::end::{End, end_failed, end_with_fault, fault, named_fault};
 use crate::explain::OutputKind;
+use crate::json::JsonWriter;
 use pie_audit::{Finding, write_finding};
 use pie_explain::{EventChoice, ExplainFault, Selection};
-use pie_json::AsJson;
 use pie_linux_history::{StepsCounts, StepsExplained, StepsFault, StepsFinding, report};
 use pie_trace::TraceFault;
 use std::alloc::Global;
@@ -105,12 +105,12 @@ pub(crate) fn report_audit<W: Write, E: Write>(
 pub(crate) fn explain_steps<R: Read + Drop, W: Write>(
     alloc: Global,
     reader: R,
-    output: &mut W,
+    output: &mut JsonWriter<'_, W>,
     selection: Selection,
     queue: Option<&str>,
     kind: OutputKind,
 ) -> Result<StepsExplained, StepsFault> {
-    match kind {
+    let outcome = match kind {
         OutputKind::Words(_) => {
             pie_linux_history::explain(alloc, reader, output, selection, queue)
         }
@@ -119,20 +119,10 @@ pub(crate) fn explain_steps<R: Read + Drop, W: Write>(
         OutputKind::Lines(lines) => report(alloc, reader, output, selection, queue, lines),
         OutputKind::Digest(digest) => report(alloc, reader, output, selection, queue, digest),
         OutputKind::Flows(flows) => report(alloc, reader, output, selection, queue, flows),
-        OutputKind::JsonRecords(each) => {
-            let objects = AsJson {
-                report: each,
-                is_json: true,
-            };
-            report(alloc, reader, output, selection, queue, objects)
-        }
-        OutputKind::JsonSums(sums) => {
-            let objects = AsJson {
-                report: sums,
-                is_json: true,
-            };
-            report(alloc, reader, output, selection, queue, objects)
-        }
+    };
+    match outcome {
+        Err(StepsFault::Trace(why)) => Err(StepsFault::Trace(output.fault_of(why))),
+        _ => outcome,
     }
 }
 

@@ -1,5 +1,6 @@
 mod Names
 mod Examples
-pub mod WordFacts
+pub mod RecordFacts
+pub mod ReportFacts
 pub mod ExplainFacts
 pub mod DecidedFacts

@@ -1,5 +1,5 @@
 -- The result of an explanation: as the audit's, or an error if no event was explained.
-use Rattle.std.specs.Prelude.{◌≡◌, ◌==◌, ◌≤◌, nat_le, ◌&&◌, Ok, if◌then◌else◌}
+use Rattle.std.specs.Prelude.{◌≡◌, ◌==◌, ◌≤◌, nat_le, ◌&&◌, ◌++◌, Ok, if◌then◌else◌}
 use Rattle.pie_explain.specs.Names.{ℕ, nat_lt, List, length, Bool, true, false, Option, Some, None, Result, Err, Appends, append_known, TraceFault, Line, Finding, AuditsFrom, AuditorView, count_after, Explained, Setter, Selection, is_whole, Start, Origin}
 use Rattle.pie_record.specs.Field.{is_io_or_memory}
 use Rattle.pie_audit.specs.declared.auditor.Finding.TheVariants.{Clean}
@@ -53,26 +53,36 @@ IsAsAudited audited other = (events : ℕ) × (audited ≡ Ok (Clean events))
 
 -- ---- the state of an explanation
 
--- the state after these lines: the report received the explanations of the chosen events after `start`, their text
+-- the state after these lines: the report received the explanations of the chosen events after `start`, a text of them
 -- was appended to the output, and they were counted
-pub record Explains (start : Start) (origin : Origin) (selection : Selection) (tale : List Explained → List ℕ) (shows : List Explained → Type 0)
-    (lines : List Line) (auditor : AuditorView) (set_by : Setter) (explained : ℕ) (before now : Option (List ℕ)) : Type 0 where
+pub record Explains (start : Start) (origin : Origin) (selection : Selection) (tale : List Explained → List ℕ → Type 0)
+    (shows : List Explained → Type 0) (lines : List Line) (auditor : AuditorView) (set_by : Setter) (explained : ℕ) (before now : Option (List ℕ))
+    : Type 0 where
   pub follows : Replays start origin lines auditor set_by
   pub counted : explained ≡ length (explanations_since start origin selection lines)
   pub few : explained ≤ count_after origin lines
   pub shown : shows (explanations_since start origin selection lines)
-  pub written : Appends before now (tale (explanations_since start origin selection lines))
+  pub text : List ℕ
+  pub says : tale (explanations_since start origin selection lines) text
+  pub written : Appends before now text
 
 -- the state after these lines: of a replay, the number of explained events, and the page, of which the writer's contents
 -- grew from `before` to `now`
-abbrev pub IsExplaining : Selection → (List Explained → List ℕ) → (List Explained → Type 0) → Start → Origin → List Line → Replay → ℕ → List ℕ
+abbrev pub IsExplaining : Selection → (List Explained → List ℕ → Type 0) → (List Explained → Type 0) → Start → Origin → List Line → Replay → ℕ → List ℕ
     → Option (List ℕ) → Option (List ℕ) → Type 0
 IsExplaining selection tale shows start origin lines replay explained page before now = (start.events ≡ replay.before)
     × Explains start origin selection tale shows lines replay.auditor replay.set_by explained before (append_known now page)
 
--- the output: the whole text for the chosen events of the text
-abbrev pub IsExplanationText : Selection → (List Explained → List ℕ) → Start → Origin → List Line → List ℕ → Type 0
-IsExplanationText selection whole start origin lines explanation_texts = explanation_texts ≡ whole (explanations_since start origin selection lines)
+-- more lines were explained: after whatever lines the state before them stood, the state is now that after these too
+pub record ExplainsMore (selection : Selection) (tale : List Explained → List ℕ → Type 0) (showed shows : List Explained → Type 0)
+    (was replay : Replay) (counted explained : ℕ) (old_page page : List ℕ) (old out : Option (List ℕ)) (more : List Line) : Type 0 where
+  pub explains : (start : Start) (origin : Origin) (first : List Line) (before : Option (List ℕ))
+      → IsExplaining selection tale showed start origin first was counted old_page before old
+      → IsExplaining selection tale shows start origin (first ++ more) replay explained page before out
+
+-- the output: a whole text for the chosen events of the text
+abbrev pub IsExplanationText : Selection → (List Explained → List ℕ → Type 0) → Start → Origin → List Line → List ℕ → Type 0
+IsExplanationText selection whole start origin lines text = whole (explanations_since start origin selection lines) text
 
 -- all lines were read, and the explained events were counted
 abbrev pub HasExplained : Selection → Start → Origin → List Line → Replay → ℕ → Type 0

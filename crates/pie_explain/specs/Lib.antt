@@ -2,7 +2,6 @@ pub mod Choice
 pub mod Selection
 pub mod Explanation
 pub mod Record
-pub mod Words
 pub mod Report
 pub mod Output
 pub mod Names

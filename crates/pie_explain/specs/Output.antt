@@ -1,11 +1,8 @@
--- The output of explanations.
-use Rattle.std.specs.Prelude.{ℕ, Bool, true, false, List, [], ◌∷◌, ◌++◌, codes, Option, None, if◌then◌else◌}
+-- The output of explanations as CSV records.
+use Rattle.std.specs.Prelude.{ℕ, ◌≡◌, Bool, List, [], ◌∷◌, ◌++◌, codes, if◌then◌else◌}
 use Rattle.std.specs.List.{flat_map}
-use Rattle.pie_explain.specs.declared.form.Form.{Form}
 use Rattle.pie_explain.specs.declared.explanation.Explained.{Explained}
 use Rattle.pie_explain.specs.Record.{line_of, record_by}
-use Rattle.pie_explain.specs.Words.{words_by}
-use Rattle.pie_record.specs.declared.clock.Clock.{Clock}
 
 -- the names of the fields of a record
 abbrev pub field_names : List (List ℕ)
@@ -17,32 +14,25 @@ field_names =
     ∷ codes "bytes_after" ∷ codes "packets_after" ∷ codes "delay_after" ∷ codes "probability_after" ∷ codes "accumulated_probability_after"
     ∷ codes "burst_allowance_after" ∷ codes "active_after" ∷ []
 
--- the text before the first row: for CSV the header row of these names
-abbrev pub header_of : List (List ℕ) → Form → List ℕ
-header_of names form = if form.csv then line_of (if form.by_wall then names ++ codes "wall" ∷ [] else names) else []
+-- the header row of these names, with wall-clock times or without
+abbrev pub header_of : List (List ℕ) → Bool → List ℕ
+header_of names by_wall = line_of (if by_wall then names ++ codes "wall" ∷ [] else names)
 
-unfoldable pub header : Form → List ℕ
-header form = header_of field_names form
+unfoldable pub header : Bool → List ℕ
+header by_wall = header_of field_names by_wall
 
--- the clock record for wall-clock times, if the form has them
-abbrev pub clock_for : Form → Option Clock → Option Clock
-clock_for form clock = if form.by_wall then clock else None
+-- the record of an explanation
+unfoldable pub explanation_text : Bool → Explained → List ℕ
+explanation_text by_wall one = line_of (record_by by_wall one)
 
--- the text of an explanation
-unfoldable pub explanation_text : Form → Explained → List ℕ
-explanation_text form one = if form.csv then line_of (record_by form.by_wall one) else words_by (clock_for form one.explanation.clock) one
+-- the records of several explanations, one after the other
+unfoldable pub explanation_texts : Bool → List Explained → List ℕ
+explanation_texts by_wall all = flat_map (explanation_text by_wall) all
 
--- the text of several explanations, one after the other
-unfoldable pub explanation_texts : Form → List Explained → List ℕ
-explanation_texts form all = flat_map (explanation_text form) all
+-- the whole report: the header row, and the records
+abbrev pub pages : Bool → List Explained → List ℕ
+pages by_wall all = header by_wall ++ explanation_texts by_wall all
 
--- the whole report: the text before the first explanation, and the explanations
-abbrev pub pages : Form → List Explained → List ℕ
-pages form all = header form ++ explanation_texts form all
-
--- the forms of the two reports: CSV records, and words
-abbrev pub as_records : Bool → Form
-as_records by_wall = record { csv = true; by_wall = by_wall }
-
-abbrev pub in_words : Bool → Form
-in_words by_wall = record { csv = false; by_wall = by_wall }
+-- a text is the report of these events
+abbrev pub IsRecords : Bool → List Explained → List ℕ → Type 0
+IsRecords by_wall all text = text ≡ pages by_wall all

@@ -1,8 +1,23 @@
 -- The text of a report about explained events.
-use Rattle.std.specs.Prelude.{ℕ, ◌≡◌, List, ◌++◌}
+use Rattle.std.specs.Prelude.{ℕ, ◌≡◌, Bool, true, false, List, ◌++◌, ⊤}
+use Rattle.pie_explain.specs.declared.explanation.Explained.{Explained}
 
--- a page grew by the bytes that extend the text `from` to the text `to`
-pub record Grows (from to page now : List ℕ) : Type 0 where
+-- a page grew by bytes that extend the text to one of which `is` holds
+pub record Grows (is : List ℕ → Type 0) (text page now : List ℕ) : Type 0 where
   pub more : List ℕ
   pub grown : now ≡ page ++ more
-  pub turned : to ≡ from ++ more
+  pub says : is (text ++ more)
+
+-- bytes were added to a page
+pub record Extends (page now : List ℕ) : Type 0 where
+  pub more : List ℕ
+  pub grown : now ≡ page ++ more
+
+-- a text is the known one if it is `exact`; otherwise any
+abbrev pub Says : Bool → List ℕ → List ℕ → Type 0
+Says true known text = text ≡ known
+Says false known text = ⊤
+
+-- a report received exactly these events, by the relations `shows` of its state and `whole` of its text, and wrote the text
+abbrev pub Receives : {State : Type 0} → (State → List Explained → Type 0) → (List Explained → List ℕ → Type 0) → List Explained → List ℕ → Type 0
+Receives {State} shows whole all text = (state : State) × shows state all × whole all text

@@ -9,6 +9,6 @@ use Rattle.pie_explain.specs.Answer.{IsExplanationText, answer_since}
 -- the result is the first fault of the text's beginning. Otherwise result and explanations are those of the beginning's
 -- core for the lines, whatever numbers it has. If the text names the event that set the probability correctly, they are
 -- those of every history that the text continues, restricted to the events of the text
-abbrev pub ExplainsText : Selection → (List Explained → List ℕ) → List Row → Result ℕ ExplainFault → Option (List ℕ) → Option (List ℕ) → Type 0
+abbrev pub ExplainsText : Selection → (List Explained → List ℕ → Type 0) → List Row → Result ℕ ExplainFault → Option (List ℕ) → Option (List ℕ) → Type 0
 ExplainsText selection whole rows result old now =
     TextProcessedBy (λ why. Err (Trace why)) (answer_since selection) (IsExplanationText selection whole) rows result old now

@@ -3,13 +3,14 @@
 //!
 //! For every history that the core represents, `Explained::begin` returns exactly the numbers of the look-back and
 //! the first case of the decision that applies. `Explained` adds the controller's numbers after the event.
-//! `Selection::picks` selects the events to explain. A `Report` writes explanations one after another: the two of this
-//! crate as CSV, and in words.
+//! `Selection::picks` selects the events to explain. A `Report` receives explanations one after another: the two of
+//! this crate write them as CSV, and in words.
 //!
 //! `explain` reads a history as an audit does and decides each event again. It explains the chosen events from the
-//! core before them. The definitions that the contracts cite are in `specs/`. If no reader, writer or memory
-//! failed, the result of `explain` is `answer_since` and its output is `IsExplanationText`: the record or the words of each
-//! chosen event, in order. For an excerpt both are those of the whole history from there on (`ExplainsText`).
+//! core before them. The definitions that the contracts cite are in `specs/`. If no reader, writer or memory failed,
+//! the result of `explain` is `answer_since`, the report received exactly the chosen events in order, and its output is
+//! a whole text of the report for them (`IsExplanationText`): as CSV exactly their records, in words any text. For an
+//! excerpt both are those of the whole history from there on (`ExplainsText`).
 #![tactic(auto)]
 
 mod choice;

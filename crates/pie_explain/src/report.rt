@@ -1,10 +1,9 @@
 //! The interface of reports about explained events.
-ghost use Rattle.std.specs.Prelude.{◌≡◌, ◌++◌, ◌∷◌, [], ℕ, List, IfOk, OnOk, codes};
+ghost use Rattle.std.specs.Prelude.{◌≡◌, ◌++◌, ◌∷◌, [], ℕ, List, IfOk, OnOk, codes, if◌then◌else◌};
 ghost use Rattle.pie_explain.specs.declared.explanation.Explained.{Explained};
 ghost use Rattle.pie_explain.specs.Output.{header_of};
 ghost use Rattle.pie_explain.specs.Record.{line_of};
-ghost use Rattle.pie_explain.specs.Report.{Grows};
-ghost use Rattle.pie_explain.specs.Words.{words_by};
+ghost use Rattle.pie_explain.specs.Report.{Extends, Grows};
 
 use crate::explanation::Explained;
 use crate::form::Form;
@@ -16,17 +15,17 @@ use std::alloc::AllocError;
 
 /// A report about explained events, one after another.
 ///
-/// `so_far all` is the text of the events `all` if more may follow, and `whole all` the text if none follows.
-/// `shows state all` relates a state to the events that it has received.
+/// `shows state all` relates a state to the events that it has received. `so_far all text` relates the text before the
+/// end to these events, and `whole all text` the whole text. A report in words states nothing of its text.
 pub trait Report: Drop {
     /// The state of a report between two events.
     type State: Drop;
 
     ghost shows: { Self → Self.State → List Explained → Type 0 };
 
-    ghost so_far: { Self → List Explained → List ℕ };
+    ghost so_far: { Self → List Explained → List ℕ → Type 0 };
 
-    ghost whole: { Self → List Explained → List ℕ };
+    ghost whole: { Self → List Explained → List ℕ → Type 0 };
 
     /// Returns true if arrivals, departures and other events have code of their own, which is faster if all of
     /// `report_event` is inlined.
@@ -35,7 +34,7 @@ pub trait Report: Drop {
     /// Writes the text before the first event onto `page`.
     fn begin(&self, page: &mut Page) -> Result<Self::State, AllocError>
         ensures shown { IfOk result (λ state. shows self.now state []) }
-        ensures written { OnOk result (page.new ≡ page.old ++ so_far self.now []) };
+        ensures written { OnOk result (Grows (so_far self.now []) [] page.old page.new) };
 
     /// Writes the text for one more event onto a page.
     fn report_event(
@@ -44,14 +43,14 @@ pub trait Report: Drop {
         explained: &Explained,
         page: &mut Page,
     ) -> Result<(), AllocError>
-        ensures { (all : List Explained) → shows self.now state.old all
+        ensures { (all : List Explained) (text : List ℕ) → shows self.now state.old all → so_far self.now all text
             → OnOk result (shows self.now state.new (all ++ explained.now ∷ [])
-            × Grows (so_far self.now all) (so_far self.now (all ++ explained.now ∷ [])) page.old page.new) };
+            × Grows (so_far self.now (all ++ explained.now ∷ [])) text page.old page.new) };
 
     /// Writes the text after the last event onto `page`.
     fn end(&self, state: &Self::State, page: &mut Page) -> Result<(), AllocError>
-        ensures { (all : List Explained) → shows self.now state.now all
-            → OnOk result (Grows (so_far self.now all) (whole self.now all) page.old page.new) };
+        ensures { (all : List Explained) (text : List ℕ) → shows self.now state.now all → so_far self.now all text
+            → OnOk result (Grows (whole self.now all) text page.old page.new) };
 }
 
 /// Writes these names and the end of their line.
@@ -70,7 +69,8 @@ fn push_names(page: &mut Page, names: &str, end: &str) -> Written
 /// Returns `AllocError` if memory is short.
 pub fn push_header(page: &mut Page, names: &str, form: Form) -> Result<(), AllocError>
     ensures { (fields : List (List ℕ)) → line_of fields ≡ names.now ++ codes "\n"
-        → line_of (fields ++ codes "wall" ∷ []) ≡ names.now ++ codes ",wall\n" → OnOk result (page.new ≡ page.old ++ header_of fields form) }
+        → line_of (fields ++ codes "wall" ∷ []) ≡ names.now ++ codes ",wall\n"
+        → OnOk result (page.new ≡ page.old ++ (if form.csv then header_of fields form.by_wall else [])) }
 {
     match (form.csv, form.by_wall) {
         (false, _) => Ok(()),
@@ -84,12 +84,13 @@ pub fn push_header(page: &mut Page, names: &str, form: Form) -> Result<(), Alloc
 /// # Errors
 ///
 /// Returns `AllocError` if memory is short.
+#[tactic(auto, using(crate::proofs::ReportFacts::extended_by))]
 pub fn push_words(
     page: &mut Page,
     clock: Option<Clock>,
     explained: &Explained,
 ) -> Result<(), AllocError>
-    ensures { OnOk result (page.new ≡ page.old ++ words_by clock explained.now) }
+    ensures { OnOk result (Extends page.old page.new) }
 {
     let mut text = page.words();
     push_text(&mut text, clock, explained)?;
@@ -114,13 +115,13 @@ impl Report for EventRecords {
     type State = RecordWriter;
 
     ghost use Rattle.std.specs.Prelude.{⊤};
-    ghost use Rattle.pie_explain.specs.Output.{as_records, pages};
+    ghost use Rattle.pie_explain.specs.Output.{IsRecords};
 
     ghost shows = { λ it state all. ⊤ };
 
-    ghost so_far = { λ it. pages (as_records it.by_wall) };
+    ghost so_far = { λ it. IsRecords it.by_wall };
 
-    ghost whole = { λ it. pages (as_records it.by_wall) };
+    ghost whole = { λ it. IsRecords it.by_wall };
 
     #[inline(always)]
     fn is_by_kind(&self) -> bool {
@@ -134,7 +135,7 @@ impl Report for EventRecords {
     }
 
     #[inline(always)]
-    #[tactic(auto, using(crate::proofs::WordFacts::pages_reported), unfolding(crate::specs::Output::explanation_text))]
+    #[tactic(auto, using(crate::proofs::RecordFacts::pages_reported), unfolding(crate::specs::Output::explanation_text))]
     fn report_event(
         &self,
         state: &mut RecordWriter,
@@ -144,6 +145,7 @@ impl Report for EventRecords {
         state.push(page, self.by_wall, explained)
     }
 
+    #[tactic(auto, using(crate::proofs::ReportFacts::ended))]
     fn end(&self, state: &RecordWriter, page: &mut Page) -> Written {
         Ok(())
     }
@@ -153,30 +155,31 @@ impl Report for Words {
     type State = ();
 
     ghost use Rattle.std.specs.Prelude.{⊤};
-    ghost use Rattle.pie_explain.specs.Output.{in_words, pages};
 
     ghost shows = { λ it state all. ⊤ };
 
-    ghost so_far = { λ it. pages (in_words it.by_wall) };
+    ghost so_far = { λ it all text. ⊤ };
 
-    ghost whole = { λ it. pages (in_words it.by_wall) };
+    ghost whole = { λ it all text. ⊤ };
 
     #[inline(always)]
     fn is_by_kind(&self) -> bool {
         true
     }
 
+    #[tactic(auto, using(crate::proofs::ReportFacts::ended))]
     fn begin(&self, page: &mut Page) -> Written {
         Ok(())
     }
 
-    #[tactic(auto, using(crate::proofs::WordFacts::pages_reported), unfolding(crate::specs::Output::explanation_text))]
+    #[tactic(auto, using(crate::proofs::ReportFacts::said_ok))]
     fn report_event(&self, state: &mut (), explained: &Explained, page: &mut Page) -> Written {
         let (csv, by_wall) = (false, self.by_wall);
         let form = Form { csv, by_wall };
         push_words(page, form.clock(explained.explanation.clock), explained)
     }
 
+    #[tactic(auto, using(crate::proofs::ReportFacts::ended))]
     fn end(&self, state: &(), page: &mut Page) -> Written {
         Ok(())
     }

@@ -1,12 +1,4 @@
 //! An explanation in words, of four to nine lines.
-ghost use Rattle.std.specs.Prelude.{◌≡◌, ◌++◌, ◌∷◌, [], OnOk, codes, string_bytes, true};
-ghost use Rattle.std.specs.Fmt.{decimal};
-ghost use Rattle.pie_event.specs.declared.command.Answer.TheVariants.{Updated};
-ghost use Rattle.pie_explain.specs.Words.{accumulated_words, before_words, burst_end, burst_words, cause_words, compared_words};
-ghost use Rattle.pie_explain.specs.Words.{considered_words, counted_name, effect_words};
-ghost use Rattle.pie_explain.specs.Words.{ecn_name, joined, last_words, lasting_words, never_words, packet_words, picked_words, reason_words};
-ghost use Rattle.pie_explain.specs.Words.{scaled_words, setter_words, sum_words, turned_words, update_words, verdict_text, words_by};
-
 use crate::explanation::{Explained, Explanation};
 use crate::units::{Digits, Millis, MomentWords, PerCent, Word};
 use pie_book::{Answer, Cause, Command, Fate, Registers};
@@ -19,9 +11,7 @@ use std::alloc::AllocError;
 pub(crate) type Written = Result<(), AllocError>;
 
 /// Returns the name of an ECN field in RFC 3168.
-fn ecn_name(ecn: Ecn) -> &'static str
-    ensures { result.now ≡ ecn_name ecn }
-{
+fn ecn_name(ecn: Ecn) -> &'static str {
     match ecn {
         Ecn::NotEct => "Not-ECT",
         Ecn::Ect1 => "ECT(1)",
@@ -31,9 +21,7 @@ fn ecn_name(ecn: Ecn) -> &'static str
 }
 
 /// Returns the words for the verdict on an arriving packet.
-fn verdict_text(answer: Answer) -> &'static str
-    ensures { result.now ≡ verdict_text answer }
-{
+fn verdict_text(answer: Answer) -> &'static str {
     match answer {
         Answer::Enqueued => "queued",
         Answer::Marked => "queued and marked",
@@ -45,27 +33,19 @@ fn verdict_text(answer: Answer) -> &'static str
 }
 
 /// Writes the beginning of the first line of a packet's event.
-#[tactic(auto, unfolding(crate::specs::Words::packet_words))]
-fn push_packet(page: &mut String, number: u64, packet: Packet) -> Written
-    ensures { OnOk result (string_bytes page.new ≡ string_bytes page.old ++ packet_words number packet) }
-{
+fn push_packet(page: &mut String, number: u64, packet: Packet) -> Written {
     let (number, ecn) = (Digits(number), ecn_name(packet.ecn));
     let (tag, size) = (Digits(packet.tag), Digits(u64::from(packet.size)));
     write!(page, "event {number}: packet {tag}, {size} bytes, {ecn}: ")
 }
 
 /// Writes the first line of an event without a packet, with `rest` after the number.
-fn push_event(page: &mut String, number: u64, rest: &str) -> Written
-    ensures { OnOk result (string_bytes page.new ≡ string_bytes page.old ++ joined (codes "event " ∷ decimal number ∷ rest.now ∷ [])) }
-{
+fn push_event(page: &mut String, number: u64, rest: &str) -> Written {
     write!(page, "event {number}{rest}")
 }
 
 /// Writes the first lines of an update.
-#[tactic(auto, unfolding(crate::specs::Words::update_words))]
-fn push_update(page: &mut String, number: u64, active: bool, answer: Answer) -> Written
-    ensures { OnOk result (string_bytes page.new ≡ string_bytes page.old ++ update_words number active answer) }
-{
+fn push_update(page: &mut String, number: u64, active: bool, answer: Answer) -> Written {
     if !active {
         return push_event(
             page,
@@ -86,11 +66,7 @@ fn push_update(page: &mut String, number: u64, active: bool, answer: Answer) -> 
 }
 
 /// Writes the first lines: the event and its outcome.
-#[tactic(auto, unfolding(crate::specs::Words::effect_words))]
-fn push_effect(page: &mut String, explanation: &Explanation) -> Written
-    ensures { OnOk result (string_bytes page.new ≡ string_bytes page.old
-        ++ effect_words explanation.now.number explanation.now.before.active explanation.now.event.command explanation.now.event.answer explanation.now.waited) }
-{
+fn push_effect(page: &mut String, explanation: &Explanation) -> Written {
     let (number, answer) = (explanation.number, explanation.event.answer);
     match explanation.event.command {
         Command::Arrive { packet, .. } => {
@@ -113,10 +89,7 @@ fn push_effect(page: &mut String, explanation: &Explanation) -> Written
 }
 
 /// Writes the fate of a picked packet, marked or dropped, and its reason.
-#[tactic(auto, unfolding(crate::specs::Words::picked_words))]
-fn push_fate(page: &mut String, fate: Fate) -> Written
-    ensures { OnOk result (string_bytes page.new ≡ string_bytes page.old ++ picked_words fate) }
-{
+fn push_fate(page: &mut String, fate: Fate) -> Written {
     match fate {
         Fate::Marked { threshold } => {
             let threshold = PerCent(threshold);
@@ -137,10 +110,7 @@ fn push_fate(page: &mut String, fate: Fate) -> Written
 }
 
 /// Writes the scaled probability of a packet, if it is not the probability itself.
-#[tactic(auto, unfolding(crate::specs::Words::scaled_words))]
-fn push_scaled(page: &mut String, prob: u64, counted: u64) -> Written
-    ensures { OnOk result (string_bytes page.new ≡ string_bytes page.old ++ scaled_words prob counted) }
-{
+fn push_scaled(page: &mut String, prob: u64, counted: u64) -> Written {
     if counted == prob {
         return Ok(());
     }
@@ -153,10 +123,7 @@ fn push_scaled(page: &mut String, prob: u64, counted: u64) -> Written
 
 /// Writes the accumulated probability with this arrival's share, and before it the scaled probability, if it is not
 /// the probability itself.
-#[tactic(auto, unfolding(crate::specs::Words::sum_words))]
-fn push_sum(page: &mut String, prob: u64, accu: u64, counted: u64) -> Written
-    ensures { OnOk result (string_bytes page.new ≡ string_bytes page.old ++ sum_words prob accu counted) }
-{
+fn push_sum(page: &mut String, prob: u64, accu: u64, counted: u64) -> Written {
     push_scaled(page, prob, counted)?;
     let sum = PerCent(accu.saturating_add(counted));
     write!(
@@ -166,10 +133,7 @@ fn push_sum(page: &mut String, prob: u64, accu: u64, counted: u64) -> Written
 }
 
 /// Writes the accumulated probability, or, if it is 0, the scaled probability alone.
-#[tactic(auto, unfolding(crate::specs::Words::accumulated_words))]
-fn push_accumulated(page: &mut String, prob: u64, accu: u64, counted: u64) -> Written
-    ensures { OnOk result (string_bytes page.new ≡ string_bytes page.old ++ accumulated_words prob accu counted) }
-{
+fn push_accumulated(page: &mut String, prob: u64, accu: u64, counted: u64) -> Written {
     if accu == 0 {
         return push_scaled(page, prob, counted);
     }
@@ -178,10 +142,7 @@ fn push_accumulated(page: &mut String, prob: u64, accu: u64, counted: u64) -> Wr
 }
 
 /// Returns the name of the number that the random word is compared with.
-#[tactic(auto, unfolding(crate::specs::Words::counted_name))]
-fn counted_name(prob: u64, counted: u64) -> &'static str
-    ensures { result.now ≡ counted_name prob counted }
-{
+fn counted_name(prob: u64, counted: u64) -> &'static str {
     if counted == prob {
         "the probability"
     } else {
@@ -190,10 +151,7 @@ fn counted_name(prob: u64, counted: u64) -> &'static str
 }
 
 /// Writes the reason why the arrival could not be picked: the probability is 0, or its scaled value is 0.
-#[tactic(auto, unfolding(crate::specs::Words::never_words))]
-fn push_never(page: &mut String, prob: u64) -> Written
-    ensures { OnOk result (string_bytes page.new ≡ string_bytes page.old ++ never_words prob) }
-{
+fn push_never(page: &mut String, prob: u64) -> Written {
     if prob == 0 {
         return write!(page, "  the probability is 0\n");
     }
@@ -201,10 +159,7 @@ fn push_never(page: &mut String, prob: u64) -> Written
 }
 
 /// Writes the cause of an arrival at this probability.
-#[tactic(auto, unfolding(crate::specs::Words::cause_words))]
-fn push_cause(page: &mut String, shown: u64, cause: Cause) -> Written
-    ensures { OnOk result (string_bytes page.new ≡ string_bytes page.old ++ cause_words shown cause) }
-{
+fn push_cause(page: &mut String, shown: u64, cause: Cause) -> Written {
     match cause {
         Cause::NoRoomInBytes { bytes, size, limit } => write!(
             page,
@@ -242,16 +197,13 @@ fn push_cause(page: &mut String, shown: u64, cause: Cause) -> Written
 }
 
 /// Writes the accumulated probability and `against`, the bound that it is compared with.
-fn push_against(page: &mut String, shown: u64, accu: u64, prob: u64, against: &str) -> Written
-    ensures { OnOk result (string_bytes page.new ≡ string_bytes page.old ++ joined (sum_words shown accu prob ∷ against.now ∷ [])) }
-{
+fn push_against(page: &mut String, shown: u64, accu: u64, prob: u64, against: &str) -> Written {
     push_sum(page, shown, accu, prob)?;
     page.push_str(against)
 }
 
 /// Writes the accumulated probability, unless it is 0, and the comparison of the random word with the scaled
 /// probability.
-#[tactic(auto, unfolding(crate::specs::Words::compared_words))]
 fn push_compared(
     page: &mut String,
     shown: u64,
@@ -260,10 +212,7 @@ fn push_compared(
     word: u64,
     outcome: &str,
     compares: &str,
-) -> Written
-    ensures { OnOk result (string_bytes page.new ≡ string_bytes page.old
-        ++ joined (accumulated_words shown accu prob ∷ compared_words (counted_name shown prob) word prob outcome.now compares.now ∷ [])) }
-{
+) -> Written {
     push_accumulated(page, shown, accu, prob)?;
     let (name, word, prob) = (counted_name(shown, prob), Word(word), PerCent(prob));
     write!(
@@ -273,10 +222,7 @@ fn push_compared(
 }
 
 /// Writes the cause of a considered packet whose scaled probability was above 0.
-#[tactic(auto, unfolding(crate::specs::Words::considered_words))]
-fn push_considered(page: &mut String, shown: u64, cause: Cause) -> Written
-    ensures { OnOk result (string_bytes page.new ≡ string_bytes page.old ++ considered_words shown cause) }
-{
+fn push_considered(page: &mut String, shown: u64, cause: Cause) -> Written {
     match cause {
         Cause::LittleAccumulated { accu, prob } => {
             push_against(page, shown, accu, prob, ", below 85 %\n")
@@ -303,24 +249,19 @@ fn push_considered(page: &mut String, shown: u64, cause: Cause) -> Written
 
 /// Returns the moment before which no packet is marked or dropped early while the parameters are unchanged, with this
 /// burst allowance left. A reset or a calm update leaves at most `max_burst` of it.
-fn burst_end(before: &Registers, burst: u64) -> u64
-    ensures { result ≡ burst_end before.now burst }
-{
+fn burst_end(before: &Registers, burst: u64) -> u64 {
     let lasts = burst.min(before.params.max_burst().units());
     before.last.saturating_add(lasts)
 }
 
 /// Writes this moment, unless it is not after the arrival at `now`.
-#[tactic(auto, unfolding(crate::specs::Words::burst_words))]
 fn push_burst_end(
     page: &mut String,
     clock: Option<Clock>,
     now: u64,
     before: &Registers,
     burst: u64,
-) -> Written
-    ensures { OnOk result (string_bytes page.new ≡ string_bytes page.old ++ burst_words clock now before.now burst) }
-{
+) -> Written {
     let moment = burst_end(before, burst);
     if now < moment {
         let end = MomentWords { clock, moment };
@@ -333,16 +274,13 @@ fn push_burst_end(
 }
 
 /// Writes the duration of the cause of an arrival at `now`, if a bound is known.
-#[tactic(auto, unfolding(crate::specs::Words::lasting_words))]
 fn push_lasting(
     page: &mut String,
     clock: Option<Clock>,
     now: u64,
     before: &Registers,
     cause: Cause,
-) -> Written
-    ensures { OnOk result (string_bytes page.new ≡ string_bytes page.old ++ lasting_words clock now before.now cause) }
-{
+) -> Written {
     match cause {
         Cause::BurstAllowed { burst } => push_burst_end(page, clock, now, before, burst),
         Cause::LittleAccumulated { prob, .. } => {
@@ -357,16 +295,13 @@ fn push_lasting(
 }
 
 /// Writes the cause of an arrival at `now` and its duration. For any other event it writes nothing.
-#[tactic(auto, unfolding(crate::specs::Words::reason_words))]
 fn push_reason(
     page: &mut String,
     clock: Option<Clock>,
     now: u64,
     before: &Registers,
     cause: Option<Cause>,
-) -> Written
-    ensures { OnOk result (string_bytes page.new ≡ string_bytes page.old ++ reason_words clock now before.now cause) }
-{
+) -> Written {
     match cause {
         Some(cause) => {
             push_cause(page, before.prob, cause)?;
@@ -377,10 +312,7 @@ fn push_reason(
 }
 
 /// Writes the probability before the event, and the event that set it.
-#[tactic(auto, unfolding(crate::specs::Words::setter_words))]
-fn push_setter(page: &mut String, set_by: Setter, before: &Registers) -> Written
-    ensures { OnOk result (string_bytes page.new ≡ string_bytes page.old ++ setter_words set_by before.now) }
-{
+fn push_setter(page: &mut String, set_by: Setter, before: &Registers) -> Written {
     let prob = PerCent(before.prob);
     match set_by {
         Setter::Opening => write!(page, "  probability {prob}, as at the opening;"),
@@ -393,10 +325,7 @@ fn push_setter(page: &mut String, set_by: Setter, before: &Registers) -> Written
 }
 
 /// Writes the moment of the last update, unless there was none.
-#[tactic(auto, unfolding(crate::specs::Words::last_words))]
-fn push_last(page: &mut String, clock: Option<Clock>, updates: u64, last: u64) -> Written
-    ensures { OnOk result (string_bytes page.new ≡ string_bytes page.old ++ last_words clock updates last) }
-{
+fn push_last(page: &mut String, clock: Option<Clock>, updates: u64, last: u64) -> Written {
     if updates == 0 {
         return write!(page, " no update so far;");
     }
@@ -408,10 +337,7 @@ fn push_last(page: &mut String, clock: Option<Clock>, updates: u64, last: u64) -
 }
 
 /// Returns a line if the event turned the controller on or off, otherwise the empty text.
-#[tactic(auto, unfolding(crate::specs::Words::turned_words))]
-fn turned_text(was_active: bool, is_active: bool) -> &'static str
-    ensures { result.now ≡ turned_words was_active is_active }
-{
+fn turned_text(was_active: bool, is_active: bool) -> &'static str {
     match (was_active, is_active) {
         (false, true) => "  this event turned the controller on\n",
         (true, false) => "  this event turned the controller off\n",
@@ -420,10 +346,7 @@ fn turned_text(was_active: bool, is_active: bool) -> &'static str
 }
 
 /// Writes the controller's numbers before the event.
-#[tactic(auto, unfolding(crate::specs::Words::before_words))]
-fn push_before(page: &mut String, clock: Option<Clock>, explanation: &Explanation) -> Written
-    ensures { OnOk result (string_bytes page.new ≡ string_bytes page.old ++ before_words clock explanation.now) }
-{
+fn push_before(page: &mut String, clock: Option<Clock>, explanation: &Explanation) -> Written {
     let before = &explanation.before;
     let (packets, bytes) = (Digits(before.packets), Digits(before.bytes));
     let (delay, burst) = (Millis(explanation.delay), Millis(before.burst));
@@ -437,10 +360,7 @@ fn push_before(page: &mut String, clock: Option<Clock>, explanation: &Explanatio
 }
 
 /// Writes an explanation in words. With a `clock` its moments are written as wall-clock times.
-#[tactic(auto, unfolding(crate::specs::Words::words_by))]
-pub(crate) fn push_text(page: &mut String, clock: Option<Clock>, all: &Explained) -> Written
-    ensures { OnOk result (string_bytes page.new ≡ string_bytes page.old ++ words_by clock all.now) }
-{
+pub(crate) fn push_text(page: &mut String, clock: Option<Clock>, all: &Explained) -> Written {
     let explanation = &all.explanation;
     let (event, was_active) = (&explanation.event, explanation.before.active);
     let caller = event.caller;

@@ -10,11 +10,6 @@ use std::fmt::Display;
 pub(crate) struct Digits(pub(crate) u64);
 
 impl Display for Digits {
-    ghost use Rattle.std.specs.Prelude.{Some};
-    ghost use Rattle.std.specs.Fmt.{decimal};
-
-    ghost output = { λ number. Some (decimal number.0) };
-
     fn fmt<W: fmt::Write>(&self, f: &mut fmt::Formatter<W>) -> fmt::Result {
         let mut digits = Buffer::new();
         f.write_str(digits.format(self.0))
@@ -26,12 +21,6 @@ impl Display for Digits {
 pub struct Millis(pub u64);
 
 impl Display for Millis {
-    ghost use Rattle.std.specs.Prelude.{Some};
-    ghost use Rattle.pie_explain.specs.Words.{millis};
-
-    ghost output = { λ time. Some (millis time.0) };
-
-    #[tactic(auto, using(crate::proofs::WordFacts::padded), unfolding(crate::specs::Words::millis))]
     fn fmt<W: fmt::Write>(&self, f: &mut fmt::Formatter<W>) -> fmt::Result {
         let (whole, rest) = (Digits(self.0 / 1_000_000), self.0 % 1_000_000);
         write!(f, "{whole}.{rest:06} ms")
@@ -47,12 +36,6 @@ pub(crate) struct MomentWords {
 }
 
 impl Display for MomentWords {
-    ghost use Rattle.std.specs.Prelude.{Some};
-    ghost use Rattle.pie_explain.specs.Words.{moment_words};
-
-    ghost output = { λ words. Some (moment_words words.clock words.moment) };
-
-    #[tactic(auto, unfolding(crate::specs::Words::moment_words))]
     fn fmt<W: fmt::Write>(&self, f: &mut fmt::Formatter<W>) -> fmt::Result {
         match self.clock {
             None => Millis(self.moment).fmt(f),
@@ -66,12 +49,6 @@ impl Display for MomentWords {
 pub struct PerCent(pub u64);
 
 impl Display for PerCent {
-    ghost use Rattle.std.specs.Prelude.{Some};
-    ghost use Rattle.pie_explain.specs.Words.{per_cent};
-
-    ghost output = { λ part. Some (per_cent part.0) };
-
-    #[tactic(auto, using(crate::proofs::WordFacts::padded), unfolding(crate::specs::Words::per_cent))]
     fn fmt<W: fmt::Write>(&self, f: &mut fmt::Formatter<W>) -> fmt::Result {
         let whole = Digits(self.0 / 10_000_000_000);
         let rest = self.0 % 10_000_000_000 / 1_000_000;
@@ -84,12 +61,6 @@ impl Display for PerCent {
 pub(crate) struct Word(pub(crate) u64);
 
 impl Display for Word {
-    ghost use Rattle.std.specs.Prelude.{Some};
-    ghost use Rattle.pie_explain.specs.Words.{word_text};
-
-    ghost output = { λ word. Some (word_text word.0) };
-
-    #[tactic(auto, using(crate::proofs::WordFacts::padded), unfolding(crate::specs::Words::word_text))]
     fn fmt<W: fmt::Write>(&self, f: &mut fmt::Formatter<W>) -> fmt::Result {
         let parts = (u128::from(self.0) * 1_000_000) >> 64;
         let (whole, rest) = (parts / 10_000, parts % 10_000);
@@ -107,12 +78,6 @@ pub struct Share {
 }
 
 impl Display for Share {
-    ghost use Rattle.std.specs.Prelude.{Some};
-    ghost use Rattle.pie_explain.specs.Words.{share};
-
-    ghost output = { λ part. Some (share part.count part.all) };
-
-    #[tactic(auto, using(crate::proofs::WordFacts::padded), unfolding(crate::specs::Words::share))]
     fn fmt<W: fmt::Write>(&self, f: &mut fmt::Formatter<W>) -> fmt::Result {
         let parts = u128::from(self.count) * 1_000_000 / u128::from(self.all.max(1));
         let (whole, rest) = (parts / 10_000, parts % 10_000);

@@ -163,18 +163,19 @@ struct NoMemory;
 impl Report for NoMemory {
     type State = ();
 
-    ghost use Rattle.std.specs.Prelude.{⊤, []};
+    ghost use Rattle.std.specs.Prelude.{⊤};
 
     ghost shows = { λ it state all. ⊤ };
 
-    ghost so_far = { λ it all. [] };
+    ghost so_far = { λ it all text. ⊤ };
 
-    ghost whole = { λ it all. [] };
+    ghost whole = { λ it all text. ⊤ };
 
     fn is_by_kind(&self) -> bool {
         false
     }
 
+    #[tactic(auto, using(pie_explain::proofs::ReportFacts::ended))]
     fn begin(&self, _page: &mut Page) -> Result<(), AllocError> {
         Ok(())
     }

@@ -25,26 +25,27 @@ selected-push selection steps one found is =
     filter_map-append (selected selection) steps (one ∷ []) ∙ ap (λ (o : Option Explained). filter_map (selected selection) steps ++ cons_option o []) is
 
 -- a step that is not selected changes nothing
-pub reports-same : {shows : List Explained → Type 0} {so_far : List Explained → List ℕ} {selection : Selection} {before now : Option (List ℕ)}
+pub reports-same : {shows : List Explained → Type 0} {so_far : List Explained → List ℕ → Type 0} {selection : Selection} {before now : Option (List ℕ)}
     (steps : List DecidedStep) (one : DecidedStep) → selected selection one ≡ None → Reports shows so_far selection steps before now
     → Reports shows so_far selection (steps ++ one ∷ []) before now
 reports-same {selection} steps one none was =
     let same = selected-push selection steps one None none ∙ append-nil (all_selected selection steps) in
-    record { shown = rw same was.shown; written = rw same was.written }
+    record { shown = rw same was.shown; text = was.text; says = rw same was.says; written = was.written }
 
 -- a selected step
-pub reports-more : {shows shows_then : List Explained → Type 0} {so_far : List Explained → List ℕ} {selection : Selection} {before : Option (List ℕ)}
+pub reports-more : {shows shows_then : List Explained → Type 0} {so_far : List Explained → List ℕ → Type 0} {selection : Selection} {before : Option (List ℕ)}
     {page page_then : List ℕ} {full : Explained} (steps : List DecidedStep) (one : DecidedStep) (out : Option (List ℕ)) → selected selection one ≡ Some full
-    → Reports shows so_far selection steps before (append_known out page)
+    → (was : Reports shows so_far selection steps before (append_known out page))
     → shows_then (all_selected selection steps ++ full ∷ [])
-    × Grows (so_far (all_selected selection steps)) (so_far (all_selected selection steps ++ full ∷ [])) page page_then
+    × Grows (so_far (all_selected selection steps ++ full ∷ [])) was.text page page_then
     → Reports shows_then so_far selection (steps ++ one ∷ []) before (append_known out page_then)
 reports-more {so_far} {selection} {before} {page} {page_then} {full} steps one out some was grows =
     let more : all_selected selection (steps ++ one ∷ []) ≡ all_selected selection steps ++ full ∷ [] = selected-push selection steps one (Some full) some in
     record {
       shown = rw more grows.0;
-      written =
-          rw (more, grows.1.turned) (appends-more before out page page_then (so_far (all_selected selection steps)) grows.1.more was.written grows.1.grown);
+      text = was.text ++ grows.1.more;
+      says = rw more grows.1.says;
+      written = appends-more before out page page_then was.text grows.1.more was.written grows.1.grown;
     }
 
 appends-page : (known : Option (List ℕ)) (page : List ℕ) → Appends known (append_known known page) page
@@ -52,20 +53,23 @@ appends-page None page = tt
 appends-page (Some xs) page = refl
 
 -- no step was received yet, and the text before the first one is on the page
-pub reports-begun : {shows : List Explained → Type 0} {so_far : List Explained → List ℕ} {selection : Selection} {page : List ℕ} (known : Option (List ℕ))
-    → shows [] → page ≡ so_far [] → ReportsSome shows so_far selection known (append_known known page)
+pub reports-begun : {shows : List Explained → Type 0} {so_far : List Explained → List ℕ → Type 0} {selection : Selection} {page : List ℕ} (known : Option (List ℕ))
+    → shows [] → Grows (so_far []) [] [] page → ReportsSome shows so_far selection known (append_known known page)
 unfolding all_selected
-reports-begun known shown is = ([], record { shown = shown; written = rw is (appends-page known _) })
+reports-begun known shown begun =
+    ([], record { shown = shown; text = begun.more; says = begun.says; written = rw begun.grown (appends-page known begun.more) })
 
 -- the report ended
-pub reports-ended : {shows : List Explained → Type 0} {so_far : List Explained → List ℕ} {selection : Selection} {before : Option (List ℕ)}
-    {page page_then : List ℕ} (whole : List Explained → List ℕ) (out : Option (List ℕ))
+pub reports-ended : {shows : List Explained → Type 0} {so_far : List Explained → List ℕ → Type 0} {selection : Selection} {before : Option (List ℕ)}
+    {page page_then : List ℕ} (whole : List Explained → List ℕ → Type 0) (out : Option (List ℕ))
     (some : ReportsSome shows so_far selection before (append_known out page))
-    → Grows (so_far (all_selected selection some.0)) (whole (all_selected selection some.0)) page page_then
+    → Grows (whole (all_selected selection some.0)) some.1.text page page_then
     → WritesReport whole selection before (append_known out page_then)
 reports-ended {so_far} {selection} {before} {page} {page_then} whole out some grows = (
   some.0,
-  rw grows.turned (appends-more before out page page_then (so_far (all_selected selection some.0)) grows.more some.1.written grows.grown),
+  some.1.text ++ grows.more,
+  grows.says,
+  appends-more before out page page_then some.1.text grows.more some.1.written grows.grown,
 )
 
 -- a result has what follows from what it has

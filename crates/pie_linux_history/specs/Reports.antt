@@ -21,16 +21,19 @@ selected selection one = if_picked selection (explained_of one)
 unfoldable pub all_selected : Selection → List DecidedStep → List Explained
 all_selected selection steps = filter_map (selected selection) steps
 
--- a report received these steps, and its text so far was appended to the output
-pub record Reports (shows : List Explained → Type 0) (so_far : List Explained → List ℕ) (selection : Selection) (steps : List DecidedStep)
-    (before now : Option (List ℕ)) : Type 0 where
+-- a report received these steps, and a text of them was appended to the output
+pub record Reports (shows : List Explained → Type 0) (so_far : List Explained → List ℕ → Type 0) (selection : Selection)
+    (steps : List DecidedStep) (before now : Option (List ℕ)) : Type 0 where
   pub shown : shows (all_selected selection steps)
-  pub written : Appends before now (so_far (all_selected selection steps))
+  pub text : List ℕ
+  pub says : so_far (all_selected selection steps) text
+  pub written : Appends before now text
 
 -- it received some steps
-abbrev pub ReportsSome : (List Explained → Type 0) → (List Explained → List ℕ) → Selection → Option (List ℕ) → Option (List ℕ) → Type 0
+abbrev pub ReportsSome : (List Explained → Type 0) → (List Explained → List ℕ → Type 0) → Selection → Option (List ℕ) → Option (List ℕ) → Type 0
 ReportsSome shows so_far selection before now = (steps : List DecidedStep) × Reports shows so_far selection steps before now
 
--- the output is the whole text of a report about some decided steps
-abbrev pub WritesReport : (List Explained → List ℕ) → Selection → Option (List ℕ) → Option (List ℕ) → Type 0
-WritesReport whole selection before now = (steps : List DecidedStep) × Appends before now (whole (all_selected selection steps))
+-- the output is a whole text of a report about some decided steps
+abbrev pub WritesReport : (List Explained → List ℕ → Type 0) → Selection → Option (List ℕ) → Option (List ℕ) → Type 0
+WritesReport whole selection before now =
+    (steps : List DecidedStep) × (text : List ℕ) × whole (all_selected selection steps) text × Appends before now text

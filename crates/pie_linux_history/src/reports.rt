@@ -44,7 +44,7 @@ fn finish<W: Write>(
     page: &mut Page,
     writer: &mut W,
 ) -> Result<StepsExplained, StepsFault>
-    ensures { (whole : List Explained → List ℕ) (before : Option (List ℕ))
+    ensures { (whole : List Explained → List ℕ → Type 0) (before : Option (List ℕ))
         → OnOk outcome (OnOk ended (WritesReport whole selection.now before (append_known (W.contents writer.old) page.old)))
         → OnOk result (WritesReport whole selection.now before (W.contents writer.new)) }
 {

@@ -2,19 +2,14 @@
 -- the output.
 use Rattle.pie_summary.proofs.Names.{◌^◌, Some, None, ⊤, greatest, last_or, Bounds, interval_of, kept, first_up_to, range_of, bounds_of}
 use Rattle.pie_summary.proofs.Names.{peak_of, total_in, total_of}
-use Rattle.std.specs.Prelude.{ℕ, ◌≡◌, ◌-◌, true, false, [], ◌∷◌, map, refl}
+use Rattle.std.specs.Prelude.{ℕ, ◌≡◌, ◌-◌, [], ◌∷◌, map, refl}
 use Rattle.pie_summary.specs.Ranges.{end_within, range_end}
 use Rattle.pie_summary.specs.Aggregates.{mean_in, sum_in}
-use Rattle.pie_summary.specs.Words.{disagree}
 
 -- the definitions that theorems on a worked list unfold
 unfoldable worked : Type 0
 unfolding greatest last_or range_of range_end
 worked = ⊤
-
--- two times agree unless one is less than half the other, rounded down
-agreeing : map (disagree 8) (2 ∷ 3 ∷ 4 ∷ 8 ∷ 16 ∷ 17 ∷ 18 ∷ []) ≡ true ∷ true ∷ false ∷ false ∷ false ∷ false ∷ true ∷ []
-agreeing = refl
 
 -- intervals of 100 ns, of length 0, and no interval
 intervals : (map (interval_of (Some 100)) (0 ∷ 99 ∷ 100 ∷ 199 ∷ 250 ∷ []) ≡ 0 ∷ 0 ∷ 1 ∷ 1 ∷ 2 ∷ [])

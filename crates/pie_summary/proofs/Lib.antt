@@ -5,6 +5,5 @@ mod Examples
 pub mod SpanFacts
 pub mod SumsFacts
 pub mod IntervalFacts
-pub mod LineFacts
 pub mod LiveFacts
 pub mod FlowFacts

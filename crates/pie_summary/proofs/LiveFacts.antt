@@ -10,7 +10,7 @@ use Rattle.pie_summary.specs.LiveInterval.{Awaits, IsSet, Spans, is_first, inter
 use Rattle.pie_summary.specs.Interval.{at_last}
 use Rattle.std.specs.Prelude.{is_some}
 use Rattle.pie_summary.specs.Sums.{meter_in}
-use Rattle.pie_summary.specs.Words.{wait_99}
+use Rattle.pie_summary.specs.Record.{wait_99}
 use Rattle.std.proofs.Common.{true≢false}
 use Rattle.pie_summary.proofs.CountFacts.{kept-more}
 use Rattle.pie_summary.proofs.IntervalFacts.{last_events-push, last_interval-push, since_begun, some-events, under_way}
@@ -147,6 +147,6 @@ holds-taken interval shown one meter waits awaits meter-is waits-is = record {
 }
 
 pub text_live : (by_wall : Bool) (all : List Explained) (meter : Meter) (waits : List ℕ) (most : ℕ) → meter ≡ meter_in all → waits ≡ waits_of all
-    → most ≡ wait_99 waits meter → record_of by_wall meter most ≡ summary_text_of (record { csv = true; by_wall = by_wall }) all
+    → most ≡ wait_99 waits meter → record_of by_wall meter most ≡ summary_text_of by_wall all
 unfolding sums_of
 text_live by_wall all meter waits most is waits-are most-is = λ i. record_of by_wall (is i) ((most-is ∙ (λ j. wait_99 (waits-are j) (is j))) i)

@@ -16,6 +16,7 @@ unfoldable pub use Rattle.pie_event.specs.Cause.{word_of_cause}
 pub use Rattle.pie_event.specs.Cause.{answer_of}
 pub use Rattle.pie_event.specs.declared.command.Answer.{Answer}
 pub use Rattle.pie_event.specs.declared.command.Answer.TheVariants.{Done, Left, Updated}
+pub use Rattle.pie_explain.proofs.ReportFacts.{begun, extended, grows, said}
 pub use Rattle.pie_explain.specs.Selection.{time_of}
 pub use Rattle.pie_explain.specs.declared.explanation.Explained.{Explained}
 pub use Rattle.pie_summary.specs.ByFlow.{HoldsFlows, flow_header}
@@ -31,10 +32,9 @@ unfoldable pub use Rattle.pie_summary.specs.Ranges.{range_of, ranges_of}
 unfoldable pub use Rattle.pie_summary.specs.Record.{record_of}
 pub use Rattle.pie_summary.specs.Aggregates.{bounds_of, moment_at, peak_of, span_of, time_at, total_in, total_of}
 pub use Rattle.pie_summary.specs.Summary.{HoldsSums, summary_text_of}
-unfoldable pub use Rattle.pie_summary.specs.Summary.{header, event_words}
+unfoldable pub use Rattle.pie_summary.specs.Summary.{header}
 pub use Rattle.pie_summary.specs.Sums.{cause_of, late_at, meter_input_of, reached, size_in, timed_by, wait_in}
 unfoldable pub use Rattle.pie_summary.specs.Sums.{meter_of, meter_input_by, sums_of, waits_of}
-unfoldable pub use Rattle.pie_summary.specs.Words.{cause_words}
 pub use Rattle.pie_summary.specs.declared.flow.Flow.{Flow}
 pub use Rattle.pie_summary.specs.declared.flow_sums.FlowSums.{FlowSums}
 pub use Rattle.pie_summary.specs.declared.live_interval.LiveInterval.{LiveInterval}

@@ -1,28 +1,27 @@
--- The output of sums by flow of the explained events.
-use Rattle.std.specs.Prelude.{ℕ, ◌≡◌, List, ◌++◌}
+-- The output of sums by flow of the explained events as CSV records.
+use Rattle.std.specs.Prelude.{ℕ, ◌≡◌, Bool, List, ◌++◌}
 use Rattle.std.specs.List.{flat_map}
 use Rattle.pie_aqm.specs.History.{places}
 use Rattle.pie_explain.specs.declared.explanation.Explained.{Explained}
-use Rattle.pie_explain.specs.declared.form.Form.{Form}
 use Rattle.pie_explain.specs.Output.{header_of}
 use Rattle.pie_summary.specs.declared.by_flow.ByFlow.{ByFlow}
 use Rattle.pie_summary.specs.declared.by_flow.FlowInterval.{FlowInterval}
 use Rattle.pie_summary.specs.Flows.{HasFlows, flows_of}
-use Rattle.pie_summary.specs.FlowWords.{flow_names, flows_text}
+use Rattle.pie_summary.specs.FlowRecords.{flow_names, flows_text}
 use Rattle.pie_summary.specs.Interval.{Keeps, at_end, at_last}
 use Rattle.pie_summary.specs.Aggregates.{span_of}
 
--- the text before the first interval: for CSV the header row
-abbrev pub flow_header : Form → List ℕ
-flow_header form = header_of flow_names form
+-- the header row
+abbrev pub flow_header : Bool → List ℕ
+flow_header by_wall = header_of flow_names by_wall
 
--- the text of the sums of these events by flow
+-- the records of the sums of these events by flow
 abbrev pub text_by_flow : ByFlow → List Explained → List ℕ
-text_by_flow by_flow all = flows_text by_flow.form (span_of all) by_flow.most (flows_of all)
+text_by_flow by_flow all = flows_text by_flow.form.by_wall (span_of all) by_flow.most (flows_of all)
 
 -- the output before the end: the header, and at each event that begins an interval the flows of the interval before
 abbrev pub flows_so_far : ByFlow → List Explained → List ℕ
-flows_so_far by_flow all = flow_header by_flow.form ++ flat_map (at_end by_flow.every (text_by_flow by_flow)) (places all)
+flows_so_far by_flow all = flow_header by_flow.form.by_wall ++ flat_map (at_end by_flow.every (text_by_flow by_flow)) (places all)
 
 -- the whole output: the output before the end, and the flows of the last interval
 abbrev pub flows_whole : ByFlow → List Explained → List ℕ

@@ -3,12 +3,10 @@ pub mod Ranges
 pub mod Aggregates
 pub mod Sums
 pub mod Interval
-pub mod Words
 pub mod Record
 pub mod LiveInterval
 pub mod Summary
-pub mod IntervalLines
 pub mod FlowSums
 pub mod Flows
-pub mod FlowWords
+pub mod FlowRecords
 pub mod ByFlow

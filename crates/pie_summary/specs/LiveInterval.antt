@@ -3,7 +3,6 @@ use Rattle.std.specs.Prelude.{ℕ, ◌≡◌, ◌+◌, ◌-◌, ◌*◌, ◌^◌
 use Rattle.pie_aqm.specs.History.{Place, places}
 use Rattle.pie_record.specs.declared.clock.Clock.{Clock}
 use Rattle.pie_explain.specs.declared.explanation.Explained.{Explained}
-use Rattle.pie_explain.specs.declared.form.Form.{Form}
 use Rattle.pie_summary.specs.declared.live_interval.LiveInterval.{LiveInterval}
 use Rattle.pie_summary.specs.Counts.{kept}
 use Rattle.pie_summary.specs.Interval.{last_events, last_interval, interval_at, since, starts_interval}
@@ -59,6 +58,6 @@ pub record IsSet (before after : LiveInterval) : Type 0 where
   pub clock_moment : after.clock_moment ≡ before.clock_moment
   pub clock_unix : after.clock_unix ≡ before.clock_unix
 
--- the form of the records: with a wall-clock time, or without
-abbrev pub form_in : LiveInterval → Form
-form_in interval = record { csv = true; by_wall = interval.wall == 1 }
+-- true if the records have a wall-clock time
+abbrev pub has_wall : LiveInterval → Bool
+has_wall interval = interval.wall == 1

@@ -1,16 +1,15 @@
 -- A summary as a CSV record.
-use Rattle.std.specs.Prelude.{ℕ, ◌==◌, if◌then◌else◌, Bool, true, false, List, [], ◌∷◌, ◌++◌, map, slice_index, take, codes}
+use Rattle.std.specs.Prelude.{ℕ, ◌-◌, ◌/◌, ◌==◌, if◌then◌else◌, Bool, true, false, List, [], ◌∷◌, ◌++◌, map, slice_index, take, codes}
 use Rattle.std.specs.Fmt.{decimal}
 use Rattle.std.specs.List.{sum}
 use Rattle.pie_event.specs.Cause.{cause_names, word_of_cause}
-use Rattle.pie_explain.specs.Words.{joined}
 use Rattle.pie_text.specs.Plain.{onto}
 use Rattle.pie_units.specs.Time.{utc_text}
 use Rattle.pie_summary.specs.declared.meter.Meter.{Meter}
 use Rattle.pie_summary.specs.Counts.{kept}
 use Rattle.pie_summary.specs.Aggregates.{mean_in, sum_in}
-use Rattle.pie_summary.specs.Sums.{updated_place}
-use Rattle.pie_summary.specs.Words.{left_in}
+use Rattle.pie_summary.specs.Ranges.{end_within, first_up_to}
+use Rattle.pie_summary.specs.Sums.{left_place, updated_place}
 
 -- the names of the fields, with the keywords of the causes between them
 abbrev pub field_names : List (List ℕ)
@@ -23,6 +22,21 @@ field_names =
     ∷ codes "turned_on" ∷ codes "first_turned_on" ∷ codes "last_turned_on" ∷ codes "turned_off" ∷ codes "first_turned_off" ∷ codes "last_turned_off"
     ∷ codes "wait_99" ∷ codes "carried_bytes" ∷ codes "last_target" ∷ codes "last_burst_allowance" ∷ codes "time_above_target"
     ∷ codes "waited_above_target" ∷ codes "time_waited_above_target" ∷ [])
+
+-- the number of packets that left
+abbrev pub left_in : Meter → ℕ
+left_in meter = slice_index meter.answers left_place
+
+-- the waiting time that at most a hundredth of the packets that left exceeded, by the ranges of the waiting times: that of the packet at this place
+-- in the order of waiting times, or up to a tenth more
+abbrev pub wait_99 : List ℕ → Meter → ℕ
+wait_99 ranges meter = end_within (first_up_to ranges (left_in meter - left_in meter / 100)) meter.greatest_wait
+
+-- these texts, one after another
+abbrev pub joined : List (List ℕ) → List ℕ
+joined [] = []
+joined (text ∷ []) = text
+joined (text ∷ (next ∷ texts)) = text ++ joined (next ∷ texts)
 
 -- numbers, each with a comma after it
 abbrev pub number_fields : List ℕ → List ℕ

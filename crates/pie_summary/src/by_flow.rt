@@ -1,9 +1,10 @@
 //! Sums of the explained events by flow.
-ghost use Rattle.std.specs.Prelude.{◌≡◌, ◌++◌, ◌∷◌, [], ℕ, List, None, OnOk, Option, Some, if◌then◌else◌};
+ghost use Rattle.std.specs.Prelude.{◌≡◌, ◌++◌, ◌∷◌, [], ℕ, List, None, OnOk, Option, Some, true, if◌then◌else◌};
 ghost use Rattle.pie_explain.specs.declared.explanation.Explained.{Explained};
+ghost use Rattle.pie_explain.specs.Report.{Extends};
 ghost use Rattle.pie_summary.specs.ByFlow.{HoldsFlows};
 ghost use Rattle.pie_summary.specs.Flows.{HasFlows};
-ghost use Rattle.pie_summary.specs.FlowWords.{flows_text};
+ghost use Rattle.pie_summary.specs.FlowRecords.{flows_text};
 ghost use Rattle.pie_summary.specs.Interval.{Keeps, since};
 ghost use Rattle.pie_summary.specs.Aggregates.{span_of};
 
@@ -97,8 +98,11 @@ impl FlowInterval {
 }
 
 /// Writes the flows of an interval onto `page` if the interval `ends`.
+#[tactic(auto, using(pie_explain::proofs::ReportFacts::extended_by, pie_explain::proofs::ReportFacts::unextended))]
 fn push_ended(page: &mut Page, by_flow: &ByFlow, ends: bool, span: &Span, flows: &[Flow]) -> Written
-    ensures { OnOk result (page.new ≡ page.old ++ (if ends then flows_text by_flow.now.form span.now by_flow.now.most flows.now else [])) }
+    ensures grown { OnOk result (Extends page.old page.new) }
+    ensures records { by_flow.now.form.csv ≡ true → OnOk result (page.new ≡ page.old
+        ++ (if ends then flows_text by_flow.now.form.by_wall span.now by_flow.now.most flows.now else [])) }
 {
     if !ends {
         return Ok(());
@@ -112,13 +116,14 @@ fn push_ended(page: &mut Page, by_flow: &ByFlow, ends: bool, span: &Span, flows:
 impl Report for ByFlow {
     type State = FlowInterval;
 
+    ghost use Rattle.pie_explain.specs.Report.{Says};
     ghost use Rattle.pie_summary.specs.ByFlow.{flows_so_far, flows_whole, keeps_flows};
 
     ghost shows = { keeps_flows };
 
-    ghost so_far = { flows_so_far };
+    ghost so_far = { λ it all. Says it.form.csv (flows_so_far it all) };
 
-    ghost whole = { flows_whole };
+    ghost whole = { λ it all. Says it.form.csv (flows_whole it all) };
 
     #[inline(always)]
     fn is_by_kind(&self) -> bool {
@@ -149,6 +154,7 @@ impl Report for ByFlow {
 
     fn end(&self, state: &FlowInterval, page: &mut Page) -> Written {
         let ends = has_summary(self.every, state.number);
-        push_ended(page, self, ends, &state.span, flows_of(&state.rows))
+        push_ended(page, self, ends, &state.span, flows_of(&state.rows))?;
+        Ok(())
     }
 }

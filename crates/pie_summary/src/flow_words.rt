@@ -1,8 +1,7 @@
 //! Sums by flow in words, and as CSV records.
-ghost use Rattle.std.specs.Prelude.{◌≡◌, ◌++◌, OnOk, string_bytes};
+ghost use Rattle.std.specs.Prelude.{◌≡◌, ◌++◌, OnOk, string_bytes, true};
+ghost use Rattle.pie_summary.specs.FlowRecords.{each_record, flow_record, flows_text, mean_wait, name_field, others_record};
 ghost use Rattle.pie_summary.specs.Record.{last_fields};
-ghost use Rattle.pie_summary.specs.FlowWords.{amount_words, each_text, flow_record, one_flow_text, flow_words, flows_text, head_text, mean_wait};
-ghost use Rattle.pie_summary.specs.FlowWords.{name_field, others_text, parts_text, total_words, wait_words};
 
 use crate::aggregates::{Bounds, Span};
 use crate::flow::{Flow, first_of, sums_beside};
@@ -40,12 +39,6 @@ pub(crate) const NAMES: &str =
     greatest_wait,mean_wait,byte_microseconds";
 
 impl Display for Name {
-    ghost use Rattle.std.specs.Prelude.{Some};
-    ghost use Rattle.pie_summary.specs.FlowWords.{name_words};
-
-    ghost output = { λ name. Some (name_words name) };
-
-    #[tactic(auto, using(crate::proofs::FlowFacts::eight_digits), unfolding(crate::specs::FlowWords::flow_text, crate::specs::FlowWords::name_words))]
     fn fmt<W: fmt::Write>(&self, f: &mut fmt::Formatter<W>) -> fmt::Result {
         match *self {
             Name::Of(flow) => write!(f, "flow 0x{flow:08x}"),
@@ -55,7 +48,7 @@ impl Display for Name {
 }
 
 /// Writes the subject of a row as a field: a flow's number in eight hexadecimal digits, or `others`.
-#[tactic(auto, using(crate::proofs::FlowFacts::eight_digits), unfolding(crate::specs::FlowWords::flow_text))]
+#[tactic(auto, using(crate::proofs::FlowFacts::eight_digits), unfolding(crate::specs::FlowRecords::flow_text))]
 fn push_field(page: &mut String, name: Name) -> Written
     ensures { OnOk result (string_bytes page.new ≡ string_bytes page.old ++ name_field name) }
 {
@@ -66,10 +59,7 @@ fn push_field(page: &mut String, name: Name) -> Written
 }
 
 /// Writes the arrivals of a flow, its share of all bytes, and its share of the queue.
-#[tactic(auto, unfolding(crate::specs::FlowWords::amount_words))]
-fn push_amount(page: &mut String, name: Name, total: &FlowSums, sums: &FlowSums) -> Written
-    ensures { OnOk result (string_bytes page.new ≡ string_bytes page.old ++ amount_words name total.now sums.now) }
-{
+fn push_amount(page: &mut String, name: Name, total: &FlowSums, sums: &FlowSums) -> Written {
     let (arrivals, bytes) = (sums.arrivals, sums.bytes);
     let of_bytes = Share {
         count: bytes,
@@ -93,10 +83,7 @@ fn mean_wait(sums: &FlowSums) -> u64
 }
 
 /// Writes the waits of a flow's departed packets.
-#[tactic(auto, unfolding(crate::specs::FlowWords::wait_words))]
-fn push_wait(page: &mut String, sums: &FlowSums) -> Written
-    ensures { OnOk result (string_bytes page.new ≡ string_bytes page.old ++ wait_words sums.now) }
-{
+fn push_wait(page: &mut String, sums: &FlowSums) -> Written {
     let (left, carried) = (sums.left, sums.carried);
     let (greatest, mean) = (Millis(sums.greatest_wait), Millis(mean_wait(sums)));
     write!(
@@ -106,10 +93,7 @@ fn push_wait(page: &mut String, sums: &FlowSums) -> Written
 }
 
 /// Writes a flow in words.
-#[tactic(auto, unfolding(crate::specs::FlowWords::flow_words))]
-fn push_words(page: &mut String, name: Name, total: &FlowSums, sums: &FlowSums) -> Written
-    ensures { OnOk result (string_bytes page.new ≡ string_bytes page.old ++ flow_words name total.now sums.now) }
-{
+fn push_words(page: &mut String, name: Name, total: &FlowSums, sums: &FlowSums) -> Written {
     let (queued, marked, early) = (sums.queued, sums.marked, sums.early);
     let (no_bytes, no_packets) = (sums.no_bytes, sums.no_packets);
     push_amount(page, name, total, sums)?;
@@ -121,16 +105,13 @@ fn push_words(page: &mut String, name: Name, total: &FlowSums, sums: &FlowSums) 
 }
 
 /// Writes the span of the flows' events, with wall-clock times or not, the number of flows, and the arrivals.
-#[tactic(auto, unfolding(crate::specs::FlowWords::total_words))]
 fn push_total(
     page: &mut String,
     by_wall: bool,
     span: &Span,
     count: u64,
     total: &FlowSums,
-) -> Written
-    ensures { OnOk result (string_bytes page.new ≡ string_bytes page.old ++ total_words by_wall span.now count total.now) }
-{
+) -> Written {
     let (arrivals, bytes) = (total.arrivals, total.bytes);
     push_head(page, &span.moments)?;
     push_times(page, by_wall, "  ", &span.times)?;
@@ -156,7 +137,7 @@ fn push_last(page: &mut String, by_wall: bool, late: u64, times: &Bounds) -> Wri
 }
 
 /// Writes a flow as a record, with a wall-clock time or not.
-#[tactic(auto, using(std::proofs::Common::append_assoc), unfolding(crate::specs::FlowWords::flow_record))]
+#[tactic(auto, using(std::proofs::Common::append_assoc), unfolding(crate::specs::FlowRecords::flow_record))]
 fn push_record(
     page: &mut String,
     by_wall: bool,
@@ -185,7 +166,7 @@ fn push_record(
 impl Heading {
     /// Writes the text before the flows. `count` is their number.
     fn push_top(&self, page: &mut String, count: u64) -> Written
-        ensures { OnOk result (string_bytes page.new ≡ string_bytes page.old ++ head_text self.now count) }
+        ensures { self.now.form.csv ≡ true → OnOk result (string_bytes page.new ≡ string_bytes page.old) }
     {
         if self.form.csv {
             return Ok(());
@@ -195,7 +176,8 @@ impl Heading {
 
     /// Writes a flow.
     fn push_flow(&self, page: &mut String, name: Name, sums: &FlowSums) -> Written
-        ensures { OnOk result (string_bytes page.new ≡ string_bytes page.old ++ one_flow_text self.now name sums.now) }
+        ensures { self.now.form.csv ≡ true → OnOk result (string_bytes page.new ≡ string_bytes page.old
+            ++ flow_record self.now.form.by_wall self.now.span name sums.now) }
     {
         if self.form.csv {
             return push_record(page, self.form.by_wall, &self.span, name, sums);
@@ -205,7 +187,8 @@ impl Heading {
 
     /// Writes flows, one after another.
     fn push_each(&self, page: &mut String, flows: &[Flow]) -> Written
-        ensures { OnOk result (string_bytes page.new ≡ string_bytes page.old ++ each_text self.now flows.now) }
+        ensures { self.now.form.csv ≡ true → OnOk result (string_bytes page.new ≡ string_bytes page.old
+            ++ each_record self.now.form.by_wall self.now.span flows.now) }
     {
         match flows {
             [] => Ok(()),
@@ -218,7 +201,8 @@ impl Heading {
 
     /// Writes the sums of the flows after the first `most`, if there are any.
     fn push_others(&self, page: &mut String, most: usize, first: &[Flow], flows: &[Flow]) -> Written
-        ensures { OnOk result (string_bytes page.new ≡ string_bytes page.old ++ others_text self.now most first.now flows.now) }
+        ensures { self.now.form.csv ≡ true → OnOk result (string_bytes page.new ≡ string_bytes page.old
+            ++ others_record self.now.form.by_wall self.now.span most first.now flows.now) }
     {
         if flows.len() <= most {
             return Ok(());
@@ -228,9 +212,9 @@ impl Heading {
     }
 
     /// Writes the text before the flows, the first `most` flows, and the sums of the others.
-    #[tactic(auto, unfolding(crate::specs::FlowWords::parts_text))]
     fn push_parts(&self, page: &mut String, most: usize, first: &[Flow], flows: &[Flow]) -> Written
-        ensures { OnOk result (string_bytes page.new ≡ string_bytes page.old ++ parts_text self.now most first.now flows.now) }
+        ensures { self.now.form.csv ≡ true → OnOk result (string_bytes page.new ≡ string_bytes page.old
+            ++ (each_record self.now.form.by_wall self.now.span first.now ++ others_record self.now.form.by_wall self.now.span most first.now flows.now)) }
     {
         self.push_top(page, flows.len() as u64)?;
         self.push_each(page, first)?;
@@ -251,7 +235,7 @@ pub(crate) fn push_flows(
     most: usize,
     flows: &[Flow],
 ) -> Written
-    ensures { OnOk result (string_bytes page.new ≡ string_bytes page.old ++ flows_text form span.now most flows.now) }
+    ensures { form.csv ≡ true → OnOk result (string_bytes page.new ≡ string_bytes page.old ++ flows_text form.by_wall span.now most flows.now) }
 {
     let (span, total) = (*span, sums_beside(&[], flows));
     let heading = Heading { form, span, total };

@@ -5,7 +5,6 @@ ghost use Rattle.pie_summary.specs.Interval.{Keeps, ends_interval, has_summary, 
 ghost use Rattle.pie_summary.specs.Aggregates.{time_at};
 ghost use Rattle.pie_summary.specs.Summary.{HoldsSums};
 ghost use Rattle.pie_summary.specs.Sums.{meter_input_of, reached};
-ghost use Rattle.pie_summary.specs.Words.{moments_in};
 
 use crate::aggregates::Bounds;
 use crate::meter::Meter;
@@ -112,7 +111,7 @@ impl Sums {
 
     /// Returns the effective moments of the events.
     pub(crate) fn moments(&self) -> Bounds
-        ensures { result ≡ moments_in self.now }
+        ensures { result ≡ record { count = self.now.count; first = self.now.meter.first; last = self.now.meter.last } }
     {
         Bounds {
             count: self.count,
@@ -158,6 +157,8 @@ pub struct Interval {
     pub sums: Sums,
     /// The number of departed packets' waits in each range.
     pub waits: Box<[u64; RANGES]>,
+    /// The number of earlier intervals, at most 2^64 - 1.
+    pub ended: u64,
 }
 
 impl Interval {
@@ -175,6 +176,7 @@ impl Interval {
             number: None,
             sums: Sums::empty(),
             waits,
+            ended: 0,
         })
     }
 
@@ -186,6 +188,7 @@ impl Interval {
             → HoldsSums self.new (since every (Some interval) shown) }
     {
         if starts_interval(self.number, interval) {
+            self.ended = self.ended.saturating_add(u64::from(self.number.is_some()));
             self.sums = Sums::empty();
             clear_counts(&mut self.waits);
         }

@@ -1,15 +1,13 @@
 //! One line for each interval of the explained events, under a header.
-ghost use Rattle.std.specs.Prelude.{◌≡◌, ◌+◌, ◌++◌, [], ℕ, List, OnOk, Option, Some, if◌then◌else◌, min, string_bytes};
-ghost use Rattle.pie_explain.specs.declared.explanation.Explained.{Explained};
-ghost use Rattle.pie_summary.specs.Interval.{Keeps, ends_interval, since};
-ghost use Rattle.pie_summary.specs.Summary.{HoldsSums};
-ghost use Rattle.pie_summary.specs.IntervalLines.{count_cells, heading, line, line_text, measure_cells, names, start_cell, start_of};
+ghost use Rattle.std.specs.Prelude.{◌≡◌, ◌++◌, ◌∷◌, [], ℕ, List, OnOk};
+ghost use Rattle.pie_explain.specs.Report.{Extends};
 
-use crate::interval::{Interval, ends_interval, has_summary, interval_of, starts_interval};
+use crate::interval::{Interval, has_summary, interval_of};
 use crate::meter::Meter;
 use crate::meter_input::{EARLY, LEFT, MARKED, NO_BYTES, NO_PACKETS, UPDATED};
+use crate::summary::{Layout, enter, push_ended};
 use crate::words::Written;
-use pie_explain::{Explained, Report, increase};
+use pie_explain::{Explained, Report};
 use pie_text::Page;
 use pie_units::Utc;
 use std::alloc::AllocError;
@@ -47,15 +45,6 @@ pub struct LineStyle {
     pub colours: bool,
 }
 
-/// The interval under way, and the lines that were written.
-#[derive(Drop)]
-pub struct LinesState {
-    /// The interval under way.
-    pub interval: Interval,
-    /// The number of lines, at most 2^64 - 1.
-    pub lines: u64,
-}
-
 /// A time in nanoseconds that `count` events have, as a cell.
 #[derive(Clone, Copy)]
 struct TimeCell {
@@ -64,12 +53,6 @@ struct TimeCell {
 }
 
 impl Display for TimeCell {
-    ghost use Rattle.std.specs.Prelude.{Some};
-    ghost use Rattle.pie_summary.specs.IntervalLines.{time_cell};
-
-    ghost output = { λ cell. Some (time_cell cell.count cell.time) };
-
-    #[tactic(auto, using(pie_explain::proofs::WordFacts::padded, crate::proofs::LineFacts::aligned), unfolding(crate::specs::IntervalLines::time_cell))]
     fn fmt<W: fmt::Write>(&self, f: &mut fmt::Formatter<W>) -> fmt::Result {
         if self.count == 0 {
             return f.write_str("      -");
@@ -84,12 +67,6 @@ impl Display for TimeCell {
 struct ShareCell(u64);
 
 impl Display for ShareCell {
-    ghost use Rattle.std.specs.Prelude.{Some};
-    ghost use Rattle.pie_summary.specs.IntervalLines.{share_cell};
-
-    ghost output = { λ part. Some (share_cell part.0) };
-
-    #[tactic(auto, using(pie_explain::proofs::WordFacts::padded, crate::proofs::LineFacts::aligned), unfolding(crate::specs::IntervalLines::share_cell))]
     fn fmt<W: fmt::Write>(&self, f: &mut fmt::Formatter<W>) -> fmt::Result {
         let whole = self.0 / 10_000_000_000;
         let rest = self.0 % 10_000_000_000 / 1_000_000;
@@ -97,230 +74,111 @@ impl Display for ShareCell {
     }
 }
 
-/// A number of packets without room, as a cell.
-#[derive(Clone, Copy)]
-struct TailCell {
-    tail: u64,
-    colours: bool,
-}
-
-impl Display for TailCell {
-    ghost use Rattle.std.specs.Prelude.{Some};
-    ghost use Rattle.pie_summary.specs.IntervalLines.{tail_cell};
-
-    ghost output = { λ cell. Some (tail_cell cell.colours cell.tail) };
-
-    #[tactic(auto, using(crate::proofs::LineFacts::aligned), unfolding(crate::specs::IntervalLines::tail_cell))]
-    fn fmt<W: fmt::Write>(&self, f: &mut fmt::Formatter<W>) -> fmt::Result {
-        let tail = self.tail;
-        if self.colours && tail > 0 {
-            return write!(f, "\x1b[31m{tail:5}\x1b[0m");
-        }
-        write!(f, "{tail:5}")
-    }
-}
-
-/// Returns the start of the interval of the moment `first`.
-fn start_of(every: u64, first: u64) -> u64
-    ensures { result ≡ start_of every first }
-{
-    first - first % every.max(1)
-}
-
-/// Writes the time of a line: the start of the interval, or if `by_wall` its first wall-clock time, if there is one.
-#[tactic(auto, using(pie_explain::proofs::WordFacts::padded, crate::proofs::LineFacts::aligned), unfolding(crate::specs::IntervalLines::start_cell))]
-fn push_start(page: &mut String, by_wall: bool, every: u64, meter: &Meter) -> Written
-    ensures { OnOk result (string_bytes page.new ≡ string_bytes page.old ++ start_cell by_wall every meter.now.first meter.now.timed meter.now.time) }
-{
-    let start = start_of(every, meter.first);
-    let (whole, rest, time) = (start / 1_000_000, start % 1_000_000 / 1000, Utc(meter.time));
-    match (by_wall, meter.timed) {
-        (false, _) => write!(page, "{whole:7}.{rest:03}"),
-        (true, 0) => write!(page, "{whole:26}.{rest:03}"),
-        (true, _) => write!(page, "{time}"),
-    }
-}
-
-/// Writes the numbers of arrivals, marks, early drops, and packets without room.
-#[tactic(auto, using(crate::proofs::LineFacts::aligned), unfolding(crate::specs::IntervalLines::count_cells))]
-fn push_counts(page: &mut String, meter: &Meter, colours: bool) -> Written
-    ensures { OnOk result (string_bytes page.new ≡ string_bytes page.old ++ count_cells colours meter.now) }
-{
-    let (arrivals, marks, early) = (meter.arrivals, meter.answers[MARKED], meter.answers[EARLY]);
-    let tail = meter.answers[NO_BYTES].saturating_add(meter.answers[NO_PACKETS]);
-    let tail = TailCell { tail, colours };
-    write!(page, " {arrivals:7} {marks:5} {early:5} {tail}")
-}
-
-/// Writes the waits, the delay, the probability and the bytes.
-#[tactic(auto, using(crate::proofs::LineFacts::aligned), unfolding(crate::specs::IntervalLines::measure_cells))]
-fn push_measures(page: &mut String, meter: &Meter, most: u64) -> Written
-    ensures { OnOk result (string_bytes page.new ≡ string_bytes page.old ++ measure_cells meter.now most) }
-{
-    let (left, updates, bytes) = (meter.answers[LEFT], meter.answers[UPDATED], meter.carried);
-    let mean = TimeCell {
-        count: left,
-        time: meter.waits.mean(left),
-    };
-    let most = TimeCell {
-        count: left,
-        time: most,
-    };
-    let delay = TimeCell {
-        count: updates,
-        time: meter.delays.last,
-    };
-    let prob = ShareCell(meter.probs.last);
-    write!(page, " {mean} {most}  {delay} {prob} {bytes:9}\n")
-}
-
-/// Returns the names of the columns, with the end of their line.
-#[tactic(auto, unfolding(crate::specs::IntervalLines::names))]
-fn names(by_wall: bool, colours: bool) -> &'static str
-    ensures { result.now ≡ names by_wall colours }
-{
-    match (by_wall, colours) {
-        (true, true) => {
-            "\x1b[1m                           UTC arrived marks early  tail mean ms 99th ms delay ms  prob %     bytes\x1b[0m\n"
-        }
-        (true, false) => {
-            "                           UTC arrived marks early  tail mean ms 99th ms delay ms  prob %     bytes\n"
-        }
-        (false, true) => {
-            "\x1b[1m    time ms arrived marks early  tail mean ms 99th ms delay ms  prob %     bytes\x1b[0m\n"
-        }
-        (false, false) => {
-            "    time ms arrived marks early  tail mean ms 99th ms delay ms  prob %     bytes\n"
-        }
-    }
-}
-
 impl IntervalLines {
     /// Writes the header, if a line after `lines` others has one.
-    #[tactic(auto, unfolding(crate::specs::IntervalLines::heading))]
-    fn push_heading(self, page: &mut String, lines: u64) -> Written
-        ensures { OnOk result (string_bytes page.new ≡ string_bytes page.old ++ heading self lines) }
-    {
-        if lines == 0 || (self.style.repeats && lines % LINES == 0) {
-            return page.push_str(names(self.by_wall, self.style.colours));
-        }
-        Ok(())
-    }
-
-    /// Writes a line, with the waiting time of 99 of 100.
-    #[tactic(auto, unfolding(crate::specs::IntervalLines::line))]
-    fn push_line(self, page: &mut String, meter: &Meter, most: u64) -> Written
-        ensures { OnOk result (string_bytes page.new ≡ string_bytes page.old ++ line self meter.now most) }
-    {
-        push_start(page, self.by_wall, self.every, meter)?;
-        push_counts(page, meter, self.style.colours)?;
-        push_measures(page, meter, most)
-    }
-
-    /// Writes the line of an interval after `lines` others onto `page`, if the interval `ends`.
-    fn push_ended(self, page: &mut Page, interval: &Interval, lines: u64, ends: bool) -> Written
-        ensures { OnOk result (page.new ≡ page.old
-            ++ (if ends then line_text self lines interval.now.sums.meter interval.now.waits.value else [])) }
-    {
-        if !ends {
+    fn push_heading(self, text: &mut String, lines: u64) -> Written {
+        if lines > 0 && !(self.style.repeats && lines % LINES == 0) {
             return Ok(());
         }
-        let meter = &interval.sums.meter;
-        let most = meter.wait_99(&interval.waits);
+        let time = if self.by_wall {
+            "                           UTC"
+        } else {
+            "    time ms"
+        };
+        let (begin, end) = if self.style.colours {
+            ("\x1b[1m", "\x1b[0m")
+        } else {
+            ("", "")
+        };
+        write!(
+            text,
+            "{begin}{time} arrived marks early  tail mean ms 99th ms delay ms  prob %     bytes{end}\n"
+        )
+    }
+
+    /// Writes the time of a line: the start of the interval, or if `by_wall` its first wall-clock time, if there is one.
+    fn push_start(self, text: &mut String, meter: &Meter) -> Written {
+        let start = meter.first - meter.first % self.every.max(1);
+        let (whole, rest, time) = (start / 1_000_000, start % 1_000_000 / 1000, Utc(meter.time));
+        match (self.by_wall, meter.timed) {
+            (false, _) => write!(text, "{whole:7}.{rest:03}"),
+            (true, 0) => write!(text, "{whole:26}.{rest:03}"),
+            (true, _) => write!(text, "{time}"),
+        }
+    }
+
+    /// Writes the numbers of arrivals, marks, early drops, and packets without room.
+    fn push_counts(self, text: &mut String, meter: &Meter) -> Written {
+        let (arrivals, marks, early) = (
+            meter.arrivals,
+            meter.answers[MARKED],
+            meter.answers[EARLY],
+        );
+        let tail = meter.answers[NO_BYTES].saturating_add(meter.answers[NO_PACKETS]);
+        write!(text, " {arrivals:7} {marks:5} {early:5} ")?;
+        if self.style.colours && tail > 0 {
+            return write!(text, "\x1b[31m{tail:5}\x1b[0m");
+        }
+        write!(text, "{tail:5}")
+    }
+
+    /// Writes the line of an interval after `lines` others onto `page`, with the waiting time of 99 of 100.
+    #[tactic(auto, using(pie_explain::proofs::ReportFacts::extended_by))]
+    pub(crate) fn push_line(self, page: &mut Page, lines: u64, meter: &Meter, most: u64) -> Written
+        ensures { OnOk result (Extends page.old page.new) }
+    {
+        let (left, bytes) = (meter.answers[LEFT], meter.carried);
+        let cell = |count: u64, time: u64| TimeCell { count, time };
+        let (mean, most) = (cell(left, meter.waits.mean(left)), cell(left, most));
+        let delay = cell(meter.answers[UPDATED], meter.delays.last);
+        let prob = ShareCell(meter.probs.last);
         let mut text = page.words();
         self.push_heading(&mut text, lines)?;
-        self.push_line(&mut text, meter, most)?;
+        self.push_start(&mut text, meter)?;
+        self.push_counts(&mut text, meter)?;
+        write!(text, " {mean} {most}  {delay} {prob} {bytes:9}\n")?;
         page.put(text)
     }
 }
 
-/// Returns the number of lines with one more, if an interval `ends`.
-fn lines_after(lines: u64, ends: bool) -> u64
-    ensures { result ≡ (if ends then min (lines + 1) 18446744073709551615 else lines) }
-{
-    if ends { lines.saturating_add(1) } else { lines }
-}
-
-impl IntervalLines {
-    /// Begins the interval with this number, unless it is under way. Writes the line of the interval before onto `page`,
-    /// if there is one.
-    #[inline(always)]
-    #[tactic(auto, using(crate::proofs::IntervalFacts::not_begun, crate::proofs::IntervalFacts::since_same, crate::proofs::IntervalFacts::under_way))]
-    fn enter(self, page: &mut Page, state: &mut LinesState, number: u64) -> Written
-        ensures written { OnOk result (page.new ≡ page.old ++ (if ends_interval state.old.interval.number number
-            then line_text self state.old.lines state.old.interval.sums.meter state.old.interval.waits.value else [])) }
-        ensures lines { OnOk result (state.new.lines
-            ≡ (if ends_interval state.old.interval.number number then min (state.old.lines + 1) 18446744073709551615 else state.old.lines)) }
-        ensures number { OnOk result (state.new.interval.number ≡ Some number) }
-        ensures holds { OnOk result ((shown : List Explained) (every : Option ℕ)
-            → Keeps (HoldsSums state.old.interval) every state.old.interval.number shown
-            → HoldsSums state.new.interval (since every (Some number) shown)) }
-    {
-        if !starts_interval(state.interval.number, number) {
-            return Ok(());
-        }
-        self.begin_interval(page, state, number)
-    }
-
-    /// Begins the interval with this number, as `enter` does, if it is under way or not.
-    #[cold]
-    #[inline(never)]
-    fn begin_interval(self, page: &mut Page, state: &mut LinesState, number: u64) -> Written
-        ensures written { OnOk result (page.new ≡ page.old ++ (if ends_interval state.old.interval.number number
-            then line_text self state.old.lines state.old.interval.sums.meter state.old.interval.waits.value else [])) }
-        ensures lines { OnOk result (state.new.lines
-            ≡ (if ends_interval state.old.interval.number number then min (state.old.lines + 1) 18446744073709551615 else state.old.lines)) }
-        ensures number { OnOk result (state.new.interval.number ≡ Some number) }
-        ensures holds { OnOk result ((shown : List Explained) (every : Option ℕ)
-            → Keeps (HoldsSums state.old.interval) every state.old.interval.number shown
-            → HoldsSums state.new.interval (since every (Some number) shown)) }
-    {
-        let ends = ends_interval(state.interval.number, number);
-        self.push_ended(page, &state.interval, state.lines, ends)?;
-        state.lines = lines_after(state.lines, ends);
-        state.interval.begin(number);
-        Ok(())
-    }
-}
-
 impl Report for IntervalLines {
-    type State = LinesState;
+    type State = Interval;
 
-    ghost use Rattle.pie_summary.specs.IntervalLines.{HoldsLines, lines_so_far, lines_whole};
+    ghost use Rattle.std.specs.Prelude.{Some, ⊤};
+    ghost use Rattle.pie_summary.specs.Summary.{keeps};
 
-    ghost shows = { HoldsLines };
+    ghost shows = { λ it. keeps (Some it.every) };
 
-    ghost so_far = { lines_so_far };
+    ghost so_far = { λ it all text. ⊤ };
 
-    ghost whole = { lines_whole };
+    ghost whole = { λ it all text. ⊤ };
 
     #[inline(always)]
     fn is_by_kind(&self) -> bool {
         true
     }
 
-    #[tactic(auto, unfolding(pie_aqm::specs::History::last_or, pie_aqm::specs::History::places))]
-    fn begin(&self, page: &mut Page) -> Result<LinesState, AllocError> {
-        let interval = Interval::empty(page.allocator())?;
-        let lines = 0;
-        Ok(LinesState { interval, lines })
+    #[tactic(auto, using(pie_explain::proofs::ReportFacts::ended), unfolding(pie_aqm::specs::History::last_or))]
+    fn begin(&self, page: &mut Page) -> Result<Interval, AllocError> {
+        Interval::empty(page.allocator())
     }
 
     #[inline(always)]
     fn report_event(
         &self,
-        state: &mut LinesState,
+        interval: &mut Interval,
         explained: &Explained,
         page: &mut Page,
     ) -> Written {
         let number = interval_of(Some(self.every), explained.explanation.moment);
-        self.enter(page, state, number)?;
-        state.interval.add(explained);
+        enter(page, Layout::Line(*self), interval, number)?;
+        interval.add(explained);
         Ok(())
     }
 
-    fn end(&self, state: &LinesState, page: &mut Page) -> Written {
-        let ends = has_summary(Some(self.every), state.interval.number);
-        self.push_ended(page, &state.interval, state.lines, ends)
+    #[tactic(auto, using(pie_explain::proofs::ReportFacts::said_ok))]
+    fn end(&self, interval: &Interval, page: &mut Page) -> Written {
+        let ends = has_summary(Some(self.every), interval.number);
+        push_ended(page, Layout::Line(*self), interval, ends)
     }
 }

@@ -1,10 +1,11 @@
 //! Summaries of a saved history: the number of arrivals by verdict and by cause, the waiting times, the numbers of the updates, and the changes of
 //! the controller's activity; of all events, or of each interval that has some.
 //!
-//! `Digest` is a report that `explain` of pie_explain writes about the chosen events, and its text is `summary_of` them. The numbers of a summary
-//! are those of `sums_of`, which is defined on the whole list of its events. Each event has the same cost, and only the numbers are kept. With
-//! `packets` each packet that was lost or marked is explained between the summaries, so one pass over a history gives both. `SummariesOnly` writes the
-//! summaries without packets, in less time for each event. `IntervalLines` writes one line for each interval (`lines_whole`).
+//! Three reports sum up the events that `explain` of pie_explain passes to them. The numbers of an interval are those of
+//! `sums_of`, which is defined on the whole list of its events (`HoldsSums`). Each event has the same cost, and only the
+//! numbers are kept. `SummariesOnly` writes them as CSV, exactly `records_whole`, or in words. `IntervalLines` writes one
+//! line for each interval. `Digest` also explains each packet that was lost or marked, between the summaries, so one pass
+//! over a history gives both. `ByFlow` sums up each flow (`HoldsFlows`), as CSV exactly `flows_whole`, or in words.
 #![tactic(auto)]
 
 mod aggregates;

@@ -2,7 +2,7 @@
 ghost use Rattle.std.specs.Prelude.{◌≡◌, ◌<◌, ◌++◌, ◌∷◌, [], ℕ, List, not, if◌then◌else◌};
 ghost use Rattle.std.specs.List.{cons_option};
 ghost use Rattle.pie_explain.specs.Selection.{time_of};
-ghost use Rattle.pie_summary.specs.LiveInterval.{Awaits, Holds, IsSet, clock_of, form_in, length_of, meter_input_of, number_in};
+ghost use Rattle.pie_summary.specs.LiveInterval.{Awaits, Holds, IsSet, clock_of, has_wall, length_of, meter_input_of, number_in};
 ghost use Rattle.pie_summary.specs.Interval.{at_last, starts_interval};
 ghost use Rattle.pie_summary.specs.Summary.{header, summary_text_of};
 ghost use Rattle.pie_summary.specs.Sums.{timed_by};
@@ -170,7 +170,7 @@ impl LiveInterval {
     #[tactic(auto, unfolding(crate::specs::Summary::header, pie_event::specs::Cause::word_of_cause))]
     pub fn put_header(&self, line: &mut LongRow)
         requires { line.old ≡ [] }
-        ensures { line.new ≡ header (form_in self.now) }
+        ensures { line.new ≡ header (has_wall self.now) }
     {
         line.push(NAMES.as_bytes());
         if self.wall == 1 {
@@ -184,7 +184,7 @@ impl LiveInterval {
     #[tactic(auto, using(crate::proofs::LiveFacts::text_live))]
     pub fn put_record(&self, line: &mut LongRow)
         requires { line.old ≡ [] }
-        ensures { (shown : List Explained) → Holds self.now shown → line.new ≡ at_last (length_of self.now) (summary_text_of (form_in self.now)) shown }
+        ensures { (shown : List Explained) → Holds self.now shown → line.new ≡ at_last (length_of self.now) (summary_text_of (has_wall self.now)) shown }
     {
         if self.begun == 0 {
             return;

@@ -5,7 +5,7 @@ ghost use Rattle.pie_summary.specs.Counts.{kept};
 ghost use Rattle.pie_summary.specs.declared.meter_input.MeterInput.{MeterInput};
 ghost use Rattle.pie_summary.specs.Aggregates.{counted_some};
 ghost use Rattle.pie_summary.specs.Sums.{awaiting, cause_place, excess_within, meter_of, timed_by};
-ghost use Rattle.pie_summary.specs.Words.{wait_99};
+ghost use Rattle.pie_summary.specs.Record.{wait_99};
 
 use crate::aggregates::{Bounds, Peak, Total, raise};
 use crate::meter_input::{LEFT, MeterInput};

@@ -1,10 +1,9 @@
 //! Summaries without packets.
-ghost use Rattle.std.specs.Prelude.{◌≡◌, false};
-
-use crate::interval::{Interval, interval_of};
-use crate::summary::{Digest, enter};
+use crate::interval::{Interval, has_summary, interval_of};
+use crate::record::NAMES;
+use crate::summary::{enter, layout_of, push_ended};
 use crate::words::Written;
-use pie_explain::{Explained, Form, Report};
+use pie_explain::{Explained, Form, Report, push_header};
 use pie_text::Page;
 use std::alloc::AllocError;
 
@@ -17,49 +16,41 @@ pub struct SummariesOnly {
     pub every: Option<u64>,
 }
 
-impl SummariesOnly {
-    /// Returns the `Digest` with the same text.
-    fn digest(self) -> Digest
-        ensures { result ≡ record { form = self.form; every = self.every; packets = false } }
-    {
-        Digest {
-            form: self.form,
-            every: self.every,
-            packets: false,
-        }
-    }
-}
-
 impl Report for SummariesOnly {
     type State = Interval;
 
-    ghost use Rattle.pie_summary.specs.Summary.{without_packets, keeps, summaries, summary_of};
+    ghost use Rattle.pie_explain.specs.Report.{Says};
+    ghost use Rattle.pie_summary.specs.Summary.{keeps, records_so_far, records_whole};
 
-    ghost shows = { λ it. keeps (without_packets it) };
+    ghost shows = { λ it. keeps it.every };
 
-    ghost so_far = { λ it. summaries (without_packets it) };
+    ghost so_far = { λ it all. Says it.form.csv (records_so_far it.every it.form.by_wall all) };
 
-    ghost whole = { λ it. summary_of (without_packets it) };
+    ghost whole = { λ it all. Says it.form.csv (records_whole it.every it.form.by_wall all) };
 
     #[inline(always)]
     fn is_by_kind(&self) -> bool {
         true
     }
 
+    #[tactic(auto, unfolding(pie_aqm::specs::History::last_or))]
     fn begin(&self, page: &mut Page) -> Result<Interval, AllocError> {
-        self.digest().begin(page)
+        push_header(page, NAMES, self.form)?;
+        let interval = Interval::empty(page.allocator())?;
+        Ok(interval)
     }
 
     #[inline(always)]
-    #[tactic(auto, unfolding(crate::specs::Summary::event_words))]
     fn report_event(&self, sums: &mut Interval, explained: &Explained, page: &mut Page) -> Written {
         let number = interval_of(self.every, explained.explanation.moment);
-        enter(page, self.form, sums, number)?;
+        enter(page, layout_of(self.form), sums, number)?;
         sums.add(explained);
         Ok(())
     }
 
     fn end(&self, state: &Interval, page: &mut Page) -> Written {
-        self.digest().end(state, page)
+        let ends = has_summary(self.every, state.number);
+        push_ended(page, layout_of(self.form), state, ends)?;
+        Ok(())
     }
 }

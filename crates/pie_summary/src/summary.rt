@@ -1,12 +1,14 @@
 //! Summaries of the explained events, and between them the words for each packet that was lost or marked.
-ghost use Rattle.std.specs.Prelude.{◌≡◌, ◌++◌, [], ℕ, List, OnOk, Option, Some, if◌then◌else◌};
+ghost use Rattle.std.specs.Prelude.{◌≡◌, ◌++◌, [], ℕ, Bool, List, OnOk, Option, Some, true, if◌then◌else◌};
 ghost use Rattle.pie_explain.specs.declared.explanation.Explained.{Explained};
+ghost use Rattle.pie_explain.specs.Report.{Extends};
 ghost use Rattle.pie_summary.specs.Interval.{Keeps, ends_interval, since};
 ghost use Rattle.pie_summary.specs.Record.{record_of};
-ghost use Rattle.pie_summary.specs.Words.{words};
-ghost use Rattle.pie_summary.specs.Summary.{HoldsSums, is_lost_or_marked, event_words, summary_text};
+ghost use Rattle.pie_summary.specs.Summary.{HoldsSums, is_lost_or_marked, summary_text};
+ghost use Rattle.pie_summary.specs.declared.summary.Layout.TheVariants.{Record};
 
 use crate::interval::{Interval, Sums, ends_interval, has_summary, interval_of, starts_interval};
+use crate::interval_lines::IntervalLines;
 use crate::meter::Meter;
 use crate::record::{NAMES, push_record};
 use crate::words::{Written, push_words};
@@ -16,7 +18,8 @@ use std::alloc::AllocError;
 
 /// Summaries of the explained events: the number of arrivals by verdict and by cause, the waiting times, the numbers of the updates, and the changes
 /// of the controller's activity. There is one of all events, also if there is none, or one of each interval that has some; each is written when its
-/// last event is known.
+/// last event is known. Each event that lost or marked a packet is explained in words between the summaries, in any form. A summary is written once
+/// its last event is known, before the words for the first event of the next interval.
 #[derive(Clone, Copy)]
 pub struct Digest {
     /// In words, or as CSV: a header row, and one record for each summary. With wall-clock times a line of words
@@ -26,15 +29,35 @@ pub struct Digest {
     /// The length of an interval in nanoseconds, at least 1; the first begins at moment 0. Without a length all
     /// events are summed together.
     pub every: Option<u64>,
-    /// True if each event that lost or marked a packet is explained in words between the summaries, in any form. A
-    /// summary is written once its last event is known, before the words for the first event of the next interval.
-    pub packets: bool,
+}
+
+/// The layout of a summary.
+#[derive(Clone, Copy)]
+pub(crate) enum Layout {
+    /// A CSV record, with a wall-clock time if this is true.
+    Record(bool),
+    /// Several lines of words, with wall-clock times if this is true.
+    Words(bool),
+    /// One line.
+    Line(IntervalLines),
+}
+
+/// Returns the layout of summaries in this form.
+pub(crate) fn layout_of(form: Form) -> Layout
+    ensures { form.csv ≡ true → result ≡ Record form.by_wall }
+{
+    if form.csv {
+        Layout::Record(form.by_wall)
+    } else {
+        Layout::Words(form.by_wall)
+    }
 }
 
 /// Writes these numbers in words onto the page.
 #[inline(never)]
+#[tactic(auto, using(pie_explain::proofs::ReportFacts::extended_by))]
 fn push_in_words(page: &mut Page, by_wall: bool, sums: &Sums, most: u64) -> Written
-    ensures { OnOk result (page.new ≡ page.old ++ words by_wall sums.now most) }
+    ensures { OnOk result (Extends page.old page.new) }
 {
     let mut text = page.words();
     push_words(&mut text, by_wall, sums, most)?;
@@ -52,27 +75,42 @@ fn push_as_record(page: &mut Page, by_wall: bool, meter: &Meter, most: u64) -> W
 }
 
 /// Writes the summary of an interval onto `page` if the interval `ends`.
-fn push_ended(page: &mut Page, form: Form, interval: &Interval, ends: bool) -> Written
-    ensures { OnOk result (page.new ≡ page.old ++ (if ends then summary_text form interval.now.sums interval.now.waits.value else [])) }
+#[tactic(auto, using(pie_explain::proofs::ReportFacts::extended_by, pie_explain::proofs::ReportFacts::unextended))]
+pub(crate) fn push_ended(
+    page: &mut Page,
+    layout: Layout,
+    interval: &Interval,
+    ends: bool,
+) -> Written
+    ensures grown { OnOk result (Extends page.old page.new) }
+    ensures record { (by_wall : Bool) → layout ≡ Record by_wall → OnOk result (page.new ≡ page.old
+        ++ (if ends then summary_text by_wall interval.now.sums interval.now.waits.value else [])) }
 {
     if !ends {
         return Ok(());
     }
     let sums = &interval.sums;
     let most = sums.meter.wait_99(&interval.waits);
-    if form.csv {
-        return push_as_record(page, form.by_wall, &sums.meter, most);
+    match layout {
+        Layout::Record(by_wall) => push_as_record(page, by_wall, &sums.meter, most),
+        Layout::Words(by_wall) => push_in_words(page, by_wall, sums, most),
+        Layout::Line(lines) => lines.push_line(page, interval.ended, &sums.meter, most),
     }
-    push_in_words(page, form.by_wall, sums, most)
 }
 
 /// Begins the interval with this number, unless it is under way. Writes the summary of the interval before onto
 /// `page`, if there is one.
 #[inline(always)]
-#[tactic(auto, using(crate::proofs::IntervalFacts::not_begun, crate::proofs::IntervalFacts::since_same, crate::proofs::IntervalFacts::under_way))]
-pub(crate) fn enter(page: &mut Page, form: Form, interval: &mut Interval, number: u64) -> Written
-    ensures written { OnOk result (page.new ≡ page.old
-        ++ (if ends_interval interval.old.number number then summary_text form interval.old.sums interval.old.waits.value else [])) }
+#[tactic(auto, using(pie_explain::proofs::ReportFacts::unextended, crate::proofs::IntervalFacts::not_begun, crate::proofs::IntervalFacts::since_same, crate::proofs::IntervalFacts::under_way))]
+pub(crate) fn enter(
+    page: &mut Page,
+    layout: Layout,
+    interval: &mut Interval,
+    number: u64,
+) -> Written
+    ensures grown { OnOk result (Extends page.old page.new) }
+    ensures record { (by_wall : Bool) → layout ≡ Record by_wall → OnOk result (page.new ≡ page.old
+        ++ (if ends_interval interval.old.number number then summary_text by_wall interval.old.sums interval.old.waits.value else [])) }
     ensures number { OnOk result (interval.new.number ≡ Some number) }
     ensures holds { OnOk result ((shown : List Explained) (every : Option ℕ) → Keeps (HoldsSums interval.old) every interval.old.number shown
         → HoldsSums interval.new (since every (Some number) shown)) }
@@ -80,21 +118,22 @@ pub(crate) fn enter(page: &mut Page, form: Form, interval: &mut Interval, number
     if !starts_interval(interval.number, number) {
         return Ok(());
     }
-    begin_interval(page, form, interval, number)
+    begin_interval(page, layout, interval, number)
 }
 
 /// Begins the interval with this number, as `enter` does, if it is under way or not.
 #[cold]
 #[inline(never)]
-fn begin_interval(page: &mut Page, form: Form, interval: &mut Interval, number: u64) -> Written
-    ensures written { OnOk result (page.new ≡ page.old
-        ++ (if ends_interval interval.old.number number then summary_text form interval.old.sums interval.old.waits.value else [])) }
+fn begin_interval(page: &mut Page, layout: Layout, interval: &mut Interval, number: u64) -> Written
+    ensures grown { OnOk result (Extends page.old page.new) }
+    ensures record { (by_wall : Bool) → layout ≡ Record by_wall → OnOk result (page.new ≡ page.old
+        ++ (if ends_interval interval.old.number number then summary_text by_wall interval.old.sums interval.old.waits.value else [])) }
     ensures number { OnOk result (interval.new.number ≡ Some number) }
     ensures holds { OnOk result ((shown : List Explained) (every : Option ℕ) → Keeps (HoldsSums interval.old) every interval.old.number shown
         → HoldsSums interval.new (since every (Some number) shown)) }
 {
     let ends = ends_interval(interval.number, number);
-    push_ended(page, form, interval, ends)?;
+    push_ended(page, layout, interval, ends)?;
     interval.begin(number);
     Ok(())
 }
@@ -107,12 +146,12 @@ fn is_lost_or_marked(explained: &Explained) -> bool
     EventChoice::Lost.chooses(number, event) || EventChoice::Marked.chooses(number, event)
 }
 
-/// Writes the words for an event that lost or marked a packet, if packets are explained.
-#[tactic(auto, unfolding(crate::specs::Summary::event_words))]
+/// Writes the words for an event that lost or marked a packet.
+#[tactic(auto, using(pie_explain::proofs::ReportFacts::unextended))]
 fn push_event_words(page: &mut Page, digest: &Digest, explained: &Explained) -> Written
-    ensures { OnOk result (page.new ≡ page.old ++ event_words digest.now explained.now) }
+    ensures { OnOk result (Extends page.old page.new) }
 {
-    if digest.packets && is_lost_or_marked(explained) {
+    if is_lost_or_marked(explained) {
         pie_explain::push_words(
             page,
             digest.form.clock(explained.explanation.clock),
@@ -126,13 +165,14 @@ fn push_event_words(page: &mut Page, digest: &Digest, explained: &Explained) -> 
 impl Report for Digest {
     type State = Interval;
 
-    ghost use Rattle.pie_summary.specs.Summary.{keeps, summaries, summary_of};
+    ghost use Rattle.std.specs.Prelude.{⊤};
+    ghost use Rattle.pie_summary.specs.Summary.{keeps};
 
-    ghost shows = { keeps };
+    ghost shows = { λ it. keeps it.every };
 
-    ghost so_far = { summaries };
+    ghost so_far = { λ it all text. ⊤ };
 
-    ghost whole = { summary_of };
+    ghost whole = { λ it all text. ⊤ };
 
     #[inline(always)]
     fn is_by_kind(&self) -> bool {
@@ -148,18 +188,15 @@ impl Report for Digest {
 
     fn report_event(&self, sums: &mut Interval, explained: &Explained, page: &mut Page) -> Written {
         let number = interval_of(self.every, explained.explanation.moment);
-        enter(page, self.form, sums, number)?;
+        enter(page, layout_of(self.form), sums, number)?;
         push_event_words(page, self, explained)?;
         sums.add(explained);
         Ok(())
     }
 
+    #[tactic(auto, using(pie_explain::proofs::ReportFacts::said_ok))]
     fn end(&self, state: &Interval, page: &mut Page) -> Written {
-        push_ended(
-            page,
-            self.form,
-            state,
-            has_summary(self.every, state.number),
-        )
+        let ends = has_summary(self.every, state.number);
+        push_ended(page, layout_of(self.form), state, ends)
     }
 }

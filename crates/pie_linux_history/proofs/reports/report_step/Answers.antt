@@ -7,4 +7,4 @@ returns-in_default g c = λ steps before out was. reports-same steps c.args.one.
 
 pub returns : goal.returns
 returns g c = λ steps before out was.
-    reports-more steps c.args.one.now out (sym c.selected.ensures ∙ c.in-Some.is) was (c.in_ok-report_event.ensures _ was.shown)
+    reports-more steps c.args.one.now out (sym c.selected.ensures ∙ c.in-Some.is) was (c.in_ok-report_event.ensures _ was.text was.shown was.says)

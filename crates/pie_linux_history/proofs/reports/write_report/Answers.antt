@@ -8,5 +8,5 @@ returns g c = λ before was.
     c.finish.ensures (g.P.Report.whole report) before
     (on-ok c.report_steps-outcome.result (λ some.
     on-ok c.end-ended.result (reports-ended (g.P.Report.whole report) (g.W.Write.contents c.report_steps-outcome.new.writer) some)
-    (c.end-ended.ensures (all_selected c.args.selection.now some.0) some.1.shown))
+    (c.end-ended.ensures (all_selected c.args.selection.now some.0) some.1.text some.1.shown some.1.says))
     (c.report_steps-outcome.ensures before was))

@@ -27,4 +27,4 @@ returns-clause-explains g c = λ start origin lines before out was explanation_t
     (c.end.ensures.in_state c.begin-explained.ensures.event same)
     (rw c.core-2.ensures later.represents) in
     explains-reported c.args.line.now out was follows agree (given.is ∙ rw (← after) refl) (given.event c.begin-explained.result.explanation refl)
-    c.increase.ensures (c.in_ok-report_event.ensures _ was.shown)
+    c.increase.ensures (c.in_ok-report_event.ensures _ was.text was.shown was.says)

@@ -1,6 +1,6 @@
 use Rattle.std.specs.Prelude.{[], ◌∷◌, decimal}
 use Rattle.pie_explain.specs.Record.{onto, steady_fields}
-use Rattle.pie_explain.proofs.WordFacts.{steady_last}
+use Rattle.pie_explain.proofs.RecordFacts.{steady_last}
 use Rattle.pie_explain.proofs.text_cache.Held.take.Goals as goal
 
 pub begin-requires-clause-ends : goal.begin-requires-clause-ends

@@ -1,25 +1,22 @@
-use Rattle.pie_summary.proofs.Names.{[], if◌then◌else◌, ◌∙◌, ap, subst, append-nil, ends_interval, header, event_words, since, sym, HoldsSums, Some, ℕ}
-use Rattle.pie_summary.specs.Summary.{without_packets, summary_text, written_at}
+use Rattle.pie_summary.proofs.Names.{[], if◌then◌else◌, ◌∙◌, ap, subst, ends_interval, header, since, HoldsSums, Some, summary_text_of, ℕ, grows}
+use Rattle.pie_summary.specs.Interval.{at_end}
+use Rattle.pie_summary.specs.Summary.{summary_text}
 use Rattle.pie_summary.proofs.IntervalFacts.{keeps-push, written-push}
 use Rattle.pie_summary.proofs.summaries_only.SummariesOnlyReport.report_event.Goals as goal
 
 pub returns : goal.returns
-unfolding event_words
-returns c = λ all kept.
-    let summary = without_packets c.args.self.now in
+returns c = λ all text kept says.
+    let it = c.args.self.now in
+    let by_wall = it.form.by_wall in
     let interval = c.args.sums.now in
     let one = c.args.explained.now in
     let number = c.interval_of-number.ensures in
-    let said_at_end = if ends_interval interval.number c.interval_of-number.result then summary_text summary.form interval.sums interval.waits.value else [] in
-    let holds = subst (λ (n : ℕ). HoldsSums c.enter.new.interval (since summary.every (Some n) all)) number
-    (c.in_ok-enter.ensures.holds all summary.every kept) in (
-      keeps-push (HoldsSums c.add.new.self) summary.every _ all one (c.add.ensures.number ∙ c.in_ok-enter.ensures.number ∙ ap Some number)
+    let holds = subst (λ (n : ℕ). HoldsSums c.enter.new.interval (since it.every (Some n) all)) number (c.in_ok-enter.ensures.holds all it.every kept) in (
+      keeps-push (HoldsSums c.add.new.self) it.every _ all one (c.add.ensures.number ∙ c.in_ok-enter.ensures.number ∙ ap Some number)
           (c.add.ensures.adds _ holds),
-      record {
-        more = said_at_end;
-        grown = c.in_ok-enter.ensures.written;
-        turned = written-push (header summary.form) (written_at summary) all one said_at_end
-            ((λ i. if ends_interval (kept.last i) (number i) then summary_text summary.form (kept.kept.sums i) (kept.kept.waits i) else [])
-            ∙ sym (append-nil _));
-      },
+      grows it.form.csv _ _ text _ _ _ c.in_ok-enter.ensures.grown (λ csv. c.in_ok-enter.ensures.record by_wall (c.layout_of.ensures csv))
+          (written-push (header by_wall) (at_end it.every (summary_text_of by_wall)) all one
+          (if ends_interval interval.number c.interval_of-number.result then summary_text by_wall interval.sums interval.waits.value else [])
+          (λ i. if ends_interval (kept.last i) (number i) then summary_text by_wall (kept.kept.sums i) (kept.kept.waits i) else []))
+          says,
     )

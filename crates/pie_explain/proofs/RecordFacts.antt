@@ -1,22 +1,12 @@
--- Facts about the output: numbers with leading zeros, records built from their fields, and reports.
-use Rattle.std.proofs.Common.{List, [], ap, append-nil, append_assoc, arith, codes, drop, length, length-append, refl, sym, ℕ, ◌++◌, ◌-◌, ◌∙◌, ◌∷◌, ◌≡◌}
-use Rattle.std.specs.Prelude.{false}
-use Rattle.std.specs.Fmt.{char_count, decimal, format_spec, padded_integral}
-use Rattle.pie_units.specs.Time.{with_zeros}
+-- Facts about the output: records built from their fields, and reports.
+use Rattle.std.proofs.Common.{Bool, List, [], ap, append-nil, append_assoc, arith, codes, drop, length, length-append, refl, sym, ℕ, ◌++◌, ◌-◌, ◌∙◌, ◌∷◌, ◌≡◌}
 use Rattle.pie_explain.specs.declared.explanation.Explained.{Explained}
 use Rattle.pie_explain.specs.Record.{active_field, line_of, most_fields, onto, record_of}
 use Rattle.std.proofs.lemmas.List.{drop_at}
 use Rattle.std.specs.List.{flat_map}
 use Rattle.std.proofs.lemmas.List.Concat.{flat_map-append}
-use Rattle.pie_explain.specs.declared.form.Form.{Form}
-use Rattle.pie_explain.specs.Output.{header, pages, explanation_texts, explanation_text}
+use Rattle.pie_explain.specs.Output.{IsRecords, header, pages, explanation_texts, explanation_text}
 use Rattle.pie_explain.specs.Report.{Grows}
-
--- a number is written with zeros before it
-pub padded : (width n : ℕ) → padded_integral (format_spec 32 0 4 width 18446744073709551615) false [] (decimal n) ≡ with_zeros width n
-unfolding padded_integral char_count
-padded width n =
-    let same : width - length (decimal n) - 0 - 0 ≡ width - length (decimal n) = omega arith in rw (same, append-nil (decimal n)) refl
 
 -- ==== A record is put together
 
@@ -51,24 +41,22 @@ wall_line all wall old =
     ∙ ap (λ (l : List ℕ). old ++ l) (onto-append most (active ++ codes ",") (wall ++ codes "\n")
     ∙ ap (λ (l : List ℕ). onto most l) (append_assoc active (codes ",") (wall ++ codes "\n")) ∙ sym (line-onto (most ++ active ∷ []) wall))
 
--- ==== Explanations one by one, as a report
+-- ==== Records one by one, as a report
 
-words-push : (form : Form) (all : List Explained) (one : Explained) → explanation_texts form (all ++ one ∷ []) ≡ explanation_texts form all ++ explanation_text form one
+records-push : (by_wall : Bool) (all : List Explained) (one : Explained)
+    → explanation_texts by_wall (all ++ one ∷ []) ≡ explanation_texts by_wall all ++ explanation_text by_wall one
 unfolding explanation_texts
-words-push form all one = flat_map-append (explanation_text form) all (one ∷ [])
-    ∙ ap (λ (text : List ℕ). flat_map (explanation_text form) all ++ text) (append-nil (explanation_text form one))
+records-push by_wall all one = flat_map-append (explanation_text by_wall) all (one ∷ [])
+    ∙ ap (λ (text : List ℕ). flat_map (explanation_text by_wall) all ++ text) (append-nil (explanation_text by_wall one))
 
-words-none : (form : Form) → explanation_texts form [] ≡ []
+pub pages_none : (by_wall : Bool) (page now : List ℕ) → now ≡ page ++ header by_wall → Grows (IsRecords by_wall []) [] page now
 unfolding explanation_texts
-words-none form = refl
+pages_none by_wall page now is = record { more = header by_wall; grown = is; says = sym (append-nil (header by_wall)) }
 
-pub pages_none : (form : Form) → pages form [] ≡ header form
-pages_none form = ap (λ (text : List ℕ). header form ++ text) (words-none form) ∙ append-nil (header form)
-
-pub pages_reported : (form : Form) (all : List Explained) (one : Explained) (old now : List ℕ) → now ≡ old ++ explanation_text form one
-    → Grows (pages form all) (pages form (all ++ one ∷ [])) old now
-pages_reported form all one old now is = record {
-  more = explanation_text form one;
+pub pages_reported : (by_wall : Bool) (all : List Explained) (one : Explained) (text old now : List ℕ) → text ≡ pages by_wall all
+    → now ≡ old ++ explanation_text by_wall one → Grows (IsRecords by_wall (all ++ one ∷ [])) text old now
+pages_reported by_wall all one text old now was is = record {
+  more = explanation_text by_wall one;
   grown = is;
-  turned = rw (words-push form all one) (sym (append_assoc (header form) (explanation_texts form all) (explanation_text form one)));
+  says = rw (records-push by_wall all one, was) (append_assoc (header by_wall) (explanation_texts by_wall all) (explanation_text by_wall one));
 }

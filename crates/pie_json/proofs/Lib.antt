@@ -1,3 +1,0 @@
-mod Examples
-pub mod LawFacts
-pub mod LineFacts

@@ -13,7 +13,7 @@ _pie() {
             storm) words='--senders --packets --burst --seed --load --changes --folds --profile --delay --picking --step --size --decay --count --help' ;;
             params) words='--rate --target --tupdate --limit --alpha --beta --ecn --bytemode --mtu --dq_rate_estimator --no_derandomization \
                 --no_cap_drop_adjustment --decay --overhead --mpu --linklayer --help' ;;
-            what-if) words='--from --target --tupdate --max_burst --alpha --beta --mean_pkt --limit --mark_ecnth --dq_threshold --csv \
+            what-if) words='--from --target --tupdate --max_burst --alpha --beta --mean_pkt --limit --mark_ecnth --dq_threshold --csv --json \
                 --progress --output --force --help' ;;
             advise) words='--rate --rtt --flows --overhead --ecn --help' ;;
             help) words='run audit explain cut migrate storm params what-if advise help' ;;

@@ -81,6 +81,7 @@ complete -c pie -n '__fish_seen_subcommand_from what-if' -l limit -x -d 'limit o
 complete -c pie -n '__fish_seen_subcommand_from what-if' -l mark_ecnth -x -d 'probability from which packets are dropped'
 complete -c pie -n '__fish_seen_subcommand_from what-if' -l dq_threshold -x -d 'bytes in a cycle of the departure rate'
 complete -c pie -n '__fish_seen_subcommand_from what-if' -l csv -d 'CSV instead of words'
+complete -c pie -n '__fish_seen_subcommand_from what-if' -l json -d 'JSON instead of words'
 complete -c pie -n '__fish_seen_subcommand_from advise' -l rate -x -d 'rate of the link, such as 20mbit'
 complete -c pie -n '__fish_seen_subcommand_from advise' -l rtt -x -d 'round-trip times, such as 10ms-100ms'
 complete -c pie -n '__fish_seen_subcommand_from advise' -l flows -x -d 'numbers of flows, such as 1-16'

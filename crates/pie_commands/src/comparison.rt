@@ -1,14 +1,15 @@
-//! The comparison of a history with the other history of `pie what-if`, by the numbers of their summaries.
+//! The comparison of a history with its control and with the other history of `pie what-if`, by the numbers of their
+//! summaries.
 
 use pie_explain::{EventChoice, ExplainFault, Form, Selection, explain};
 use pie_summary::SummariesOnly;
 use pie_trace::TraceFault;
-use pie_units::When;
+use pie_what_if::Omitted;
 use std::alloc::{AllocError, Global};
 use std::io;
 use std::io::Write;
 
-/// The line above a comparison.
+/// The first line of a comparison.
 pub(crate) const NO_REACTION: &str =
     "senders do not react: each packet arrives, and the link is ready, at the moments of the history";
 
@@ -34,6 +35,39 @@ const TIMES: [&str; 15] = [
 /// The fields of a summary that are probabilities, in units of `10^-12`.
 const PROBABILITIES: [&str; 2] = ["greatest_probability", "last_probability"];
 
+/// A column of a comparison: the events of `text` after the event with the number `after`. The text omits commands of
+/// the history.
+#[derive(Clone, Copy)]
+pub(crate) struct Column<'a> {
+    pub(crate) text: &'a [u8],
+    pub(crate) after: u64,
+    pub(crate) omitted: Omitted,
+}
+
+/// The columns of a comparison: the history as it was recorded, the control, and the other history.
+#[derive(Clone, Copy)]
+pub(crate) struct Columns<'a> {
+    pub(crate) recorded: Column<'a>,
+    pub(crate) control: Column<'a>,
+    pub(crate) other: Column<'a>,
+}
+
+/// The form of a comparison.
+#[derive(Clone, Copy)]
+pub(crate) enum Table {
+    Words,
+    Csv,
+    Json,
+}
+
+/// A number in each column.
+#[derive(Clone, Copy)]
+struct Numbers {
+    recorded: u128,
+    control: u128,
+    other: u128,
+}
+
 /// Returns the fault of a text whose output is collected in memory: a failed write is a lack of memory.
 pub(crate) fn fault_in_memory(why: TraceFault) -> TraceFault {
     match why {
@@ -42,20 +76,16 @@ pub(crate) fn fault_in_memory(why: TraceFault) -> TraceFault {
     }
 }
 
-/// Returns the summary of the events of a text from this moment on, as a CSV text of a header and a record.
-fn summary_of(alloc: Global, text: &[u8], from: u64) -> Result<Vec<u8>, ExplainFault> {
+/// Returns the summary of the events of a column, as a CSV text of a header and a record.
+fn summary_of(alloc: Global, column: &Column<'_>) -> Result<Vec<u8>, ExplainFault> {
     let mut written = Vec::new(alloc);
-    let selection = Selection {
-        which: EventChoice::All,
-        from: Some(When::Moment(from)),
-        to: None,
-    };
+    let selection = Selection::of(EventChoice::After(column.after));
     let form = Form {
         csv: true,
         by_wall: false,
     };
     let sums = SummariesOnly { form, every: None };
-    match explain(alloc, text, &mut written, selection, sums) {
+    match explain(alloc, column.text, &mut written, selection, sums) {
         Ok(_) => Ok(written),
         Err(ExplainFault::Trace(why)) => {
             drop(written);
@@ -76,12 +106,11 @@ fn rows_of(summary: &[u8]) -> Option<(&str, &str)> {
     Some((names, record))
 }
 
-/// Returns the first field of a row, and the fields after it.
-fn split_row(row: &str) -> (&str, &str) {
-    match row.split_once(',') {
-        Some((first, rest)) => (first, rest),
-        None => (row, ""),
-    }
+/// Returns the first field of a row, and moves the row behind it.
+fn next_field<'a>(row: &mut &'a str) -> &'a str {
+    let (first, rest) = row.split_once(',').unwrap_or((*row, ""));
+    *row = rest;
+    first
 }
 
 /// Returns true if `name` is one of these names.
@@ -108,92 +137,211 @@ fn cell_of(alloc: Global, name: &str, sign: &str, number: u128) -> Result<String
     format!(in alloc; "{sign}{number}")
 }
 
-/// Writes the line of a field: its name, its numbers in the history and in the other one, and their difference. In words
-/// there is no line if both numbers are 0.
+/// Writes a line of words: the name of a field, its numbers, and the difference with its sign.
+fn write_words<W: Write>(
+    alloc: Global,
+    output: &mut W,
+    name: &str,
+    numbers: &Numbers,
+    sign: &str,
+) -> io::Result<()> {
+    let Numbers {
+        recorded,
+        control,
+        other,
+    } = *numbers;
+    if recorded == 0 && control == 0 && other == 0 {
+        return Ok(());
+    }
+    let difference = cell_of(alloc, name, sign, control.abs_diff(other))?;
+    let recorded = cell_of(alloc, name, "", recorded)?;
+    let control = cell_of(alloc, name, "", control)?;
+    let other = cell_of(alloc, name, "", other)?;
+    writeln!(
+        output,
+        "{name:<25} {recorded:>17} {control:>17} {other:>17} {difference:>18}"
+    )
+}
+
+/// Writes the line of a field: its name, its numbers, and the difference of the other history and the control. In words
+/// there is no line if all numbers are 0.
 fn write_line<W: Write>(
     alloc: Global,
     output: &mut W,
-    csv: bool,
+    table: Table,
     name: &str,
-    own: u128,
-    other: u128,
+    numbers: &Numbers,
 ) -> io::Result<()> {
-    let sign = if own < other {
-        "+"
-    } else if other < own {
-        "-"
-    } else {
-        ""
-    };
-    let difference = own.abs_diff(other);
-    if csv {
-        return writeln!(output, "{name},{own},{other},{sign}{difference}");
+    let Numbers {
+        recorded,
+        control,
+        other,
+    } = *numbers;
+    let difference = control.abs_diff(other);
+    let minus = if other < control { "-" } else { "" };
+    let plus = if control < other { "+" } else { minus };
+    match table {
+        Table::Words => write_words(alloc, output, name, numbers, plus),
+        Table::Csv => writeln!(
+            output,
+            "{name},{recorded},{control},{other},{plus}{difference}"
+        ),
+        Table::Json => writeln!(
+            output,
+            "{{\"field\":\"{name}\",\"recorded\":{recorded},\"control\":{control},\"other\":{other},\"difference\":{minus}{difference}}}"
+        ),
     }
-    if own == 0 && other == 0 {
-        return Ok(());
-    }
-    let before = cell_of(alloc, name, "", own)?;
-    let after = cell_of(alloc, name, "", other)?;
-    let change = cell_of(alloc, name, sign, difference)?;
-    writeln!(output, "{name:<26} {before:>20} {after:>20} {change:>20}")
 }
 
-/// Writes a line for each field of two summaries. `names` has the names of the fields.
-fn write_lines<W: Write>(
+/// Writes the lines for the commands of each kind that the histories omit.
+fn write_omitted<W: Write>(
     alloc: Global,
     output: &mut W,
-    csv: bool,
-    names: &str,
-    own: &str,
-    other: &str,
+    table: Table,
+    columns: &Columns<'_>,
 ) -> io::Result<()> {
-    let (mut names, mut own, mut other) = (names, own, other);
-    for _ in 0..names.len() {
-        if names.is_empty() {
-            return Ok(());
-        }
-        let (name, later_names) = split_row(names);
-        let (first, later_own) = split_row(own);
-        let (second, later_other) = split_row(other);
-        if let (Ok(first), Ok(second)) = (first.parse::<u128>(), second.parse::<u128>()) {
-            write_line(alloc, output, csv, name, first, second)?;
-        }
-        names = later_names;
-        own = later_own;
-        other = later_other;
+    let (control, other) = (columns.control.omitted, columns.other.omitted);
+    let kinds = [
+        ("omitted_arrivals", control.arrivals, other.arrivals),
+        ("omitted_departures", control.departures, other.departures),
+        ("omitted_updates", control.updates, other.updates),
+        ("omitted_resets", control.resets, other.resets),
+        ("omitted_params", control.changes, other.changes),
+    ];
+    for (name, control, other) in kinds {
+        let numbers = Numbers {
+            recorded: 0,
+            control: u128::from(control),
+            other: u128::from(other),
+        };
+        write_line(alloc, output, table, name, &numbers)?;
     }
     Ok(())
 }
 
-/// Writes the head of a comparison, and the lines of its fields.
+/// The summaries of the columns, each a record of CSV, and the names of its fields.
+#[derive(Clone, Copy)]
+struct Records<'a> {
+    names: &'a str,
+    recorded: &'a str,
+    control: &'a str,
+    other: &'a str,
+}
+
+/// Reads the next number of each record, and its name. A field without a number is 0.
+fn next_numbers<'a>(records: &mut Records<'a>) -> (&'a str, Numbers) {
+    let name = next_field(&mut records.names);
+    let recorded = next_field(&mut records.recorded).parse().unwrap_or(0);
+    let control = next_field(&mut records.control).parse().unwrap_or(0);
+    let other = next_field(&mut records.other).parse().unwrap_or(0);
+    let numbers = Numbers {
+        recorded,
+        control,
+        other,
+    };
+    (name, numbers)
+}
+
+/// Writes the head of a comparison: in words its assumption and the meaning of each column. `before` is the number of
+/// events that all columns leave out.
+fn write_head<W: Write>(output: &mut W, table: Table, before: u64) -> io::Result<()> {
+    match table {
+        Table::Words => {
+            writeln!(output, "{NO_REACTION}")?;
+            writeln!(
+                output,
+                "recorded: the events of the history after event {before}"
+            )?;
+            writeln!(
+                output,
+                "control: their commands after a record params with the unchanged parameters"
+            )?;
+            writeln!(
+                output,
+                "other: their commands after this record with the parameters of the options"
+            )?;
+            writeln!(
+                output,
+                "difference: other - control, the effect of the parameters"
+            )?;
+            writeln!(
+                output,
+                "{:<25} {:>17} {:>17} {:>17} {:>18}",
+                "field", "recorded", "control", "other", "difference"
+            )
+        }
+        Table::Csv => writeln!(output, "field,recorded,control,other,difference"),
+        Table::Json => Ok(()),
+    }
+}
+
+/// Writes the line that names the target of the fields about it.
+fn write_target<W: Write>(alloc: Global, output: &mut W, targets: &Numbers) -> io::Result<()> {
+    let recorded = cell_of(alloc, "last_target", "", targets.recorded)?;
+    let control = cell_of(alloc, "last_target", "", targets.control)?;
+    let other = cell_of(alloc, "last_target", "", targets.other)?;
+    writeln!(
+        output,
+        "above_target: above the target of the column, at its end {recorded}, {control} and {other}"
+    )
+}
+
+/// Writes a comparison of these records.
 fn write_rows<W: Write>(
     alloc: Global,
     output: &mut W,
-    csv: bool,
-    names: &str,
-    own: &str,
-    other: &str,
+    table: Table,
+    columns: &Columns<'_>,
+    records: Records<'_>,
 ) -> io::Result<()> {
-    if csv {
-        writeln!(output, "field,history,other,difference")?;
-    } else {
-        writeln!(output, "{NO_REACTION}")?;
-        writeln!(
-            output,
-            "{:<26} {:>20} {:>20} {:>20}",
-            "field", "history", "other", "difference"
-        )?;
+    let mut records = records;
+    let mut targets = Numbers {
+        recorded: 0,
+        control: 0,
+        other: 0,
+    };
+    write_head(output, table, columns.recorded.after)?;
+    for _ in 0..records.names.len() {
+        if records.names.is_empty() {
+            break;
+        }
+        let (name, numbers) = next_numbers(&mut records);
+        if name == "last_target" {
+            targets = numbers;
+        }
+        write_line(alloc, output, table, name, &numbers)?;
     }
-    write_lines(alloc, output, csv, names, own, other)
+    write_omitted(alloc, output, table, columns)?;
+    match table {
+        Table::Words => write_target(alloc, output, &targets),
+        Table::Csv | Table::Json => Ok(()),
+    }
 }
 
-/// Returns the text of a comparison of two summaries.
-fn page_of(alloc: Global, own: &[u8], other: &[u8], csv: bool) -> Result<Vec<u8>, ExplainFault> {
+/// Returns the text of a comparison of these summaries.
+fn page_of(
+    alloc: Global,
+    columns: &Columns<'_>,
+    table: Table,
+    recorded: &[u8],
+    control: &[u8],
+    other: &[u8],
+) -> Result<Vec<u8>, ExplainFault> {
     let mut page = Vec::new(alloc);
-    let (Some((names, own)), Some((_, other))) = (rows_of(own), rows_of(other)) else {
+    let (Some((names, recorded)), Some((_, control)), Some((_, other))) = (
+        rows_of(recorded),
+        rows_of(control),
+        rows_of(other),
+    ) else {
         return Ok(page);
     };
-    match write_rows(alloc, &mut page, csv, names, own, other) {
+    let records = Records {
+        names,
+        recorded,
+        control,
+        other,
+    };
+    match write_rows(alloc, &mut page, table, columns, records) {
         Ok(()) => Ok(page),
         Err(_) => {
             drop(page);
@@ -202,19 +350,18 @@ fn page_of(alloc: Global, own: &[u8], other: &[u8], csv: bool) -> Result<Vec<u8>
     }
 }
 
-/// Returns the text of the comparison of a history and the other history, whose texts these are, from this moment on.
+/// Returns the text of a comparison of these columns.
 ///
 /// # Errors
 ///
 /// Returns the fault of an explanation; `Trace` with `Memory` if memory is short.
 pub(crate) fn comparison(
     alloc: Global,
-    own: &[u8],
-    other: &[u8],
-    from: u64,
-    csv: bool,
+    columns: &Columns<'_>,
+    table: Table,
 ) -> Result<Vec<u8>, ExplainFault> {
-    let own = summary_of(alloc, own, from)?;
-    let other = summary_of(alloc, other, from)?;
-    page_of(alloc, &own, &other, csv)
+    let recorded = summary_of(alloc, &columns.recorded)?;
+    let control = summary_of(alloc, &columns.control)?;
+    let other = summary_of(alloc, &columns.other)?;
+    page_of(alloc, columns, table, &recorded, &control, &other)
 }

@@ -8,7 +8,7 @@ use Rattle.pie_audit.specs.Replay.{Replays, finding_from}
 use Rattle.pie_explain.specs.declared.fault.ExplainFault.{ExplainFault}
 use Rattle.pie_explain.specs.declared.fault.ExplainFault.TheVariants.{Trace, Differs, Earlier, NoEvent, NoTag, NoneWithin}
 use Rattle.pie_explain.specs.declared.choice.EventChoice.{EventChoice}
-use Rattle.pie_explain.specs.declared.choice.EventChoice.TheVariants.{Number, Tag, Lost, Marked, All}
+use Rattle.pie_explain.specs.declared.choice.EventChoice.TheVariants.{Number, Tag, Lost, Marked, All, After}
 use Rattle.pie_explain.specs.Explanations.{explanations_since}
 use Rattle.pie_audit.specs.declared.auditor.Finding.TheVariants as finding
 
@@ -27,6 +27,7 @@ none_picked false (Tag tag) before events = Err NoneWithin
 none_picked whole Lost before events = Ok 0
 none_picked whole Marked before events = Ok 0
 none_picked whole All before events = Ok 0
+none_picked whole (After first) before events = Ok 0
 
 -- the result by the number of events before the text, the number of explained events, and the finding of the audit
 abbrev pub answered : Selection → ℕ → ℕ → Finding → Result ℕ ExplainFault

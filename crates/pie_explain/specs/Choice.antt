@@ -1,5 +1,5 @@
 -- The choice of the events to explain.
-use Rattle.std.specs.Prelude.{ℕ, ◌==◌, Bool, true, false, Option, Some, None}
+use Rattle.std.specs.Prelude.{ℕ, ◌==◌, nat_lt, Bool, true, false, Option, Some, None}
 use Rattle.std.specs.Option.{option_map_or}
 use Rattle.pie_queue.specs.declared.packet.Packet.{Packet}
 use Rattle.pie_event.specs.declared.command.Command.{Command}
@@ -9,7 +9,7 @@ use Rattle.pie_event.specs.declared.command.Answer.TheVariants.{DroppedEarly, Dr
 use Rattle.pie_event.specs.declared.command.Answer.TheVariants as answer
 use Rattle.pie_event.specs.declared.command.Event.{Event}
 use Rattle.pie_explain.specs.declared.choice.EventChoice.{EventChoice}
-use Rattle.pie_explain.specs.declared.choice.EventChoice.TheVariants.{Number, Tag, Lost, Marked, All}
+use Rattle.pie_explain.specs.declared.choice.EventChoice.TheVariants.{Number, Tag, Lost, Marked, All, After}
 
 -- the packet that left
 abbrev pub packet_left : Answer → Option Packet
@@ -48,3 +48,4 @@ chooses (Tag tag) number event = has_tag tag event
 chooses Lost number event = is_lost event.answer
 chooses Marked number event = is_marked event.answer
 chooses All number event = true
+chooses (After first) number event = nat_lt first number

@@ -18,6 +18,8 @@ pub enum EventChoice {
     Marked,
     /// Every event.
     All,
+    /// Every event after the one with this number.
+    After(u64),
 }
 
 /// Returns the packet of an event: the one that arrived, or the one that left.
@@ -74,6 +76,7 @@ impl EventChoice {
             EventChoice::Lost => is_lost(event.answer),
             EventChoice::Marked => is_marked(event.answer),
             EventChoice::All => true,
+            EventChoice::After(first) => first < number,
         }
     }
 }

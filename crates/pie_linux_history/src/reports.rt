@@ -213,6 +213,7 @@ pub fn report<R: Read + Drop, W: Write, P: Report>(
 fn selects(selection: &Selection, one: &DecidedStep, packet: &DecidedPacket) -> bool {
     let is_chosen = match (selection.which, packet.fate) {
         (EventChoice::All, _) => true,
+        (EventChoice::After(first), _) => first < one.event,
         (EventChoice::Number(event), _) => event == one.event,
         (EventChoice::Tag(tag), Fate::Arrival(_)) => tag == tag_of(one),
         (EventChoice::Marked, Fate::Arrival(cause)) => is_marked(cause),

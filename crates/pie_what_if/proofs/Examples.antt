@@ -16,8 +16,11 @@ use Rattle.pie_params.specs.declared.elements.Delay.TheVariants.{Stamp}
 use Rattle.pie_queue.specs.declared.ecn.Ecn.TheVariants.{NotEct}
 use Rattle.pie_queue.specs.declared.packet.Packet.{Packet}
 use Rattle.pie_record.specs.declared.history_record.Line.TheVariants.{Valid}
+use Rattle.pie_units.specs.declared.when.When.TheVariants.{Moment}
 unfoldable use Rattle.pie_what_if.specs.Other.{point_at_end}
-use Rattle.pie_what_if.specs.Other.{ReadLine, first_point}
+use Rattle.pie_what_if.specs.Omitted.{counts_of}
+use Rattle.pie_what_if.specs.Other.{Point, ReadLine, first_point}
+use Rattle.pie_what_if.specs.declared.omitted.Omitted.{Omitted}
 use Rattle.pie_what_if.specs.declared.other_params.OtherParams.{OtherParams}
 
 abbrev packet : ℕ → ℕ → Packet
@@ -41,10 +44,15 @@ commands = map (λ tag. Arrive 0 (packet tag 1024) 0) (1 ∷ 2 ∷ 3 ∷ 4 ∷ [
 abbrev read : Command → ReadLine
 read command = record { line = Valid (record { caller = 1; command = command; answer = Done }); row = [] }
 
--- the answers of the other history, with these parameters from the second departure on
+-- the end of the other history, with these parameters from the second departure on; its answers, and the numbers of omitted commands
+abbrev end : OtherParams → Point
+end params = point_at_end (record { from = Moment 1001000; params = params }) (first_point opening []) (map read commands)
+
 abbrev answers : OtherParams → List Answer
-answers params =
-    map (λ (event : Event). event.answer) (point_at_end (record { from = 1001000; params = params }) (first_point opening []) (map read commands)).events
+answers params = map (λ (event : Event). event.answer) (end params).events
+
+abbrev omitted : OtherParams → Omitted
+omitted params = counts_of (end params).omitted
 
 abbrev none : OtherParams
 none = record {
@@ -63,13 +71,16 @@ none = record {
 abbrev before : List Answer
 before = Enqueued ∷ Enqueued ∷ Enqueued ∷ Enqueued ∷ Left (packet 1 1024) ∷ []
 
--- Without other parameters the last packet is dropped early. With a target of ten seconds the probability stays 0, and both
--- packets are queued. With a limit of 2500 bytes the probabilities are the same, and neither packet has room
-worked_histories : (answers none ≡ before ++ Left (packet 2 1024) ∷ Updated 1001000 415453271 0 ∷ Updated 1001000 27004462646 0
+-- The control, without other parameters, drops the last packet early. With a target of ten seconds the probability stays 0,
+-- and both packets are queued. With a limit of 2500 bytes the probabilities are the same, and neither packet has room. If an
+-- update is due after 2 ns, the second one is omitted
+worked_histories : (answers none ≡ before ++ Done ∷ Left (packet 2 1024) ∷ Updated 1001000 415453271 0 ∷ Updated 1001000 27004462646 0
     ∷ Updated 1001000 452428612646 0 ∷ Enqueued ∷ DroppedEarly ∷ [])
     × (answers (record none { target = Some (10 ^ 10) }) ≡ before ++ Done ∷ Left (packet 2 1024) ∷ Updated 1001000 0 0 ∷ Updated 1001000 0 0
     ∷ Updated 1001000 0 0 ∷ Enqueued ∷ Enqueued ∷ [])
     × (answers (record none { limit_bytes = Some 2500 }) ≡ before ++ Done ∷ Left (packet 2 1024) ∷ Updated 1001000 415453271 0
     ∷ Updated 1001000 27004462646 0 ∷ Updated 1001000 452428612646 0 ∷ DroppedBytes ∷ DroppedBytes ∷ [])
+    × (omitted none ≡ record { arrivals = 0; departures = 0; updates = 0; resets = 0; changes = 0 })
+    × (omitted (record none { t_update = Some 2 }) ≡ record { arrivals = 0; departures = 0; updates = 1; resets = 0; changes = 0 })
 unfolding worked point_at_end
-worked_histories = (refl, refl, refl)
+worked_histories = (refl, refl, refl, refl, refl)

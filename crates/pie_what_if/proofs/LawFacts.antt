@@ -1,30 +1,32 @@
--- A history that is not altered is written again, and the other history is legal.
+-- A history before the moment is written again, and the other history is legal.
 use Rattle.pie_what_if.proofs.HistoryFacts.{legal_pop}
 use Rattle.pie_audit.specs.Replay.{CanBeMade, Origin, at_opening}
-unfoldable use Rattle.pie_audit.specs.Replay.{events_of}
+unfoldable use Rattle.pie_audit.specs.Replay.{difference_from, events_of}
+use Rattle.pie_event.specs.Event.{caller_moment}
 unfoldable use Rattle.pie_audit.specs.Text.{text_fault, text_lines}
 use Rattle.pie_book.specs.{Decision.IsLegal, Decision.IsLegalAt, Decision.decision, Decision.refusal_by_rule, Book.event_of}
 use Rattle.pie_event.specs.declared.{command.Command.Command, command.Event.Event, opening.Opening.Opening, refusal.Refusal.Refusal}
 use Rattle.pie_event.specs.declared.command.Command.TheVariants.{SetParams}
 use Rattle.pie_excerpt.specs.Beginning.{Beginning}
 unfoldable use Rattle.pie_excerpt.specs.Beginning.{beginning_of}
-use Rattle.pie_params.specs.declared.raw.RawParams.{RawParams}
 use Rattle.pie_what_if.proofs.ReadFacts.{reads_one}
 use Rattle.pie_record.specs.{HistoryLines.IsRecordOf, HistoryLines.line_of, Text.Row, Write.event_row, Write.line_rows, Write.rows_unless_note}
-unfoldable use Rattle.pie_record.specs.HistoryLines.{fault_from, line_in, lines_from}
+unfoldable use Rattle.pie_record.specs.HistoryLines.{fault_from, lines_from}
 unfoldable use Rattle.pie_record.specs.Text.{rows_text}
 use Rattle.pie_record.specs.declared.{history_record.Line.Line, version.Version.Version}
 use Rattle.pie_record.specs.declared.history_record.Line.TheVariants.{Clock, Invalid, Note, Valid}
-use Rattle.pie_what_if.specs.Other.{Point, ReadLine, begins_with, begun_with, change, change_before, command_with, decided, events_at, first_point, params_at, point_after, rows_at}
+use Rattle.pie_what_if.specs.Decider.{end_at, end_by}
+use Rattle.pie_what_if.specs.Other.{Point, ReadLine, begins_with, begun_with, change, change_before, change_moment, command_with, decided, events_at, first_point, params_at, point_after, reaches, rows_at}
 unfoldable use Rattle.pie_what_if.specs.Other.{other_rows, point_at_end, read_from}
-use Rattle.pie_what_if.specs.Params.{altered, changed, changes, over}
+use Rattle.pie_what_if.specs.Params.{changed}
+use Rattle.pie_what_if.specs.Result.{end_after}
 unfoldable use Rattle.pie_what_if.specs.Result.{other_text}
-use Rattle.pie_what_if.specs.declared.{alteration.Alteration.Alteration, other_params.OtherParams.OtherParams}
+use Rattle.pie_what_if.specs.declared.{alteration.Alteration.Alteration, decider.Outcome.Outcome}
+use Rattle.pie_what_if.specs.declared.decider.Outcome.TheVariants as outcome
 use Rattle.std.proofs.Common.{Bool, List, [], ap, append_assoc, arith, false, map, refl, subst, sym, take, true, ℕ, ◌++◌, ◌+◌, ◌^◌, ◌∙◌, ◌∷◌, ◌≡◌}
 use Rattle.std.proofs.lemmas.Bool.Decides.{nat_tests}
 use Rattle.std.proofs.lemmas.List.{append-nil}
 use Rattle.std.proofs.lemmas.List.Elements.{All-head, All-nil, All-tail}
-use Rattle.std.specs.Option.{is_some}
 use Rattle.std.specs.Prelude.{All, None, Ok, Option, Some, if◌then◌else◌, ⊤, ◌||◌}
 
 -- ==== The other history is legal
@@ -44,41 +46,44 @@ module _ (one : OneMore) (alteration : Alteration) (opening : Opening) where
       by None e = rw e (one opening events caller command legal e)
       by (Some why) e = rw e (rw (append-nil events) legal)
 
-  change-legal : (events : List Event) (begins : Bool) → IsLegal opening events
-      → IsLegal opening (events ++ (if begins then change alteration (at_opening opening) events else []))
-  change-legal events true legal = by (changes alteration.params) refl
-    where
-      by : (some : Bool) → changes alteration.params ≡ some → IsLegal opening (events ++ change alteration (at_opening opening) events)
-      by true e = rw e (decided-legal events 0 (SetParams alteration.from (changed alteration.params (params_at (at_opening opening) events))) legal)
-      by false e = rw e (rw (append-nil events) legal)
-  change-legal events false legal = rw (append-nil events) legal
+  change-legal : (events : List Event) (begins : Bool) (moment : ℕ) → IsLegal opening events
+      → IsLegal opening (events ++ (if begins then change alteration (at_opening opening) events moment else []))
+  change-legal events true moment legal =
+      decided-legal events 0 (SetParams moment (changed alteration.params (params_at (at_opening opening) events))) legal
+  change-legal events false moment legal = rw (append-nil events) legal
 
-  line-legal : (lines : List Line) (events : List Event) (begun : Bool) (line : Line) → IsLegal opening events
-      → IsLegal opening (events ++ events_at alteration (record { origin = at_opening opening; lines = lines; events = events; begun = begun }) line)
-  line-legal lines events begun (Valid event) legal =
-      let point : Point = record { origin = at_opening opening; lines = lines; events = events; begun = begun } in
+  -- a state with this opening
+  abbrev here : List Line → List Event → Bool → ℕ → List Event → Point
+  here lines events begun before omitted =
+      record { origin = at_opening opening; lines = lines; events = events; begun = begun; before = before; omitted = omitted }
+
+  line-legal : (lines : List Line) (events : List Event) (begun : Bool) (before : ℕ) (omitted : List Event) (line : Line) → IsLegal opening events
+      → IsLegal opening (events ++ events_at alteration (here lines events begun before omitted) line)
+  line-legal lines events begun before omitted (Valid event) legal =
+      let point : Point = here lines events begun before omitted in
       let first : List Event = change_before alteration point (Valid event) in
       let command : Command = command_with alteration (begun_with alteration point (Valid event)) event.command in
       rw (← append_assoc events first (decided (at_opening opening) (events ++ first) event.caller command))
-      (decided-legal (events ++ first) event.caller command (change-legal events (begins_with alteration point (Valid event)) legal))
-  line-legal lines events begun (Invalid badly) legal = rw (append-nil events) legal
-  line-legal lines events begun Note legal = rw (append-nil events) legal
-  line-legal lines events begun (Clock clock) legal = rw (append-nil events) legal
+      (decided-legal (events ++ first) event.caller command
+      (change-legal events (begins_with alteration point (Valid event)) (change_moment alteration.from (caller_moment event.command)) legal))
+  line-legal lines events begun before omitted (Invalid badly) legal = rw (append-nil events) legal
+  line-legal lines events begun before omitted Note legal = rw (append-nil events) legal
+  line-legal lines events begun before omitted (Clock clock) legal = rw (append-nil events) legal
 
-  legal-further : (lines : List Line) (events : List Event) (begun : Bool) (reads : List ReadLine) → IsLegal opening events
-      → IsLegal opening (point_at_end alteration (record { origin = at_opening opening; lines = lines; events = events; begun = begun }) reads).events
+  legal-further : (lines : List Line) (events : List Event) (begun : Bool) (before : ℕ) (omitted : List Event) (reads : List ReadLine)
+      → IsLegal opening events → IsLegal opening (point_at_end alteration (here lines events begun before omitted) reads).events
   unfolding point_at_end
-  legal-further lines events begun [] legal = legal
-  legal-further lines events begun (read ∷ later) legal =
-      let point : Point = record { origin = at_opening opening; lines = lines; events = events; begun = begun } in
-      legal-further (lines ++ read.line ∷ []) (events ++ events_at alteration point read.line) (begun_with alteration point read.line) later
-      (line-legal lines events begun read.line legal)
+  legal-further lines events begun before omitted [] legal = legal
+  legal-further lines events begun before omitted (read ∷ later) legal =
+      let point : Point = here lines events begun before omitted in
+      let next : Point = point_after alteration point read.line in
+      legal-further next.lines next.events next.begun next.before next.omitted later (line-legal lines events begun before omitted read.line legal)
 
   pub legal-other : (past : List Event) (reads : List ReadLine) → IsLegal opening past
       → IsLegal opening (point_at_end alteration (first_point opening past) reads).events
-  legal-other past reads legal = legal-further (map Valid past) past false reads legal
+  legal-other past reads legal = legal-further (map Valid past) past false 0 [] reads legal
 
--- ==== An unaltered history is written again
+-- ==== A history before the moment is written again
 
 -- ---- the lines that were read
 
@@ -103,33 +108,6 @@ unfolding read_from
 read-each version number [] = All-nil (IsReadLine version)
 read-each version number (row ∷ rows) = grind (arith, nat_tests, reads_one, read-each version (number + 1) rows)
 
--- ---- the parameters
-
-or-last : {A : Type 0} (b : Bool) (o : Option A) → (b || is_some o) ≡ false → (b ≡ false) × (o ≡ None)
-or-last true o e = cc
-or-last false None e = (refl, refl)
-or-last false (Some a) e = cc
-
-over-none : (other : OtherParams) (params : RawParams) → changes other ≡ false → over other params ≡ params
-over-none other params none =
-    let i = or-last _ other.dq_threshold none in
-    let h = or-last _ other.mark_ecnth i.0 in
-    let g = or-last _ other.limit_bytes h.0 in
-    let f = or-last _ other.mean_pkt g.0 in
-    let e = or-last _ other.beta f.0 in
-    let d = or-last _ other.alpha e.0 in
-    let c = or-last _ other.max_burst d.0 in
-    let b = or-last _ other.t_update c.0 in
-    let a = or-last false other.target b.0 in
-    rw (a.1, b.1, c.1, d.1, e.1, f.1, g.1, h.1, i.1) refl
-
-altered-none : (other : OtherParams) (command : Command) → changes other ≡ false → altered other command ≡ command
-altered-none other (SetParams moment params) none = ap (λ (p : RawParams). SetParams moment p) (same (over-none other params none))
-  where
-    same : over other params ≡ params → changed other params ≡ params
-    same e = grind (arith, nat_tests, e)
-altered-none other command none = refl
-
 -- ---- one line
 
 -- the event of a line, if it is one
@@ -148,34 +126,40 @@ unfoldable AreKept : Origin → List Event → List ReadLine → Type 0
 AreKept origin before [] = ⊤
 AreKept origin before (read ∷ later) = KeepsLine origin before read.line read.row × AreKept origin (before ++ event_list read.line) later
 
-module _ (alteration : Alteration) (none : changes alteration.params ≡ false) where
-  change-none : (point : Point) (line : Line) → change_before alteration point line ≡ []
-  change-none point line = grind (arith, nat_tests, none)
+or-first : (a b : Bool) → (a || b) ≡ false → a ≡ false
+or-first true b e = e
+or-first false b e = refl
 
-  command-same : (begun : Bool) (command : Command) → command_with alteration begun command ≡ command
-  command-same true command = altered-none alteration.params command none
-  command-same false command = refl
-
-  line-kept : (point : Point) (line : Line) (row : Row) → KeepsLine point.origin point.events line row
+module _ (alteration : Alteration) where
+  line-kept : (point : Point) (line : Line) (row : Row) → point.begun ≡ false → begun_with alteration point line ≡ false
+      → KeepsLine point.origin point.events line row
       → (events_at alteration point line ≡ event_list line) × (rows_at alteration point line row ≡ row ∷ [])
-  line-kept point (Valid event) row keeps =
-      let is : events_at alteration point (Valid event) ≡ event ∷ [] =
-      rw (change-none point (Valid event), append-nil point.events, command-same (begun_with alteration point (Valid event)) event.command) keeps.0 in
+  line-kept point (Valid event) row begun still keeps =
+      let no : reaches alteration point (Valid event) ≡ false = rw begun at still in
+      let none : change_before alteration point (Valid event) ≡ [] = rw (begun, no) refl in
+      let is : events_at alteration point (Valid event) ≡ event ∷ [] = rw (none, append-nil point.events, still) keeps.0 in
       (is, ap (map event_row) is ∙ ap (λ (r : Row). let rows : List Row = r ∷ [] in rows) (sym keeps.1))
-  line-kept point (Invalid badly) row keeps = absurd keeps
-  line-kept point Note row keeps = (refl, refl)
-  line-kept point (Clock clock) row keeps = (refl, refl)
+  line-kept point (Invalid badly) row begun still keeps = absurd keeps
+  line-kept point Note row begun still keeps = (refl, rw begun refl)
+  line-kept point (Clock clock) row begun still keeps = (refl, refl)
 
-  rows-kept : (point : Point) (reads : List ReadLine) → AreKept point.origin point.events reads
+  -- no event was reached, if none is at the end
+  not-begun : (point : Point) (reads : List ReadLine) → (point_at_end alteration point reads).begun ≡ false → point.begun ≡ false
+  unfolding point_at_end
+  not-begun point [] none = none
+  not-begun point (read ∷ later) none =
+      or-first point.begun (reaches alteration point read.line) (not-begun (point_after alteration point read.line) later none)
+
+  rows-kept : (point : Point) (reads : List ReadLine) → (point_at_end alteration point reads).begun ≡ false → AreKept point.origin point.events reads
       → other_rows alteration point reads ≡ map (λ (read : ReadLine). read.row) reads
-  unfolding other_rows AreKept
-  rows-kept point [] kept = refl
-  rows-kept point (read ∷ later) kept =
-      let is = line-kept point read.line read.row kept.0 in
+  unfolding other_rows AreKept point_at_end
+  rows-kept point [] none kept = refl
+  rows-kept point (read ∷ later) none kept =
       let after : Point = point_after alteration point read.line in
+      let is = line-kept point read.line read.row (not-begun point (read ∷ later) none) (not-begun after later none) kept.0 in
       ap (λ (rows : List Row). rows ++ other_rows alteration after later) is.1
       ∙ ap (λ (rows : List Row). read.row ∷ rows)
-      (rows-kept after later (subst (λ (events : List Event). AreKept point.origin (point.events ++ events) later) (sym is.0) kept.1))
+      (rows-kept after later none (subst (λ (events : List Event). AreKept point.origin (point.events ++ events) later) (sym is.0) kept.1))
 
 -- ---- legal lines
 
@@ -225,16 +209,32 @@ module _ (again : WrittenAgain) (opening : Opening) (version : Version) where
 
 -- ---- a text
 
-module _ (again : WrittenAgain) (alteration : Alteration) (none : changes alteration.params ≡ false) where
-  pub text-again : (rows : List Row) (begun : Beginning) (opening : Opening) (past : List Event) → beginning_of rows ≡ Ok begun
+-- an end without an event of the moment
+not-reached : (difference : Option ℕ) (point : Point) → end_by difference point ≡ outcome.NoEvents → point.begun ≡ false
+not-reached difference point is = by difference point.begun is
+  where
+    by : (d : Option ℕ) (b : Bool) → end_by d (record point { begun = b }) ≡ outcome.NoEvents → b ≡ false
+    by d false e = refl
+    by (Some event) true e = cc
+    by None true e = cc
+
+module _ (again : WrittenAgain) (alteration : Alteration) where
+  pub text-again : (rows : List Row) (begun : Beginning) (opening : Opening) (past : List Event)
+      → end_after alteration (first_point opening past) (beginning_of rows) ≡ Some outcome.NoEvents → beginning_of rows ≡ Ok begun
       → text_fault rows ≡ None → All CanBeMade (text_lines rows) → IsLegal opening (past ++ events_of (text_lines rows))
       → other_text alteration (first_point opening past) rows ≡ rows_text (take begun.records_read rows ++ begun.left)
   unfolding other_text text_fault text_lines
-  text-again rows begun opening past e good made legal =
+  text-again rows begun opening past none e good made legal =
       let number : ℕ = begun.records_read + 1 in
       let reads : List ReadLine = read_from begun.version number begun.left in
+      let point : Point = point_at_end alteration (first_point opening past) reads in
+      let end : Some (end_at point) ≡ Some outcome.NoEvents = rw e at none in
+      let before = not-reached (difference_from point.origin point.lines) point (some-same end) in
       let same = read-lines begun.version number begun.left in
       let kept = are-kept again opening begun.version past reads (read-each begun.version number begun.left) (rw same (rw e at made))
       (rw same (rw e at legal)) in
-      let is = rows-kept alteration none (first_point opening past) reads kept ∙ read-rows begun.version number begun.left (rw e at good) in
+      let is = rows-kept alteration (first_point opening past) reads before kept ∙ read-rows begun.version number begun.left (rw e at good) in
       rw e (ap (λ (later : List Row). rows_text (take begun.records_read rows ++ later)) is)
+    where
+      some-same : {one other : Outcome} → Some one ≡ Some other → one ≡ other
+      some-same is = cc

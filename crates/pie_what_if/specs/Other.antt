@@ -1,10 +1,10 @@
--- The other history: the events before a moment are the history's own; then the parameters change, and each later command
--- is decided after the events of the other history.
-use Rattle.pie_what_if.specs.Names.{Answer, Bool, Command, Err, Event, Invalid, Line, List, None, Ok, Opening, Option, Origin, RawParams}
-use Rattle.pie_what_if.specs.Names.{Refusal, Result, Row, SetParams, Some, Stats, TraceFault, Valid, Version, [], answer_in, at_core, at_opening}
-use Rattle.pie_what_if.specs.Names.{caller_moment, core_along, decision, event_of, event_row, false, line_in}
-use Rattle.pie_what_if.specs.Names.{map, nat_le, not, refusal_by_rule, refusal_of, registers_after, stats_after, ℕ}
-use Rattle.pie_what_if.specs.Params.{altered, changed, changes}
+-- The other history: the events before a moment are the history's own; then a change of the parameters is inserted, and
+-- each later command is decided after the events of the other history.
+use Rattle.pie_what_if.specs.Names.{Answer, Bool, Clock, Command, Err, Event, Invalid, Line, List, Moment, None, Note, Ok, Opening, Option, Origin}
+use Rattle.pie_what_if.specs.Names.{RawParams, Refusal, Result, Row, SetParams, Some, Stats, TraceFault, Unix, Valid, Version, When, [], answer_in}
+use Rattle.pie_what_if.specs.Names.{at_core, at_opening, caller_moment, core_along, decision, event_of, event_row, false, latest_clock, length, line_in}
+use Rattle.pie_what_if.specs.Names.{map, nat_le, not, option_map_or, refusal_by_rule, refusal_of, registers_after, stats_after, unix_at, ℕ}
+use Rattle.pie_what_if.specs.Params.{altered, changed}
 use Rattle.pie_what_if.specs.declared.alteration.Alteration.{Alteration}
 use Rattle.std.specs.Prelude.{if◌then◌else◌, ◌&&◌, ◌||◌, ◌++◌, ◌+◌, ◌^◌, ◌∷◌}
 
@@ -25,6 +25,11 @@ abbrev pub params_at : Origin → List Event → RawParams
 params_at (at_opening opening) before = (registers_after opening before).params
 params_at (at_core opening first set_by) before = (core_along first before).controller.params
 
+-- the number of these events and those before them
+abbrev pub count_at : Origin → List Event → ℕ
+count_at (at_opening opening) before = length before
+count_at (at_core opening first set_by) before = (core_along first before).count
+
 -- the statistics of these events and those before them
 abbrev pub stats_at : Origin → List Event → Stats
 stats_at (at_opening opening) before = stats_after opening before
@@ -40,51 +45,95 @@ abbrev pub answer_unless : Option Refusal → Answer → Option Answer
 answer_unless None answer = Some answer
 answer_unless (Some why) answer = None
 
+-- the answer to a command after these events, unless it is refused
+abbrev pub answer_after : Origin → List Event → Command → Option Answer
+answer_after origin before command = answer_unless (refusal_at origin before command) (answer_at origin before command)
+
 -- the event of a command after these events: none if the command is refused
 abbrev pub decided : Origin → List Event → ℕ → Command → List Event
-decided origin before caller command = event_if caller command (answer_unless (refusal_at origin before command) (answer_at origin before command))
+decided origin before caller command = event_if caller command (answer_after origin before command)
 
 -- ---- one line of the history
 
 -- the state between two lines: the lines of the history so far, and the events of the other history. Both include those
--- before the text. `begun` is true if an event of the text had the moment or a later one
+-- before the text. `begun` is true if an event of the text had the moment or a later one. `before` is then the number of
+-- events before the change, otherwise 0. `omitted` are the events of the text that the other history does not have,
+-- because it refuses their commands
 pub record Point : Type 0 where
   pub origin : Origin
   pub lines : List Line
   pub events : List Event
   pub begun : Bool
+  pub before : ℕ
+  pub omitted : List Event
 
--- true if a line is an event of this moment or a later one
-abbrev pub is_reached : ℕ → Line → Bool
-is_reached from (Valid event) = nat_le from (caller_moment event.command)
-is_reached from _ = false
+-- true if a moment is `from` or a later one; a wall-clock time is compared with that of the moment by this clock record
+abbrev pub is_at : When → Option Clock → ℕ → Bool
+is_at (Moment from) clock moment = nat_le from moment
+is_at (Unix from) clock moment = option_map_or (λ (c : Clock). nat_le from (unix_at c moment)) clock false
+
+-- true if a line is an event of this moment or a later one, by this clock record
+abbrev pub is_reached : When → Option Clock → Line → Bool
+is_reached from clock (Valid event) = is_at from clock (caller_moment event.command)
+is_reached from clock _ = false
+
+-- true if a line is an event of the alteration's moment or a later one, by the last clock record before it
+abbrev pub reaches : Alteration → Point → Line → Bool
+reaches alteration point line = is_reached alteration.from (latest_clock point.lines) line
 
 -- true if a line is the first event of the moment or a later one; below, true if it is such an event or comes after one
 abbrev pub begins_with : Alteration → Point → Line → Bool
-begins_with alteration point line = not point.begun && is_reached alteration.from line
+begins_with alteration point line = not point.begun && reaches alteration point line
 
 abbrev pub begun_with : Alteration → Point → Line → Bool
-begun_with alteration point line = point.begun || is_reached alteration.from line
+begun_with alteration point line = point.begun || reaches alteration point line
 
--- the change of the parameters at the moment, after these events
-abbrev pub change : Alteration → Origin → List Event → List Event
-change alteration origin before =
-    if changes alteration.params then decided origin before 0 (SetParams alteration.from (changed alteration.params (params_at origin before))) else []
+-- the moment of the change before an event of this moment
+abbrev pub change_moment : When → ℕ → ℕ
+change_moment (Moment from) moment = from
+change_moment (Unix from) moment = moment
+
+-- the change of the parameters at this moment, after these events
+abbrev pub change : Alteration → Origin → List Event → ℕ → List Event
+change alteration origin before moment = decided origin before 0 (SetParams moment (changed alteration.params (params_at origin before)))
+
+-- the change before a line
+abbrev pub change_at : Alteration → Point → Line → List Event
+change_at alteration point (Valid event) = change alteration point.origin point.events (change_moment alteration.from (caller_moment event.command))
+change_at alteration point _ = []
 
 -- the change, if it comes before this line
 abbrev pub change_before : Alteration → Point → Line → List Event
-change_before alteration point line = if begins_with alteration point line then change alteration point.origin point.events else []
+change_before alteration point line = if begins_with alteration point line then change_at alteration point line else []
+
+-- the number of events before the change, with this line
+abbrev pub before_with : Alteration → Point → Line → ℕ
+before_with alteration point line = if begins_with alteration point line then count_at point.origin point.events else point.before
 
 -- the command of a line in the other history
 abbrev pub command_with : Alteration → Bool → Command → Command
 command_with alteration begun command = if begun then altered alteration.params command else command
 
+-- the answer of the other history to the command of an event
+abbrev pub answer_with : Alteration → Point → Event → Option Answer
+answer_with alteration point event = answer_after point.origin (point.events ++ change_before alteration point (Valid event))
+    (command_with alteration (begun_with alteration point (Valid event)) event.command)
+
 -- the events of the other history at a line
 abbrev pub events_at : Alteration → Point → Line → List Event
-events_at alteration point (Valid event) =
-    let first = change_before alteration point (Valid event) in
-    first ++ decided point.origin (point.events ++ first) event.caller (command_with alteration (begun_with alteration point (Valid event)) event.command)
+events_at alteration point (Valid event) = change_before alteration point (Valid event)
+    ++ event_if event.caller (command_with alteration (begun_with alteration point (Valid event)) event.command) (answer_with alteration point event)
 events_at alteration point _ = []
+
+-- the event itself, if the other history has no answer to its command
+abbrev pub omitted_if : Event → Option Answer → List Event
+omitted_if event None = event ∷ []
+omitted_if event (Some answer) = []
+
+-- the event that the other history omits at a line
+abbrev pub omitted_at : Alteration → Point → Line → List Event
+omitted_at alteration point (Valid event) = omitted_if event (answer_with alteration point event)
+omitted_at alteration point _ = []
 
 -- the state after a line
 abbrev pub point_after : Alteration → Point → Line → Point
@@ -93,13 +142,16 @@ point_after alteration point line = record {
   lines = point.lines ++ line ∷ [];
   events = point.events ++ events_at alteration point line;
   begun = begun_with alteration point line;
+  before = before_with alteration point line;
+  omitted = point.omitted ++ omitted_at alteration point line;
 }
 
--- the records of the other history at a line, whose record is `row`: those of its events. A note and a clock record are
--- written as they were read
+-- the records of the other history at a line, whose record is `row`: those of its events. A clock record is written as it
+-- was read. So is a note before the change; later notes are about the history's own events, and are left out
 abbrev pub rows_at : Alteration → Point → Line → Row → List Row
 rows_at alteration point (Valid event) row = map event_row (events_at alteration point (Valid event))
 rows_at alteration point (Invalid badly) row = []
+rows_at alteration point Note row = if point.begun then [] else row ∷ []
 rows_at alteration point line row = row ∷ []
 
 -- ---- the lines of a text
@@ -130,4 +182,5 @@ point_at_end alteration point (read ∷ later) = point_at_end alteration (point_
 
 -- the state before the first line of a text that continues these events
 abbrev pub first_point : Opening → List Event → Point
-first_point opening past = record { origin = at_opening opening; lines = map Valid past; events = past; begun = false }
+first_point opening past =
+    record { origin = at_opening opening; lines = map Valid past; events = past; begun = false; before = 0; omitted = [] }

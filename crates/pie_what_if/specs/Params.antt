@@ -1,13 +1,7 @@
 -- The parameters of the other history.
-use Rattle.pie_what_if.specs.Names.{Bool, Command, RawParams, SetParams, first_bad, is_none, is_some, unwrap_or}
+use Rattle.pie_what_if.specs.Names.{Command, RawParams, SetParams, first_bad, is_none, unwrap_or}
 use Rattle.pie_what_if.specs.declared.other_params.OtherParams.{OtherParams}
-use Rattle.std.specs.Prelude.{if◌then◌else◌, ◌||◌}
-
--- true if a parameter is given another value
-abbrev pub changes : OtherParams → Bool
-changes other =
-    is_some other.target || is_some other.t_update || is_some other.max_burst || is_some other.alpha || is_some other.beta
-    || is_some other.mean_pkt || is_some other.limit_bytes || is_some other.mark_ecnth || is_some other.dq_threshold
+use Rattle.std.specs.Prelude.{if◌then◌else◌}
 
 -- parameters with these values
 abbrev pub over : OtherParams → RawParams → RawParams

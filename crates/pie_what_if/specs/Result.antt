@@ -32,6 +32,8 @@ pub record Precedes (begun : Beginning) (point : Point) : Type 0 where
   pub begins : Begins point.origin begun.core point.lines
   pub represents : RepresentsAfter point.origin begun.core point.events
   pub begun_later : point.begun ≡ false
+  pub before_none : point.before ≡ 0
+  pub omitted_none : point.omitted ≡ []
 
 abbrev pub CanPrecede : List Row → Point → Type 0
 CanPrecede rows point = (begun : Beginning) → beginning_of rows ≡ Ok begun → Precedes begun point

@@ -1,7 +1,7 @@
 //! The decision on one command of the other history.
 ghost use Rattle.std.specs.Prelude.{◌≡◌, ◌++◌, List};
 ghost use Rattle.pie_audit.specs.Replay.{Origin, RepresentsAfter};
-ghost use Rattle.pie_what_if.specs.Other.{decided, event_if};
+ghost use Rattle.pie_what_if.specs.Other.{answer_after, decided};
 ghost use Rattle.pie_event.specs.declared.command.Event.{Event};
 
 use pie_book::{Answer, Command, Core};
@@ -10,7 +10,7 @@ use pie_book::{Answer, Command, Core};
 /// then unchanged.
 pub(crate) fn decide(core: &mut Core, caller: u16, command: &Command) -> Option<Answer>
     ensures decides { (origin : Origin) (events : List Event) → RepresentsAfter origin core.old events
-        → event_if caller command.now result ≡ decided origin events caller command.now }
+        → result ≡ answer_after origin events command.now }
     ensures represents { (origin : Origin) (events : List Event) → RepresentsAfter origin core.old events
         → RepresentsAfter origin core.new (events ++ decided origin events caller command.now) }
 {

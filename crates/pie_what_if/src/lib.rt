@@ -11,11 +11,13 @@ mod decider;
 mod decision;
 mod fault;
 pub mod law;
+mod omitted;
 mod other_params;
 mod pass;
 
 pub use alteration::Alteration;
 pub use decider::WhatIfEnd;
 pub use fault::WhatIfFault;
+pub use omitted::Omitted;
 pub use other_params::OtherParams;
 pub use pass::what_if;

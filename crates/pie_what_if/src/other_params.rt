@@ -1,6 +1,6 @@
 //! The parameters that have other values in the other history.
 ghost use Rattle.std.specs.Prelude.{◌≡◌};
-ghost use Rattle.pie_what_if.specs.Params.{altered, changed, changes, over};
+ghost use Rattle.pie_what_if.specs.Params.{altered, changed, over};
 
 use pie_event::Command;
 use pie_params::{Params, RawParams};
@@ -30,21 +30,6 @@ pub struct OtherParams {
 }
 
 impl OtherParams {
-    /// Returns true if a parameter has a value here.
-    pub(crate) fn changes(&self) -> bool
-        ensures { result ≡ changes self.now }
-    {
-        self.target.is_some()
-            || self.t_update.is_some()
-            || self.max_burst.is_some()
-            || self.alpha.is_some()
-            || self.beta.is_some()
-            || self.mean_pkt.is_some()
-            || self.limit_bytes.is_some()
-            || self.mark_ecnth.is_some()
-            || self.dq_threshold.is_some()
-    }
-
     /// Returns `params` with these values.
     pub fn over(&self, params: RawParams) -> RawParams
         ensures { result ≡ over self.now params }

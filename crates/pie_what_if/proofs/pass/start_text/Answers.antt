@@ -1,5 +1,6 @@
 use Rattle.pie_excerpt.specs.Beginning.{Beginning}
-use Rattle.std.proofs.Common.{sym, ◌∙◌}
+use Rattle.pie_what_if.specs.Omitted.{counts_of}
+use Rattle.std.proofs.Common.{ap, sym, ◌∙◌}
 use Rattle.pie_what_if.proofs.pass.start_text.Goals as goal
 
 pub returns-in-Ok-start_with-clause-started : goal.returns-in-Ok-start_with-clause-started
@@ -24,6 +25,13 @@ returns-in-Ok-start_with-clause-started g c = λ later known.
       read = c.in-Ok-start_with.ensures.read;
       at = λ point precedes.
           let it = c.in-Ok-start_with.ensures.at limits.0 limits.1 point.origin point.lines point.events precedes.begins precedes.represents in
-          record { audits = it.audits; represents = it.represents; begun = it.begun ∙ sym precedes.begun_later };
+          record {
+            audits = it.audits;
+            represents = it.represents;
+            begun = it.begun ∙ sym precedes.begun_later;
+            before = it.before ∙ sym precedes.before_none;
+            omitted = it.omitted ∙ ap counts_of (sym precedes.omitted_none);
+            clock = it.clock;
+          };
       written = rw again (c.in-Ok-add_beginning.ensures.added c.args.row.now c.requires);
     }

@@ -1,4 +1,5 @@
-use Rattle.std.proofs.Common.{refl}
+use Rattle.pie_what_if.proofs.DecideFacts.{clock-none}
+use Rattle.std.proofs.Common.{refl, sym}
 use Rattle.pie_what_if.proofs.pass.start_with.Goals as goal
 
 pub returns-clause-at : goal.returns-clause-at
@@ -6,4 +7,7 @@ returns-clause-at c = λ capacity most. λ origin lines events begins stands. re
   audits = c.go_on.ensures.audits origin lines begins;
   represents = rw (c.in-Ok.ensures.same capacity most) stands;
   begun = refl;
+  before = refl;
+  omitted = c.none.ensures;
+  clock = sym (clock-none origin c.args.begun.core lines begins);
 }

@@ -4,14 +4,14 @@ use Rattle.pie_record.specs.Text.{Row, rows_text}
 use Rattle.pie_what_if.proofs.ReadFacts.{first_one}
 use Rattle.pie_what_if.proofs.LawFacts.{text-again}
 use Rattle.std.proofs.Common.{List, [], ap, ◌++◌, ◌∙◌, ◌∷◌}
-use Rattle.pie_what_if.proofs.law.unaltered_histories_are_written_again.Goals as goal
+use Rattle.pie_what_if.proofs.law.histories_before_the_moment_are_written_again.Goals as goal
 
 pub returns : goal.returns
 returns c = record {
   text = λ alteration rows begun opening past none e good made legal.
-      text-again c.lines_are_written_again.ensures alteration none rows begun opening past e good made legal;
+      text-again c.lines_are_written_again.ensures alteration rows begun opening past none e good made legal;
   whole = λ alteration row rows opening none opens good made legal.
-      text-again c.lines_are_written_again.ensures alteration none (row ∷ rows) (opened_at (version_of row) opening rows) opening []
+      text-again c.lines_are_written_again.ensures alteration (row ∷ rows) (opened_at (version_of row) opening rows) opening [] none
       (c.histories_begin_at_openings.ensures.begins row rows opening opens) good made legal
       ∙ ap (λ (front : List Row). rows_text (front ++ rows)) (first_one row rows);
 }

@@ -34,10 +34,12 @@ if [ -z "$packages" ]; then
         { cat "$work/package/log" >&2; exit 1; }
     packages=$work/package
 fi
-mirror=http://deb.debian.org/debian
+# shellcheck source=../../tests/shared/apt_uri.sh
+. tests/shared/apt_uri.sh
+archive=$(apt_uri) security=$(apt_uri security)
 mmdebstrap --quiet --mode=root --variant=minbase --include="linux-image-$release,iproute2,iperf3,kmod,perl,python3" \
-    bookworm "$work/system" "deb $mirror bookworm main" "deb $mirror bookworm-updates main" "deb $mirror-security bookworm-security main" \
-    "deb $mirror bookworm-backports main" > "$work/system.log" 2>&1 || { cat "$work/system.log" >&2; exit 1; }
+    bookworm "$work/system" "deb $archive bookworm main" "deb $archive bookworm-updates main" "deb $security bookworm-security main" \
+    "deb $archive bookworm-backports main" > "$work/system.log" 2>&1 || { cat "$work/system.log" >&2; exit 1; }
 cp "$packages"/juniperbowls_*_amd64.deb "$packages"/juniperbowls-watch_*_amd64.deb "$work/system/root/"
 cp bindings/linux/guest_watch.sh "$work/system/watch.sh"
 install -m 755 bindings/linux/package_init.sh "$work/system/package_init.sh"

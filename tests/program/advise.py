@@ -52,10 +52,11 @@ def line(text, name):
 
 
 def cells():
-    """Yields the name, rate in Mbit/s, round trip in ms, flows, and measured mean wait in ms of each stored cell."""
+    """Yields the name, rate in Mbit/s, round trip in ms, flows, measured mean wait in ms, and whether it is stored that there is no
+    prediction, of each stored cell; None if that is not stored."""
     with open(ROOT / "bindings/ns3/advice.csv", newline="") as file:
         for row in csv.DictReader(file):
-            yield "ns-3", float(row["mbit"]), float(row["rtt_ms"]), int(row["flows"]), float(row["measured_ms"])
+            yield "ns-3", float(row["mbit"]), float(row["rtt_ms"]), int(row["flows"]), float(row["measured_ms"]), row["warned"] == "1"
     sums = defaultdict(lambda: [0.0, 0.0])
     with open(ROOT / "bench/uml/results.csv", newline="") as file:
         for row in csv.DictReader(file):
@@ -63,15 +64,16 @@ def cells():
                 sums[row["scenario"]][0] += float(row["wait"]) * float(row["sent"])
                 sums[row["scenario"]][1] += float(row["sent"])
     for name, (waits, sent) in sums.items():
-        yield name, *LINUX[name], waits / sent
+        yield name, *LINUX[name], waits / sent, None
 
 
 def hold_cells():
     count, warned, missed = 0, 0, set()
-    for name, rate, trip, flows, measured in cells():
+    for name, rate, trip, flows, measured, is_stored in cells():
         text = advice(f"{rate:g}mbit", f"{trip:g}ms", str(flows), *(["--ecn"] if name.startswith("ecn") else []))
         wait = line(text, "mean wait ")
         count += 1
+        check(is_stored in (None, wait.startswith("no prediction")), name, rate, trip, flows, "the stored column `warned` differs")
         if wait.startswith("no prediction"):
             warned += 1
             check("\nwarning: " in text, name, rate, trip, flows, "no prediction and no warning")

@@ -32,7 +32,7 @@ attaches() {
 records() {
     name=$1
     shift
-    q record "$@" > /tmp/$name.history 2> /tmp/$name.said &
+    /bin/ip netns exec r $program --pins /bpf/pie record "$@" > /tmp/$name.history 2> /tmp/$name.said &
     reader=$!
     $box sleep 0.1
 }
@@ -117,7 +117,7 @@ ends 0
 refuses 'cannot change' change rb limit 10
 
 # a ring buffer that is too small for the pauses of its reader: each excerpt is clean, and the lost events are counted
-q record rb -o /tmp/small.part --ring 4096 2> /tmp/small.said &
+/bin/ip netns exec r $program --pins /bpf/pie record rb -o /tmp/small.part --ring 4096 2> /tmp/small.said &
 reader=$!
 $box sleep 0.1
 q show rb --json > /tmp/small.before
@@ -142,7 +142,7 @@ $box grep -q '^reset,' /tmp/detached.history || echo "FAILED: detached has no re
 attaches rb rate 2mbit limit 20
 records packets rb
 within r attach ra rate 20mbit on_off random uncapped decay_half bytemode dq_rate_estimator dq_threshold 2048 limit_bytes 30000 || echo "FAILED attach ra"
-q record ra > /tmp/choices.history 2> /tmp/choices.said &
+/bin/ip netns exec r $program --pins /bpf/pie record ra > /tmp/choices.history 2> /tmp/choices.said &
 second=$!
 $box sleep 0.1
 udp 4M 1 &

@@ -4,7 +4,7 @@
 #include "qdisc_options.h"
 #include "qdisc_record.h"
 
-#include <arpa/inet.h>
+#include <bpf/bpf.h>
 #include <errno.h>
 #include <net/if.h>
 #include <stdio.h>
@@ -85,6 +85,8 @@ static int attach_one(const struct qdisc_maps *maps, const struct call *call, co
     config->netns = this_netns();
     config->ifindex = call->ifindex;
     config->parent = parent;
+    /* (of a reader of an earlier queue in this place, which was killed) */
+    (void)bpf_map_delete_elem(maps->rings_file, &number);
     __atomic_store_n(&config->use, QDISC_PREPARED, __ATOMIC_SEQ_CST);
     error = link_add(call->ifindex, parent, 0, KIND, call->is_mq, text, room);
     if (error)

@@ -109,7 +109,8 @@ static int attach(struct call *call) {
         error = link_add(call->ifindex, ROOT, MQ_HANDLE, "mq", false, text, sizeof text);
         while (!error && child <= QDISC_QUEUES)
             error = attach_one(&maps, call, &config, MQ_HANDLE | child++, text, sizeof text);
-        if (error == -ENOENT && child > 2)
+        /* (the device has no further transmit queue) */
+        if ((error == -ENOENT || error == -EINVAL) && child > 2)
             error = 0;
     }
     if (error) {

@@ -319,6 +319,7 @@ struct sk_buff *BPF_PROG(qdisc_op_dequeue, struct Qdisc *sch) {
     struct qdisc_queue *queue = bpf_map_lookup_elem(&queues, &number);
     struct qdisc_packet *packet;
     struct sk_buff *skb;
+    int64_t paced;
     if (!queue)
         return NULL;
     before_a_packet(queue, number, now);
@@ -337,8 +338,9 @@ struct sk_buff *BPF_PROG(qdisc_op_dequeue, struct Qdisc *sch) {
     if (!skb)
         return NULL;
     size = length(skb);
-    if (queue->shaper.cost)
-        queue->next += (size + queue->shaper.overhead) * queue->shaper.cost >> 20;
+    paced = (int64_t)size + queue->shaper.overhead;
+    if (queue->shaper.cost && paced > 0)
+        queue->next += (uint64_t)paced * queue->shaper.cost >> 20;
     sch->q.qlen--;
     sch->qstats.backlog -= size;
     bpf_qdisc_bstats_update(sch, skb);

@@ -32,7 +32,7 @@ attaches() {
 records() {
     name=$1
     shift
-    q record "$@" > /tmp/$name.history 2> /tmp/$name.said &
+    /bin/ip netns exec r $program --pins /bpf/pie record "$@" > /tmp/$name.history 2> /tmp/$name.said &
     reader=$!
     $box sleep 0.1
 }
@@ -86,7 +86,7 @@ attaches rb rate 10mbit
 records flows rb
 tcp 400K &
 sender=$!
-udp 4M 1
+udp 14M 1
 wait $sender
 keeps flows r rb
 ends 0
@@ -117,11 +117,14 @@ ends 0
 refuses 'cannot change' change rb limit 10
 
 # a ring buffer that is too small for the pauses of its reader: each excerpt is clean, and the lost events are counted
-q record rb -o /tmp/small.part --ring 4096 2> /tmp/small.said &
+/bin/ip netns exec r $program --pins /bpf/pie record rb -o /tmp/small.part --ring 4096 2> /tmp/small.said &
 reader=$!
 $box sleep 0.1
 q show rb --json > /tmp/small.before
 tcp 100K
+$box kill -STOP $reader
+tcp 100K
+$box kill -CONT $reader
 $box sleep 0.1
 tcp 100K
 keeps small r rb
@@ -141,13 +144,13 @@ $box grep -q '^reset,' /tmp/detached.history || echo "FAILED: detached has no re
 # limits by packets and bytes; the other profile; all choices; two devices at once
 attaches rb rate 2mbit limit 20
 records packets rb
-within r attach ra rate 20mbit on_off random uncapped decay_half bytemode dq_rate_estimator dq_threshold 2048 limit_bytes 30000 || echo "FAILED attach ra"
-q record ra > /tmp/choices.history 2> /tmp/choices.said &
+within r attach ra rate 20mbit on_off random uncapped decay_half bytemode dq_rate_estimator dq_threshold 2048 limit_bytes 60000 || echo "FAILED attach ra"
+/bin/ip netns exec r $program --pins /bpf/pie record ra > /tmp/choices.history 2> /tmp/choices.said &
 second=$!
 $box sleep 0.1
 udp 4M 1 &
 sender=$!
-(/bin/ip netns exec b $box timeout 300 /bin/iperf3 -c 10.0.1.1 -p 5203 -u -b 30M -t 1 -l 1200 > /tmp/said.back 2>&1 || echo "FAILED back: $($box tail -n 2 /tmp/said.back)") &
+(/bin/ip netns exec b $box timeout 300 /bin/iperf3 -c 10.0.1.1 -p 5203 -u -b 22M -t 1 -l 1200 > /tmp/said.back 2>&1 || echo "FAILED back: $($box tail -n 2 /tmp/said.back)") &
 back=$!
 tcp 100K
 wait $sender $back

@@ -2,7 +2,7 @@
 /* A queue discipline for Linux 6.16 and later whose decisions are the proved calls of pie.h (dist/bpf/pie_c.ll). pie_qdisc.c loads it and adds queues.
  *
  * The kernel calls the operations of a queue under the lock of its root queue discipline. A queue is a place of the map `queues`, whose number is in the
- * field `limit` of its struct Qdisc, which the kernel does not use for this kind of queue discipline. Its packets are in the map `packets`. */
+ * field `limit` of its struct Qdisc, plus 1: 0 is a queue without a place. The kernel does not use this field. Its packets are in the map `packets`. */
 #include "kernel_types.h"
 
 #include <bpf/bpf_helpers.h>
@@ -252,7 +252,7 @@ static __always_inline uint32_t place_of(uint32_t number, uint64_t packet) {
 
 SEC("struct_ops/qdisc_op_enqueue")
 int BPF_PROG(qdisc_op_enqueue, struct sk_buff *skb, struct Qdisc *sch, struct bpf_sk_buff_ptr *to_free) {
-    uint32_t number = sch->limit, size = length(skb), at, verdict;
+    uint32_t number = sch->limit - 1, size = length(skb), at, verdict;
     uint64_t now = bpf_ktime_get_ns();
     struct qdisc_queue *queue = bpf_map_lookup_elem(&queues, &number);
     struct qdisc_packet *packet;
@@ -314,11 +314,12 @@ GLOBAL int qdisc_remove(struct qdisc_queue *queue NONNULL, uint32_t number, uint
 
 SEC("struct_ops/qdisc_op_dequeue")
 struct sk_buff *BPF_PROG(qdisc_op_dequeue, struct Qdisc *sch) {
-    uint32_t number = sch->limit, at, size;
+    uint32_t number = sch->limit - 1, at, size;
     uint64_t now = bpf_ktime_get_ns();
     struct qdisc_queue *queue = bpf_map_lookup_elem(&queues, &number);
     struct qdisc_packet *packet;
     struct sk_buff *skb;
+    int64_t paced;
     if (!queue)
         return NULL;
     before_a_packet(queue, number, now);
@@ -337,8 +338,9 @@ struct sk_buff *BPF_PROG(qdisc_op_dequeue, struct Qdisc *sch) {
     if (!skb)
         return NULL;
     size = length(skb);
-    if (queue->shaper.cost)
-        queue->next += (size + queue->shaper.overhead) * queue->shaper.cost >> 20;
+    paced = (int64_t)size + queue->shaper.overhead;
+    if (queue->shaper.cost && paced > 0)
+        queue->next += (uint64_t)paced * queue->shaper.cost >> 20;
     sch->q.qlen--;
     sch->qstats.backlog -= size;
     bpf_qdisc_bstats_update(sch, skb);
@@ -387,7 +389,8 @@ GLOBAL uint32_t qdisc_find(uint32_t ifindex, uint32_t netns, uint32_t parent) {
     if (found == QDISC_QUEUES && free != QDISC_QUEUES) {
         struct qdisc_queue *queue = bpf_map_lookup_elem(&queues, &free);
         if (queue) {
-            queue->config.opening = *(const struct pie_opening *)&default_opening;
+            for (unsigned int word = 0; word < sizeof default_opening / 8; word++)
+                ((uint64_t *)&queue->config.opening)[word] = ((const volatile uint64_t *)&default_opening)[word];
             queue->config.params = queue->config.opening.params;
             queue->config.shaper.rate = queue->config.shaper.cost = 0;
             queue->config.shaper.overhead = 0;
@@ -405,15 +408,15 @@ int BPF_PROG(qdisc_op_init, struct Qdisc *sch, struct nlattr *options, struct ne
     struct net_device *device = sch->dev_queue->dev;
     uint32_t number = qdisc_find(device->ifindex, device->nd_net.net->ns.inum, sch->parent);
     struct qdisc_queue *queue;
-    sch->limit = number;
     queue = bpf_map_lookup_elem(&queues, &number);
     if (!queue)
         return -28;
+    sch->limit = number + 1;
     queue->handle = sch->handle;
     queue->config.use = QDISC_USED;
     if (qdisc_begin(queue)) {
         queue->config.use = QDISC_FREE;
-        sch->limit = QDISC_QUEUES;
+        sch->limit = 0;
         return -22;
     }
     return 0;
@@ -421,7 +424,7 @@ int BPF_PROG(qdisc_op_init, struct Qdisc *sch, struct nlattr *options, struct ne
 
 SEC("struct_ops/qdisc_op_reset")
 void BPF_PROG(qdisc_op_reset, struct Qdisc *sch) {
-    uint32_t number = sch->limit;
+    uint32_t number = sch->limit - 1;
     uint64_t now = bpf_ktime_get_ns();
     struct qdisc_queue *queue = bpf_map_lookup_elem(&queues, &number);
     struct bpf_iter_num it;
@@ -453,7 +456,7 @@ void BPF_PROG(qdisc_op_reset, struct Qdisc *sch) {
 
 SEC("struct_ops/qdisc_op_destroy")
 void BPF_PROG(qdisc_op_destroy, struct Qdisc *sch) {
-    uint32_t number = sch->limit;
+    uint32_t number = sch->limit - 1;
     struct qdisc_queue *queue = bpf_map_lookup_elem(&queues, &number);
     struct qdisc_message *to;
     void *ring;

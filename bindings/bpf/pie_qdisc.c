@@ -4,7 +4,7 @@
 #include "qdisc_options.h"
 #include "qdisc_record.h"
 
-#include <arpa/inet.h>
+#include <bpf/bpf.h>
 #include <errno.h>
 #include <net/if.h>
 #include <stdio.h>
@@ -85,6 +85,8 @@ static int attach_one(const struct qdisc_maps *maps, const struct call *call, co
     config->netns = this_netns();
     config->ifindex = call->ifindex;
     config->parent = parent;
+    /* (of a reader of an earlier queue in this place, which was killed) */
+    (void)bpf_map_delete_elem(maps->rings_file, &number);
     __atomic_store_n(&config->use, QDISC_PREPARED, __ATOMIC_SEQ_CST);
     error = link_add(call->ifindex, parent, 0, KIND, call->is_mq, text, room);
     if (error)
@@ -107,7 +109,8 @@ static int attach(struct call *call) {
         error = link_add(call->ifindex, ROOT, MQ_HANDLE, "mq", false, text, sizeof text);
         while (!error && child <= QDISC_QUEUES)
             error = attach_one(&maps, call, &config, MQ_HANDLE | child++, text, sizeof text);
-        if (error == -ENOENT && child > 2)
+        /* (the device has no further transmit queue) */
+        if ((error == -ENOENT || error == -EINVAL) && child > 2)
             error = 0;
     }
     if (error) {

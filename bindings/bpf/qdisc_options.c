@@ -49,7 +49,7 @@ void options_default(struct qdisc_config *config) {
 }
 
 static bool refuse(const char *option, const char *text, const char *why) {
-    fprintf(stderr, "pie-qdisc: %s %s: %s\n", option, text, why);
+    fprintf(stderr, "pie-qdisc: %s%s%s: %s\n", option, *text ? " " : "", text, why);
     return false;
 }
 

@@ -19,11 +19,11 @@ enum {
     QDISC_USED = 2
 };
 
-/* A shaper: 2^-20 ns for each byte, 0 without a shaper; bytes that are added to each packet. */
+/* A shaper. */
 struct qdisc_shaper {
-    uint64_t rate; /* in bits per second, from which `cost` was computed */
-    uint64_t cost;
-    int64_t overhead;
+    uint64_t rate;    /* in bits per second; 0: no shaper */
+    uint64_t cost;    /* the time of a byte at this rate, in units of 2^-20 ns */
+    int64_t overhead; /* bytes that are added to each packet */
 };
 
 /* The configuration of a queue, which pie-qdisc writes. If `changes` differs from the queue's `changed`, the next packet applies `params` and

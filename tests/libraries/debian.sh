@@ -32,7 +32,7 @@ logged() {
     fail "$1 ended with status $status"
 }
 
-for program in dpkg-buildpackage dh dh_python3 dh_dkms lintian git clang bpftool; do
+for program in dpkg-buildpackage dh dh_python3 dh_dkms lintian git clang clang-19 bpftool; do
     if ! PATH=$PATH:/usr/sbin command -v "$program" > /dev/null; then
         echo "NOT RUN: tests/libraries/debian.sh: no $program here, so no package was built"
         exit 0
@@ -47,7 +47,7 @@ export DEB_BUILD_OPTIONS='nocheck noautodbgsym'
 logged dpkg-buildpackage -us -uc -b
 cd "$work"
 logged lintian --fail-on error,warning ./*.changes
-for package in juniperbowls juniperbowls-dkms juniperbowls-watch libpie0 libpie-dev python3-juniperbowls; do
+for package in juniperbowls juniperbowls-dkms juniperbowls-watch juniperbowls-qdisc libpie0 libpie-dev python3-juniperbowls; do
     set -- "$package"_"$version"_*.deb
     [ -e "$1" ] || fail "no package $package of version $version"
     dpkg-deb --extract "$1" root
@@ -58,6 +58,8 @@ export LD_LIBRARY_PATH=$library
 root/usr/bin/pie audit < "$repository/bindings/c/example.history" | grep '^clean,' > found || fail "the program does not audit the example"
 root/usr/bin/pie-tap --help > tap
 [ "$(root/usr/bin/pie-watch --version)" = "pie-watch $version" ] || fail "pie-watch has another version than $version"
+[ "$(root/usr/sbin/pie-qdisc --version)" = "pie-qdisc $version" ] || fail "pie-qdisc has another version than $version"
+! root/usr/sbin/pie-qdisc attach no_such_device 2> refused || fail "pie-qdisc attaches to a device that does not exist"
 ! root/usr/bin/pie-watch no_such_device 2> refused || fail "pie-watch records a device that does not exist"
 root/usr/bin/pie audit "$repository/tests/rows/linux_steps.csv" > found 2> lost || fail "the program does not audit recorded steps of Linux: $(cat found lost)"
 for depends in libbpf1 juniperbowls; do

@@ -1,0 +1,56 @@
+#!/usr/bin/env bash
+# Builds pie-qdisc and its BPF programs without warnings, and runs it without a queue: --version prints the version of pie.h, and wrong words and options are
+# refused before a program is loaded. boot.sh runs it with a kernel.
+#
+# usage: bindings/bpf/check.sh
+# needs: nothing
+set -eu
+cd "$(dirname "$0")/../.."
+me=bindings/bpf/check.sh
+for program in clang-19 bpftool; do
+    PATH=$PATH:/usr/sbin command -v $program > /dev/null || { echo "NOT RUN: $me: no $program here (bindings/bpf/install.sh)"; exit 0; }
+done
+[ -e /usr/include/bpf/libbpf.h ] || { echo "NOT RUN: $me: no libbpf here (bindings/bpf/install.sh)"; exit 0; }
+work=$(mktemp -d)
+trap 'rm -rf "$work"' EXIT
+make -s -C bindings/bpf OUT="$work" CLANG='clang-19 -Werror' CFLAGS='-O2 -Werror' 2> "$work/warnings" || { cat "$work/warnings" >&2; exit 1; }
+if [ -s "$work/warnings" ]; then
+    cat "$work/warnings" >&2
+    exit 1
+fi
+version=$(sed -n 's/^#define PIE_VERSION "\(.*\)"$/\1/p' include/pie.h)
+[ "$("$work/pie-qdisc" --version)" = "pie-qdisc $version" ] || { echo "$me: another version than $version" >&2; exit 1; }
+
+# refuses STATUS TEXT WORD..: pie-qdisc with these words fails with this status, and its first line has this text
+refuses() {
+    local status=$1 text=$2 found=0
+    shift 2
+    "$work/pie-qdisc" --pins "$work/pins" "$@" > "$work/refusal" 2>&1 || found=$?
+    if [ "$found" != "$status" ] || [ "$(head -n 1 "$work/refusal")" != "$text" ]; then
+        echo "$me: $*: status $found, $(head -n 1 "$work/refusal")" >&2
+        exit 1
+    fi
+}
+usage='usage: pie-qdisc attach DEV [mq | parent MAJOR:MINOR] [option..]'
+refuses 2 "$usage"
+refuses 2 "$usage" attach
+refuses 2 "$usage" attach lo parent 8
+refuses 2 "$usage" removes lo
+refuses 2 "$usage" record lo --ring
+refuses 1 'pie-qdisc: no_such_device: No such device' attach no_such_device
+refuses 1 'pie-qdisc: option limits: there is no such option' attach lo limits 10
+refuses 1 'pie-qdisc: limit: its value is missing' attach lo limit
+refuses 1 'pie-qdisc: limit 4097: not a number of packets from 1 to 4096' attach lo limit 4097
+refuses 1 'pie-qdisc: limit 0: not a number of packets from 1 to 4096' attach lo limit 0
+refuses 1 'pie-qdisc: rate 20: refused: not a number with a unit of the expected kind' attach lo rate 20
+refuses 1 'pie-qdisc: rate 7999bit: below 8kbit' attach lo rate 7999bit
+refuses 1 'pie-qdisc: alpha 16001: not a number in range' attach lo alpha 16001
+refuses 1 'pie-qdisc: beta 2x: not a number in range' attach lo beta 2x
+refuses 1 'pie-qdisc: overhead -257: not a number in range' attach lo overhead -257
+refuses 1 'pie-qdisc: option target: its value is out of range' attach lo target 20s
+refuses 1 'pie-qdisc: option dq_threshold: its value is out of range' attach lo dq_threshold 3000b
+for command in show "change lo" "record lo" "detach lo"; do
+    # shellcheck disable=SC2086
+    refuses 1 "pie-qdisc: no queue is attached ($work/pins/queues: No such file or directory)" $command
+done
+echo "$me: pie-qdisc $version builds without warnings, and refuses wrong words"

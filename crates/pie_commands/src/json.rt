@@ -11,6 +11,13 @@ use std::io::Write;
 /// Returns the error of the writer.
 pub(crate) fn write_string<W: Write>(writer: &mut W, bytes: &[u8]) -> io::Result<()> {
     writer.write_all(b"\"")?;
+    if bytes
+        .iter()
+        .all(|byte| *byte >= 32 && *byte != b'"' && *byte != b'\\')
+    {
+        writer.write_all(bytes)?;
+        return writer.write_all(b"\"");
+    }
     for byte in bytes {
         match *byte {
             b'"' => writer.write_all(b"\\\"")?,

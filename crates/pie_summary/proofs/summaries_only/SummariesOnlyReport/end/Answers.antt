@@ -9,7 +9,7 @@ returns c = λ all text kept says.
     let by_wall = it.form.by_wall in
     grows it.form.csv _ _ text _ _ _ c.in_ok-push_ended.ensures.grown (λ csv. c.in_ok-push_ended.ensures.record by_wall (c.layout_of.ensures csv))
     (sym (λ i. records_so_far it.every by_wall all ++ (
-      if (c.has_summary-ends.ensures ∙ (λ j. has_summary it.every (kept.last j))) i
-      then summary_text by_wall (kept.kept.sums i) (kept.kept.waits i) else []
+    if (c.has_summary-ends.ensures ∙ (λ j. has_summary it.every (kept.last j))) i
+    then summary_text by_wall (kept.kept.sums i) (kept.kept.waits i) else []
     )))
     says

@@ -1,5 +1,8 @@
 mod Examples
 pub mod ColumnFacts
 pub mod QueueFacts
+pub mod LookBackFacts
+pub mod KnownFacts
+pub mod RowFacts
 pub mod AuditFacts
 pub mod ReportFacts

@@ -1,14 +1,23 @@
 -- The last departures, one after another.
-use Rattle.std.proofs.Common.{Option, ◌≡◌, ℕ, ◌+◌, ◌-◌, ◌^◌, ◌<◌, ◌≤◌, arith, refl, min, sym, ap, ◌∙◌, length, get_or}
+use Rattle.std.proofs.Common.{Option, List, [], ◌∷◌, ◌++◌, ◌≡◌, ℕ, ◌+◌, ◌-◌, ◌^◌, ◌<◌, ◌≤◌, arith, refl, min, sym, ap, ◌∙◌, length, get_or, drop, map, take, append-nil, append_assoc}
 use Rattle.std.proofs.lemmas.Bool.Decides.{nat_tests}
 use Rattle.std.specs.Prelude.{Some, None, zero, suc}
 use Rattle.std.proofs.lemmas.Option.{slice_get-get_or, slice_get_past}
+use Rattle.std.proofs.lemmas.Grind.{drop_more_same}
+use Rattle.std.proofs.lemmas.List.{drop-set-lt, drop_more, length-set, map-append, take_all, take_more, take_more_set}
+use Rattle.std.proofs.lemmas.List.Concat.{flat_map-append}
 use Rattle.std.proofs.Math.ListN.{set}
+use Rattle.std.specs.List.{flat_map}
+use Rattle.pie_linux_history.specs.declared.explained.DecidedPacket.{DecidedPacket}
+use Rattle.pie_linux_history.specs.declared.explained.Fate.TheVariants as fate
+use Rattle.pie_linux_history.specs.declared.numbers.FlowNumbers.{FlowNumbers}
+use Rattle.pie_linux_history.specs.declared.numbers.Waiting.{Waiting}
+use Rattle.pie_linux_history.specs.Decisions.{removed, removed_flow}
 use Rattle.pie_linux_history.specs.declared.difference.Difference.{Difference}
 use Rattle.pie_linux_history.specs.declared.explained.Decision.{Decision}
 use Rattle.pie_linux_history.specs.declared.numbers.QueueNumbers.{QueueNumbers}
 use Rattle.pie_linux_history.specs.declared.step.Step.{Step}
-use Rattle.pie_linux_history.specs.Queue.{FlowStep, IsFlowStep, flow_at, flow_stepped, last_departures, other, place_of, sent_before}
+use Rattle.pie_linux_history.specs.Queue.{FlowStep, IsFlowStep, dropped, dropped_in_turn, dropped_of, emptied_flow, shortened_flow, shortened_queue, flow_at, flow_stepped, last_departures, other, place_of, sent_before}
 use Rattle.pie_linux_history.specs.Views.{FlowView, QueueView}
 
 pub last-stop : (queue : QueueView) (more packets bytes left : ℕ) → more ≤ bytes → last_departures queue more packets bytes left ≡ None
@@ -49,3 +58,99 @@ pub steps-none : (flow_step : QueueNumbers → FlowView → Step → FlowStep) (
 unfolding flow_stepped
 steps-none flow_step missing queue step place is beyond =
     let e : flow_at queue step ≡ None = rw (← is) (slice_get_past queue.flows place beyond) in rw e refl
+
+-- ---- packets that are dropped
+
+pub empty-of : {A : Type 0} (xs : List A) → length xs ≡ 0 → xs ≡ []
+empty-of [] none = refl
+empty-of (x ∷ xs) none = absurd (omega arith)
+
+-- a flow whose first packets are dropped: `left` more of them, after those that were dropped
+pub record Drops (queue : QueueNumbers) (flow : FlowNumbers) (waiting : List Waiting) (count : ℕ) (lost : List DecidedPacket)
+    (left : ℕ) (queue_now : QueueNumbers) (flow_now : FlowNumbers) (waiting_now : List Waiting) (lost_now : List DecidedPacket) : Type 0 where
+  pub waits : drop left waiting_now ≡ drop count waiting
+  pub flow_is : shortened_flow flow_now waiting_now left ≡ shortened_flow flow waiting count
+  pub queue_is : shortened_queue queue_now waiting_now left ≡ shortened_queue queue waiting count
+  pub lost_are : lost_now ++ dropped_in_turn fate.Change queue_now flow_now (take left waiting_now)
+      ≡ lost ++ dropped_in_turn fate.Change queue flow (take count waiting)
+
+pub drops-first : (queue : QueueNumbers) (flow : FlowNumbers) (waiting : List Waiting) (count : ℕ) (lost : List DecidedPacket) (left : ℕ) → left ≡ count
+    → Drops queue flow waiting count lost left queue flow waiting lost
+drops-first queue flow waiting count lost left same = rw same (record { waits = refl; flow_is = refl; queue_is = refl; lost_are = refl })
+
+pub drops-next : (queue : QueueNumbers) (flow : FlowNumbers) (waiting : List Waiting) (count : ℕ) (lost : List DecidedPacket)
+    (left : ℕ) (queue_now : QueueNumbers) (flow_now : FlowNumbers) (waiting_now : List Waiting) (lost_now : List DecidedPacket)
+    (packet : Waiting) (rest : List Waiting) (fewer : ℕ) → waiting_now ≡ packet ∷ rest → left ≡ suc fewer
+    → Drops queue flow waiting count lost left queue_now flow_now waiting_now lost_now
+    → Drops queue flow waiting count lost fewer (removed queue_now packet) (removed_flow flow_now packet) rest (lost_now ++ dropped fate.Change queue_now flow_now packet ∷ [])
+unfolding dropped_in_turn
+drops-next queue flow waiting count lost left queue_now flow_now waiting_now lost_now packet rest fewer first less was =
+    let h : Drops queue flow waiting count lost (suc fewer) queue_now flow_now (packet ∷ rest) lost_now = rw (less, first) at was in
+    record { waits = h.waits; flow_is = h.flow_is; queue_is = h.queue_is; lost_are = rw append_assoc h.lost_are }
+
+-- the end: none is left to drop, or none waits
+pub record Dropped (queue : QueueNumbers) (flow : FlowNumbers) (waiting : List Waiting) (count : ℕ) (lost : List DecidedPacket)
+    (queue_now : QueueNumbers) (flow_now : FlowNumbers) (waiting_now : List Waiting) (lost_now : List DecidedPacket) : Type 0 where
+  pub waits : waiting_now ≡ drop count waiting
+  pub flow_is : flow_now ≡ shortened_flow flow waiting count
+  pub queue_is : queue_now ≡ shortened_queue queue waiting count
+  pub lost_are : lost_now ≡ lost ++ dropped_in_turn fate.Change queue flow (take count waiting)
+
+pub drops-none : (queue : QueueNumbers) (flow : FlowNumbers) (waiting : List Waiting) (count : ℕ) (lost : List DecidedPacket)
+    (left : ℕ) (queue_now : QueueNumbers) (flow_now : FlowNumbers) (waiting_now : List Waiting) (lost_now : List DecidedPacket)
+    → waiting_now ≡ [] → Drops queue flow waiting count lost left queue_now flow_now waiting_now lost_now
+    → Dropped queue flow waiting count lost queue_now flow_now waiting_now lost_now
+unfolding dropped_in_turn
+drops-none queue flow waiting count lost zero queue_now flow_now waiting_now lost_now none was =
+    record { waits = was.waits; flow_is = was.flow_is; queue_is = was.queue_is; lost_are = rw append-nil at was.lost_are }
+drops-none queue flow waiting count lost (suc left) queue_now flow_now waiting_now lost_now none was =
+    let h : Drops queue flow waiting count lost (suc left) queue_now flow_now [] lost_now = rw none at was in
+    rw none (record { waits = h.waits; flow_is = h.flow_is; queue_is = h.queue_is; lost_are = rw append-nil at h.lost_are })
+
+pub drops-all : (queue : QueueNumbers) (flow : FlowNumbers) (waiting : List Waiting) (count : ℕ) (lost : List DecidedPacket)
+    (left : ℕ) (queue_now : QueueNumbers) (flow_now : FlowNumbers) (waiting_now : List Waiting) (lost_now : List DecidedPacket)
+    → left ≡ 0 → Drops queue flow waiting count lost left queue_now flow_now waiting_now lost_now
+    → Dropped queue flow waiting count lost queue_now flow_now waiting_now lost_now
+unfolding dropped_in_turn
+drops-all queue flow waiting count lost left queue_now flow_now waiting_now lost_now none was =
+    let h : Drops queue flow waiting count lost 0 queue_now flow_now waiting_now lost_now = rw none at was in
+    record { waits = h.waits; flow_is = h.flow_is; queue_is = h.queue_is; lost_are = rw append-nil at h.lost_are }
+
+-- ---- flows that are reset one after another
+
+get_or-from_drop : {A : Type 0} (xs ys : List A) (i : ℕ) (d : A) → i < length xs → i < length ys → drop i xs ≡ drop i ys → get_or xs i d ≡ get_or ys i d
+get_or-from_drop xs ys i d in_xs in_ys same =
+    let e : get_or xs i d ∷ drop (i + 1) xs ≡ get_or ys i d ∷ drop (i + 1) ys = sym (drop_more xs i d in_xs) ∙ (same ∙ drop_more ys i d in_ys) in cc
+
+pub record Emptied (queue : QueueNumbers) (flows : List FlowView) (lost : List DecidedPacket) (place : ℕ) (flows_now : List FlowView) (lost_now : List DecidedPacket) : Type 0 where
+  pub many : length flows_now ≡ length flows
+  pub front : take place flows_now ≡ map (emptied_flow queue.has_flows) (take place flows)
+  pub back : drop place flows_now ≡ drop place flows
+  pub lost_are : lost_now ≡ lost ++ flat_map (dropped_of queue) (take place flows)
+
+pub emptied-first : (queue : QueueNumbers) (flows : List FlowView) (lost : List DecidedPacket) → Emptied queue flows lost 0 flows lost
+emptied-first queue flows lost = record { many = refl; front = refl; back = refl; lost_are = sym (append-nil lost) }
+
+pub emptied-next : (queue : QueueNumbers) (flows : List FlowView) (lost : List DecidedPacket) (place : ℕ) (flows_now : List FlowView) (lost_now : List DecidedPacket)
+    (was now : FlowView) (lost_then : List DecidedPacket) → place < length flows_now → was ≡ get_or flows_now place was → now ≡ emptied_flow queue.has_flows was
+    → lost_then ≡ lost_now ++ dropped_of queue was → Emptied queue flows lost place flows_now lost_now
+    → Emptied queue flows lost (place + 1) (set flows_now place now) lost_then
+emptied-next queue flows lost place flows_now lost_now was now lost_then within is made more h =
+    let within_all : place < length flows = omega (arith, h.many) in
+    let same : was ≡ get_or flows place was =
+    is ∙ get_or-from_drop flows_now flows place was within within_all h.back in
+    let front : take (place + 1) flows ≡ take place flows ++ was ∷ [] = rw (← same) at (take_more flows place was within_all) in
+    record {
+      many = length-set flows_now place now ∙ h.many;
+      front = take_more_set flows_now place now within ∙ rw (front, map-append (emptied_flow queue.has_flows) (take place flows) (was ∷ []), h.front, made) refl;
+      back = rw (drop-set-lt (place + 1) flows_now place now (omega arith)) (drop_more_same flows_now flows place h.back);
+      lost_are = more ∙ rw (h.lost_are, front, flat_map-append (dropped_of queue) (take place flows) (was ∷ []), append_assoc) (ap (λ (x : List DecidedPacket). lost ++ (flat_map (dropped_of queue) (take place flows) ++ x)) (sym (append-nil (dropped_of queue was))));
+    }
+
+pub emptied-all : (queue : QueueNumbers) (flows : List FlowView) (lost : List DecidedPacket) (place : ℕ) (flows_now : List FlowView) (lost_now : List DecidedPacket)
+    → length flows_now ≤ place → Emptied queue flows lost place flows_now lost_now
+    → (flows_now ≡ map (emptied_flow queue.has_flows) flows) × (lost_now ≡ lost ++ flat_map (dropped_of queue) flows)
+emptied-all queue flows lost place flows_now lost_now all h = (
+  sym (take_all place flows_now all) ∙ h.front ∙ rw (take_all place flows (omega (arith, h.many))) refl,
+  h.lost_are ∙ rw (take_all place flows (omega (arith, h.many))) refl,
+)

@@ -216,6 +216,14 @@ step_in columns row =
     Ok (step_of numbers kind has_flows flow protocol header)))))))
     else Err flaw.Fields
 
+-- the moment of a row, 0 if the row has none
+abbrev pub or_zero : Result ℕ RecordFault → ℕ
+or_zero (Ok number) = number
+or_zero (Err what) = 0
+
+unfoldable pub moment_of : Columns → Row → ℕ
+moment_of columns row = if length row == columns.count then or_zero (decimal_at row (place columns (codes "ns")) most_u64) else 0
+
 -- ---- lost steps
 
 -- the bytes of a name, filled up with zeros

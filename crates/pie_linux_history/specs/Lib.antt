@@ -2,7 +2,9 @@ pub mod Differences
 pub mod Decisions
 pub mod Views
 pub mod Queue
+pub mod LookBack
 pub mod Audit
+pub mod Known
 pub mod Columns
 pub mod Event
 pub mod Reports

@@ -1,10 +1,12 @@
 -- A queue whose steps are decided again: its numbers, its flows with their waiting packets, and the lengths of its last departures; and each step of it.
-use Rattle.std.specs.Prelude.{ℕ, ◌+◌, ◌-◌, ◌%◌, ◌/◌, ◌^◌, ◌++◌, ◌∷◌, ◌==◌, ◌≡◌, ◌&&◌, if◌then◌else◌, not, nat_le, nat_lt, List, [], length, get_or, min, Option, Some, None, unwrap_or, zero, suc, Bool, true, false}
-use Rattle.std.specs.List.{slice_get}
+use Rattle.std.specs.Prelude.{ℕ, ◌+◌, ◌-◌, ◌%◌, ◌/◌, ◌^◌, ◌++◌, ◌∷◌, ◌==◌, ◌≡◌, ◌&&◌, if◌then◌else◌, not, nat_le, nat_lt, List, [], length, get_or, min, Option, Some, None, unwrap_or, zero, suc, Bool, true, false, drop, map, replicate, take}
+use Rattle.std.specs.List.{flat_map, fold, slice_get}
 use Rattle.std.specs.Option.{option_or}
 use Rattle.std.proofs.Math.ListN.{set}
 use Rattle.pie_linux.specs.Enqueue.{is_queued, one_if}
-use Rattle.pie_linux.specs.Queue.{flow_of}
+use Rattle.pie_linux.specs.Numbers.{full_burst, unset}
+use Rattle.pie_linux.specs.Queue.{excess, flow_of}
+use Rattle.pie_linux.specs.declared.state.LinuxState.{LinuxState}
 use Rattle.pie_linux_history.specs.declared.difference.Column.TheVariants as column
 use Rattle.pie_linux_history.specs.declared.difference.Difference.{Difference}
 use Rattle.pie_linux_history.specs.declared.explained.DecidedPacket.{DecidedPacket}
@@ -17,7 +19,8 @@ use Rattle.pie_linux_history.specs.declared.numbers.Waiting.{Waiting}
 use Rattle.pie_linux_history.specs.declared.step.Kind.{Kind}
 use Rattle.pie_linux_history.specs.declared.step.Kind.TheVariants as kind
 use Rattle.pie_linux_history.specs.declared.step.Step.{Step}
-use Rattle.pie_linux_history.specs.Decisions.{arrival_difference, arrived, arrived_flow, bytes_before, cause_of, departed_flow, departed_queue, departure_difference, difference_32, is_taken, length_before, round_begun, round_difference, settled, update_difference, updated_flow, waiting_added, waiting_of}
+use Rattle.pie_linux_history.specs.Decisions.{arrival_difference, arrived, arrived_flow, bytes_before, cause_of, change_difference, changed, departed_flow, departed_queue, departure_difference, difference_32, is_taken, length_before, removed, removed_flow, reset_difference, reset_flow, reset_queue, round_begun, round_difference, settled, update_difference, updated_flow, waiting_added, waiting_of}
+use Rattle.pie_linux_history.specs.Resumes.{first_numbers, is_init, resumed}
 use Rattle.pie_linux_history.specs.Views.{FlowView, QueueView}
 
 -- ---- flows
@@ -226,7 +229,74 @@ waiting_resumed queue step =
       sent = None;
     }
 
--- the step of each kind. Changes and resets are defined by their decisions alone
+-- ---- changes and resets
+
+-- the waiting packets of a flow that are dropped one after another. Before each the queue and the flow have the numbers without those before it
+unfoldable pub dropped_in_turn : Fate → QueueNumbers → FlowNumbers → List Waiting → List DecidedPacket
+dropped_in_turn why queue flow [] = []
+dropped_in_turn why queue flow (first ∷ rest) = dropped why queue flow first ∷ dropped_in_turn why (removed queue first) (removed_flow flow first) rest
+
+-- a flow without its first `count` packets, and the numbers of its queue
+abbrev pub shortened_queue : QueueNumbers → List Waiting → ℕ → QueueNumbers
+shortened_queue queue waiting count = fold removed queue (take count waiting)
+
+abbrev pub shortened_flow : FlowNumbers → List Waiting → ℕ → FlowNumbers
+shortened_flow flow waiting count = fold removed_flow flow (take count waiting)
+
+-- the number of packets that a lower limit drops: of pie those above it. fq_pie's drops are departures
+abbrev pub excess_of : QueueView → Step → ℕ
+excess_of queue step = if queue.numbers.has_flows then 0 else excess queue.numbers.length step.params.limit
+
+-- a change of the parameters: pie's first packets are dropped
+abbrev pub changed_first : QueueView → Step → Option FlowView → Stepped
+changed_first queue step None = record { queue = record queue { numbers = changed queue.numbers step }; decision = other None; sent = None }
+changed_first queue step (Some flow) =
+    let count = excess_of queue step in
+    let numbers = shortened_queue (changed queue.numbers step) flow.waiting count in
+    let after = shortened_flow flow.numbers flow.waiting count in
+    record {
+      queue = record queue { numbers = numbers; flows = set queue.flows 0 (record { numbers = after; waiting = drop count flow.waiting }) };
+      decision = other (change_difference numbers after count step);
+      sent = None;
+    }
+
+unfoldable pub change : QueueView → Step → Stepped
+change queue step = changed_first queue step (slice_get queue.flows 0)
+
+abbrev pub dropped_first : QueueView → Step → Option FlowView → List DecidedPacket
+dropped_first queue step None = []
+dropped_first queue step (Some flow) =
+    dropped_in_turn fate.Change (changed queue.numbers step) flow.numbers (take (excess_of queue step) flow.waiting)
+
+unfoldable pub dropped_by_change : QueueView → Step → List DecidedPacket
+dropped_by_change queue step = dropped_first queue step (slice_get queue.flows 0)
+
+-- a reset: all waiting packets are dropped, flow by flow. Before each the queue and the flow have the numbers before the reset
+abbrev pub emptied_flow : Bool → FlowView → FlowView
+emptied_flow has_flows flow = record { numbers = reset_flow flow.numbers has_flows; waiting = [] }
+
+abbrev pub dropped_of : QueueNumbers → FlowView → List DecidedPacket
+dropped_of queue flow = map (dropped fate.Reset queue flow.numbers) flow.waiting
+
+abbrev pub reset_difference_of : QueueNumbers → Option FlowView → Step → Option Difference
+reset_difference_of queue None step = None
+reset_difference_of queue (Some first) step = reset_difference queue first.numbers step
+
+unfoldable pub reset : QueueView → Step → Stepped
+reset queue step =
+    let flows = map (emptied_flow queue.numbers.has_flows) queue.flows in
+    record {
+      queue = record queue { numbers = reset_queue queue.numbers; flows = flows };
+      decision = other (reset_difference_of (reset_queue queue.numbers) (slice_get flows 0) step);
+      sent = None;
+    }
+
+unfoldable pub dropped_by_reset : QueueView → List DecidedPacket
+dropped_by_reset queue = flat_map (dropped_of queue.numbers) queue.flows
+
+-- ---- steps
+
+-- the step of each kind
 abbrev pub unchanged : QueueView → Stepped
 unchanged queue = record { queue = queue; decision = other None; sent = None }
 
@@ -237,16 +307,22 @@ round queue step = record {
   sent = None;
 }
 
-abbrev pub stepped : Kind → QueueView → Step → Option Stepped
-stepped kind.Enqueue queue step = Some (arrival queue step)
-stepped kind.Dequeue queue step = Some (departure queue step)
-stepped kind.Update queue step = Some (update queue step)
-stepped kind.Timer queue step = Some (round queue step)
-stepped kind.Flow queue step = Some (flow_stepped flow_resumed None queue step)
-stepped kind.Wait queue step = Some (waiting_resumed queue step)
-stepped kind.Change queue step = None
-stepped kind.Reset queue step = None
-stepped _ queue step = Some (unchanged queue)
+abbrev pub stepped : Kind → QueueView → Step → Stepped
+stepped kind.Enqueue queue step = arrival queue step
+stepped kind.Dequeue queue step = departure queue step
+stepped kind.Update queue step = update queue step
+stepped kind.Timer queue step = round queue step
+stepped kind.Flow queue step = flow_stepped flow_resumed None queue step
+stepped kind.Wait queue step = waiting_resumed queue step
+stepped kind.Change queue step = change queue step
+stepped kind.Reset queue step = reset queue step
+stepped _ queue step = unchanged queue
+
+-- the waiting packets that a step of each kind drops, in order
+abbrev pub dropped_by : Kind → QueueView → Step → List DecidedPacket
+dropped_by kind.Change queue step = dropped_by_change queue step
+dropped_by kind.Reset queue step = dropped_by_reset queue
+dropped_by _ queue step = []
 
 -- true for a row that belongs to the row `resume` before it, and is no step of its own
 abbrev pub is_part : Kind → Bool
@@ -262,11 +338,49 @@ abbrev pub last_after : ℕ → Step → ℕ
 last_after last step = if step.number == next_number last step then step.number else last
 
 -- a step of a queue, after the one with this number: a row is missing if it is not the next
-abbrev pub next_step : ℕ → QueueView → Step → Option Stepped
+abbrev pub next_step : ℕ → QueueView → Step → Stepped
 next_step last queue step =
     if step.number == next_number last step then stepped step.kind queue step
-    else Some (record {
+    else record {
       queue = queue;
       decision = other (Some (record { column = column.Number; recorded = step.number; right = next_number last step }));
       sent = None;
-    })
+    }
+
+abbrev pub next_dropped : ℕ → QueueView → Step → List DecidedPacket
+next_dropped last queue step = if step.number == next_number last step then dropped_by step.kind queue step else []
+
+-- ---- the first step
+
+-- the number of flows: at most 65536 of fq_pie, one of pie
+abbrev pub first_flows : Step → ℕ
+first_flows step = if step.has_flows then min step.x1 65536 else 1
+
+-- the state of each flow: a new one, unless pie runs
+abbrev pub new_state : LinuxState
+new_state = record {
+  qdelay = 0;
+  qdelay_old = 0;
+  burst_time = full_burst;
+  dq_tstamp = unset;
+  prob = 0;
+  accu_prob = 0;
+  dq_count = unset;
+  avg_dq_rate = 0;
+  backlog_old = 0;
+}
+
+abbrev pub first_state : Step → LinuxState
+first_state step = if is_init step.kind then new_state else if step.has_flows then new_state else step.after
+
+abbrev pub first_flow : Step → FlowView
+first_flow step = record { numbers = record { state = first_state step; backlog = 0; listed = false }; waiting = [] }
+
+-- a queue after its first step, `init` or `resume`: no packet waits yet
+unfoldable pub opened : Step → QueueView
+opened step = record {
+  numbers = resumed (first_numbers step) step;
+  flows = replicate (first_flows step) (first_flow step);
+  sent = replicate 256 0;
+  count = 0;
+}

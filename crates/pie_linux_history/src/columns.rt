@@ -3,7 +3,7 @@ ghost use Rattle.std.specs.Prelude.{◌≡◌, ◌<◌, ◌∷◌, codes, get_or
 ghost use Rattle.pie_record.specs.declared.fault.TraceFault.TheVariants.{Memory};
 ghost use Rattle.pie_record.specs.Field.{fault_at};
 ghost use Rattle.pie_linux_history.specs.declared.fault.StepsFault.TheVariants.{Trace};
-ghost use Rattle.pie_linux_history.specs.Columns.{collected, column_at, columns_of, decimal_at, field_or, flow_at, has_flows_at, hex_digit, hexadecimal_after, hexadecimal_at, kind_at, most_of, name_of, narrow, lost_in, numbers_of, params_of, place_from, state_of, step_in, step_of};
+ghost use Rattle.pie_linux_history.specs.Columns.{collected, column_at, columns_of, decimal_at, field_or, flow_at, has_flows_at, hex_digit, hexadecimal_after, hexadecimal_at, kind_at, most_of, name_of, narrow, lost_in, moment_of, numbers_of, params_of, place_from, state_of, step_in, step_of};
 
 use crate::fault::StepsFault;
 use crate::step::{Kind, QueueName, Step};
@@ -338,7 +338,10 @@ impl Columns {
     }
 
     /// Returns the moment of a row, and 0 if the row has none.
-    pub(crate) fn moment(&self, fields: &Record) -> u64 {
+    #[tactic(auto, unfolding(crate::specs::Columns::moment_of, crate::specs::Columns::place_from))]
+    pub(crate) fn moment(&self, fields: &Record) -> u64
+        ensures { result ≡ moment_of self.now fields.now }
+    {
         if fields.len() != self.count {
             return 0;
         }

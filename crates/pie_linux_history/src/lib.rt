@@ -8,22 +8,22 @@
 //!
 //! Proved:
 //!
-//! - `audit` reads the rows of the text in order up to the first fault or the first step that differs, and returns
-//!   `Clean` only after the last row (specs/Audit.antt). A difference names the event, the queue and the step of its
-//!   row, and a fault names its record.
+//! - The finding of `audit` is exactly `finding_of` (specs/Audit.antt): the first fault, or the first step that differs with
+//!   its event, queue, step, column and both numbers, or otherwise the numbers of rows, steps and lost steps.
+//! - The queue of a step is the one with exactly its name, by a look-back over all rows before the step
+//!   (specs/LookBack.antt): the last row `init` or `resume` of the name, and each later step of the name. There is none if
+//!   steps of the name were lost later. `KnownQueues` represents these queues (specs/Known.antt).
 //! - The fields of a row by the names of its columns, and each fault of a row (specs/Columns.antt).
-//! - In a queue: the number of its next step, the flow of a step, the waiting packets of the flow, and the packets that
-//!   the kernel counts again, for each kind of step except a change and a reset (specs/Queue.antt).
+//! - In a queue: its first state, the number of its next step, the flow of a step, the waiting packets of the flow, the
+//!   packets that the kernel counts again, and those that a change or a reset drops (specs/Queue.antt).
 //! - Each decision. `QueueNumbers::arrive`, `depart`, `update`, `begin_round`, `change` and `reset` give the numbers of
 //!   the queue and of the flow after the step, and the first recorded number that differs from them, exactly as
 //!   specs/Decisions.antt defines them over the rules of pie_linux.
 //! - The event of a decided step is exactly `explained_of` (specs/Event.antt), and the output of `report` is the
 //!   report's whole text for the selected events of decided steps, in order (specs/Reports.antt).
 //!
-//! Tested only (tests/program/linux_steps.py, linux_reports.py): the choice of a step's queue by its name, so that the
-//! finding of a row is the decision of this queue; the first state of a queue; the packets that a change or a reset
-//! drops; that explanations and reports take all rows, and the updates before a step; the words of explanations; the
-//! rows of a piece.
+//! Tested only (tests/program/linux_steps.py, linux_reports.py): that explanations and reports take all rows, and the
+//! updates before a step; the words of explanations; the rows of a piece.
 #![tactic(auto)]
 
 mod columns;
@@ -33,6 +33,7 @@ mod difference;
 mod event;
 mod explained;
 mod fault;
+mod known;
 mod numbers;
 mod queue;
 mod queues;

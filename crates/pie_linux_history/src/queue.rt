@@ -1,7 +1,9 @@
 //! A queue whose steps are decided again: its numbers, its flows and their waiting packets.
-ghost use Rattle.std.specs.Prelude.{◌≡◌, IfOk, IfSome, None};
+ghost use Rattle.std.specs.Prelude.{◌≡◌, ◌++◌, [], IfOk, OnOk, None, drop, map, replicate, take};
+ghost use Rattle.std.specs.List.{flat_map};
+ghost use Rattle.pie_linux_history.specs.declared.explained.Fate.TheVariants.{Change, Reset};
 ghost use Rattle.pie_linux_history.specs.declared.numbers.QueueNumbers.{QueueNumbers};
-ghost use Rattle.pie_linux_history.specs.Queue.{arrival, counted_again, departure, stepped, update, waiting_resumed, dropped, IsFlowStep, flow_arrived, flow_count, flow_departed, flow_resumed, flow_stepped, flow_updated, flow_waited, last_departures, no_flow, other, place_at, place_of, sent, sent_before};
+ghost use Rattle.pie_linux_history.specs.Queue.{arrival, change, counted_again, departure, dropped_by, dropped_by_change, dropped_by_reset, dropped_in_turn, dropped_of, emptied_flow, first_flow, first_flows, first_state, opened, reset, shortened_flow, shortened_queue, stepped, update, waiting_resumed, dropped, IsFlowStep, flow_arrived, flow_count, flow_departed, flow_resumed, flow_stepped, flow_updated, flow_waited, last_departures, no_flow, other, place_at, place_of, sent, sent_before};
 ghost use Rattle.pie_linux_history.specs.Resumes.{first_numbers};
 
 use crate::decided::StepNumbers;
@@ -114,6 +116,38 @@ impl Flow {
         Decision::other(None)
     }
 
+    /// Drops the first `count` packets one after another, since the limit is lower. Adds them to `lost`.
+    fn shorten(
+        &mut self,
+        queue: &mut QueueNumbers,
+        count: u32,
+        lost: &mut Vec<DecidedPacket>,
+    ) -> Result<(), AllocError>
+        ensures flow { OnOk result (self.new ≡ record {
+          numbers = shortened_flow self.old.numbers self.old.waiting count;
+          waiting = drop count self.old.waiting;
+        }) }
+        ensures queue { OnOk result (queue.new ≡ shortened_queue queue.old self.old.waiting count) }
+        ensures lost { OnOk result (lost.new.items
+            ≡ lost.old.items ++ dropped_in_turn Change queue.old self.old.numbers (take count self.old.waiting)) }
+    {
+        drop_first(&mut self.waiting, &mut self.numbers, queue, count, lost)
+    }
+
+    /// Resets the flow. Adds its packets to `lost`.
+    fn empty(
+        &mut self,
+        queue: &QueueNumbers,
+        lost: &mut Vec<DecidedPacket>,
+    ) -> Result<(), AllocError>
+        ensures flow { OnOk result (self.new ≡ emptied_flow queue.now.has_flows self.old) }
+        ensures lost { OnOk result (lost.new.items ≡ lost.old.items ++ dropped_of queue.now self.old) }
+    {
+        drop_all(&mut self.waiting, &self.numbers, queue, lost)?;
+        self.numbers.reset(queue.has_flows);
+        Ok(())
+    }
+
     /// Adds the packet of a step at the end.
     fn push(&mut self, step: &Step) -> Result<Decision, AllocError>
         ensures { IfOk result (λ decision. (queue : QueueNumbers) → IsFlowStep (flow_waited queue self.old step.now) queue self.new decision None) }
@@ -148,7 +182,9 @@ fn first_numbers(step: &Step) -> QueueNumbers
 }
 
 /// Returns the state of each flow after the queue's first step. The flows of a running fq_pie have rows of their own.
-fn first_state(step: &Step) -> LinuxState {
+fn first_state(step: &Step) -> LinuxState
+    ensures { result ≡ first_state step.now }
+{
     if step.kind == Kind::Init || step.has_flows {
         LinuxState::new()
     } else {
@@ -156,30 +192,47 @@ fn first_state(step: &Step) -> LinuxState {
     }
 }
 
+/// Returns the number of flows after the queue's first step.
+fn first_count(step: &Step) -> u32
+    ensures { result ≡ first_flows step.now }
+{
+    if step.has_flows {
+        step.x1.min(MAX_FLOWS)
+    } else {
+        1
+    }
+}
+
+/// Returns the flows after the queue's first step. No packet waits yet.
+fn first_flows(alloc: Global, step: &Step) -> Result<Vec<Flow>, AllocError>
+    ensures { IfOk result (λ flows. flows.items ≡ replicate (first_flows step.now) (first_flow step.now)) }
+{
+    let (count, state) = (first_count(step), first_state(step));
+    let mut flows = Vec::new(alloc);
+    for place in 0..count {
+        flows.push(Flow {
+            numbers: FlowNumbers {
+                state,
+                backlog: 0,
+                listed: false,
+            },
+            waiting: VecDeque::new(alloc),
+        })?;
+    }
+    Ok(flows)
+}
+
 impl Queue {
     /// Makes a queue from its first step, a new one or a running one. Of a running one, steps for its flows and waiting
     /// packets follow.
     #[inline(never)]
-    pub(crate) fn open(alloc: Global, step: &Step) -> Result<Queue, AllocError> {
-        let count = if step.has_flows {
-            step.x1.min(MAX_FLOWS)
-        } else {
-            1
-        };
-        let mut flows = Vec::new(alloc);
-        for _ in 0..count {
-            flows.push(Flow {
-                numbers: FlowNumbers {
-                    state: first_state(step),
-                    backlog: 0,
-                    listed: false,
-                },
-                waiting: VecDeque::new(alloc),
-            })?;
-        }
+    #[tactic(auto, unfolding(crate::specs::Queue::opened))]
+    pub(crate) fn open(alloc: Global, step: &Step) -> Result<Queue, AllocError>
+        ensures { IfOk result (λ queue. queue ≡ opened step.now) }
+    {
         Ok(Queue {
             numbers: resumed(first_numbers(step), step),
-            flows,
+            flows: first_flows(alloc, step)?,
             sent: [0; RETURNED],
             count: 0,
             has_ended: false,
@@ -192,7 +245,8 @@ impl Queue {
         step: &Step,
         lost: &mut Vec<DecidedPacket>,
     ) -> Result<Decision, AllocError>
-        ensures { IfOk result (λ decision. IfSome (stepped step.now.kind self.old step.now) (λ made. made ≡ record { queue = self.new; decision = decision; sent = None })) }
+        ensures made { IfOk result (λ decision. stepped step.now.kind self.old step.now ≡ record { queue = self.new; decision = decision; sent = None }) }
+        ensures lost { OnOk result (lost.new.items ≡ lost.old.items ++ dropped_by step.now.kind self.old step.now) }
     {
         match step.kind {
             Kind::Enqueue => self.arrive(step),
@@ -411,40 +465,29 @@ impl Queue {
         self.update_counted(step)
     }
 
-    /// Changes the parameters.
-    fn change(
-        &mut self,
-        step: &Step,
-        lost: &mut Vec<DecidedPacket>,
-    ) -> Result<Decision, AllocError> {
+    /// Changes the parameters, and drops pie's packets above a lower limit. Adds them to `lost`.
+    #[tactic(auto, unfolding(crate::specs::Queue::change, crate::specs::Queue::dropped_by_change))]
+    fn change(&mut self, step: &Step, lost: &mut Vec<DecidedPacket>) -> Result<Decision, AllocError>
+        ensures made { IfOk result (λ decision. change self.old step.now ≡ record { queue = self.new; decision = decision; sent = None }) }
+        ensures lost { OnOk result (lost.new.items ≡ lost.old.items ++ dropped_by_change self.old step.now) }
+    {
         let count = self.numbers.change(step);
-        let Some(flow) = self.flows.first_mut() else {
+        let Some(flow) = self.flows.get_mut(0) else {
             return Ok(Decision::other(None));
         };
-        for _ in 0..count {
-            let Some(waiting) = flow.waiting.pop_front() else {
-                break;
-            };
-            lost.push(dropped(Fate::Change, &self.numbers, &flow.numbers, &waiting))?;
-            self.numbers.remove(&mut flow.numbers, &waiting);
-        }
-        Ok(Decision::other(self.numbers.change_difference(&flow.numbers, count, step)))
+        flow.shorten(&mut self.numbers, count, lost)?;
+        let numbers = flow.numbers;
+        Ok(Decision::other(self.numbers.change_difference(&numbers, count, step)))
     }
 
-    /// Resets the queue: all packets are dropped, and the flows keep the numbers that a reset does not change.
-    fn reset(
-        &mut self,
-        step: &Step,
-        lost: &mut Vec<DecidedPacket>,
-    ) -> Result<Decision, AllocError> {
-        let has_flows = self.numbers.has_flows;
-        for flow in self.flows.iter_mut() {
-            for waiting in flow.waiting.iter() {
-                lost.push(dropped(Fate::Reset, &self.numbers, &flow.numbers, waiting))?;
-            }
-            flow.waiting.clear();
-            flow.numbers.reset(has_flows);
-        }
+    /// Resets the queue: all packets are dropped, and the flows keep the numbers that a reset does not change. Adds the
+    /// packets to `lost`.
+    #[tactic(auto, unfolding(crate::specs::Queue::reset, crate::specs::Queue::dropped_by_reset))]
+    fn reset(&mut self, step: &Step, lost: &mut Vec<DecidedPacket>) -> Result<Decision, AllocError>
+        ensures made { IfOk result (λ decision. reset self.old step.now ≡ record { queue = self.new; decision = decision; sent = None }) }
+        ensures lost { OnOk result (lost.new.items ≡ lost.old.items ++ dropped_by_reset self.old) }
+    {
+        empty_flows(&mut self.flows, &self.numbers, lost)?;
         self.numbers.reset();
         let difference = match self.flows.first() {
             Some(flow) => self.numbers.reset_difference(&flow.numbers, step),
@@ -452,6 +495,61 @@ impl Queue {
         };
         Ok(Decision::other(difference))
     }
+}
+
+/// Drops the first `count` packets of a flow one after another. Adds them to `lost`.
+fn drop_first(
+    waiting: &mut VecDeque<Waiting>,
+    flow: &mut FlowNumbers,
+    queue: &mut QueueNumbers,
+    count: u32,
+    lost: &mut Vec<DecidedPacket>,
+) -> Result<(), AllocError>
+    ensures waiting { OnOk result (waiting.new.items ≡ drop count waiting.old.items) }
+    ensures flow { OnOk result (flow.new ≡ shortened_flow flow.old waiting.old.items count) }
+    ensures queue { OnOk result (queue.new ≡ shortened_queue queue.old waiting.old.items count) }
+    ensures lost { OnOk result (lost.new.items
+        ≡ lost.old.items ++ dropped_in_turn Change queue.old flow.old (take count waiting.old.items)) }
+{
+    for before in 0..count {
+        let Some(packet) = waiting.pop_front() else {
+            return Ok(());
+        };
+        lost.push(dropped(Fate::Change, queue, flow, &packet))?;
+        queue.remove(flow, &packet);
+    }
+    Ok(())
+}
+
+/// Drops all packets of a flow. Adds them to `lost`.
+fn drop_all(
+    waiting: &mut VecDeque<Waiting>,
+    flow: &FlowNumbers,
+    queue: &QueueNumbers,
+    lost: &mut Vec<DecidedPacket>,
+) -> Result<(), AllocError>
+    ensures waiting { OnOk result (waiting.new.items ≡ []) }
+    ensures lost { OnOk result (lost.new.items ≡ lost.old.items ++ map (dropped Reset queue.now flow.now) waiting.old.items) }
+{
+    'packets: while let Some(packet) = waiting.pop_front() {
+        lost.push(dropped(Fate::Reset, queue, flow, &packet))?;
+    }
+    Ok(())
+}
+
+/// Resets each flow. Adds its packets to `lost`.
+fn empty_flows(
+    flows: &mut Vec<Flow>,
+    queue: &QueueNumbers,
+    lost: &mut Vec<DecidedPacket>,
+) -> Result<(), AllocError>
+    ensures flows { OnOk result (flows.new.items ≡ map (emptied_flow queue.now.has_flows) flows.old.items) }
+    ensures lost { OnOk result (lost.new.items ≡ lost.old.items ++ flat_map (dropped_of queue.now) flows.old.items) }
+{
+    for place in 0..flows.len() {
+        flows[place].empty(queue, lost)?;
+    }
+    Ok(())
 }
 
 /// Returns the packet that a change or a reset dropped.

@@ -1,18 +1,20 @@
 //! The queues of a text.
-ghost use Rattle.std.specs.Prelude.{◌≡◌, IfOk, IfSome, None};
-ghost use Rattle.pie_linux_history.specs.Queue.{last_after, next_step};
-ghost use Rattle.pie_linux_history.specs.Audit.{StepTaken, Taken, next, queue_and_step};
+ghost use Rattle.std.specs.Prelude.{◌≡◌, ◌+◌, ◌%◌, ◌^◌, ◌++◌, ◌∷◌, [], List, Some, None, true, false};
+ghost use Rattle.pie_linux.specs.Enqueue.{one_if};
+ghost use Rattle.pie_linux_history.specs.Audit.{difference_at, has_failed, verdict_of};
+ghost use Rattle.pie_linux_history.specs.Known.{HasRead, Leaves, Represents, Takes};
+ghost use Rattle.pie_linux_history.specs.LookBack.{Entry, Lost, Took, entry_in, is_opening, is_step};
 
 use crate::columns::{Columns, fault_at, lost_at, out_of_memory};
 use crate::decided::StepNumbers;
-use crate::difference::{Column, Difference};
-use crate::explained::{DecidedPacket, Decision, Explained};
+use crate::difference::Difference;
+use crate::explained::{DecidedPacket, Explained};
 use crate::fault::StepsFault;
-use crate::queue::Queue;
+use crate::known::KnownQueues;
 use crate::resume::QueueRows;
 use crate::step::{Kind, QueueName, Step};
 use pie_record::{Record, RecordFault};
-use std::alloc::{AllocError, Global};
+use std::alloc::Global;
 use std::io::Write;
 use std::{fmt, io};
 
@@ -51,40 +53,11 @@ impl fmt::Display for StepDifference {
     }
 }
 
-/// A queue with its name, and the number of its last step.
-#[derive(Drop)]
-struct Known {
-    name: QueueName,
-    last: u64,
-    queue: Queue,
-}
-
-impl Known {
-    /// Decides a step again, if it is the next one of the queue. Adds the packets that a change or a reset dropped to
-    /// `lost`.
-    fn take(&mut self, step: &Step, lost: &mut Vec<DecidedPacket>) -> Result<Decision, AllocError>
-        ensures last { IfOk result (λ _. self.new.last ≡ last_after self.old.last step.now) }
-        ensures made { IfOk result (λ decision. IfSome (next_step self.old.last self.old.queue step.now) (λ made.
-            made ≡ record { queue = self.new.queue; decision = decision; sent = None })) }
-    {
-        let next = self.last.wrapping_add(u64::from(!step.kind.is_part()));
-        if step.number != next {
-            return Ok(Decision::other(Some(Difference {
-                column: Column::Number,
-                recorded: step.number,
-                right: next,
-            })));
-        }
-        self.last = step.number;
-        self.queue.step(step, lost)
-    }
-}
-
 /// The queues of a text, the counts of its steps, and the packets that the last step decided.
 #[derive(Drop)]
 pub(crate) struct Queues {
     alloc: Global,
-    queues: Vec<Known>,
+    known: KnownQueues,
     pub counts: StepsCounts,
     /// The last step, with its queue.
     last: Option<(QueueName, Step)>,
@@ -97,11 +70,12 @@ pub(crate) struct Queues {
 impl Queues {
     /// Returns the queues of an empty text.
     pub(crate) fn new(alloc: Global) -> Queues
-        ensures { result.counts.events ≡ 0 }
+        ensures { HasRead result [] }
     {
+        let known = KnownQueues::new(alloc);
         Queues {
             alloc,
-            queues: Vec::new(alloc),
+            known,
             counts: StepsCounts {
                 events: 0,
                 steps: 0,
@@ -144,10 +118,7 @@ impl Queues {
         flow: Option<u32>,
         hash: u32,
     ) -> Option<StepNumbers> {
-        self.queues
-            .get(self.find(name)?)?
-            .queue
-            .numbers_at(flow, hash)
+        self.known.get(name)?.numbers_at(flow, hash)
     }
 
     /// Returns the queue of the last step, the step, and its packet if it is an arrival.
@@ -164,7 +135,7 @@ impl Queues {
         moment: u64,
         output: &mut W,
     ) -> io::Result<()> {
-        for known in self.queues.iter() {
+        for known in self.known.all.iter() {
             if !known.queue.has_ended {
                 let rows = QueueRows {
                     columns,
@@ -178,20 +149,15 @@ impl Queues {
         Ok(())
     }
 
-    /// Returns the place of the queue with this name.
-    fn find(&self, name: &[u8]) -> Option<usize> {
-        self.queues.iter().position(|known| known.name.is(name))
-    }
-
     /// Takes a row. Returns the first number of its step that differs.
-    #[tactic(auto, unfolding(crate::specs::Audit::queue_and_step))]
+    #[tactic(auto, unfolding(crate::specs::LookBack::entry_in))]
     pub(crate) fn take(
         &mut self,
         columns: &Columns,
         fields: &Record,
     ) -> Result<Option<StepDifference>, StepsFault>
-        ensures event { self.new.counts.events ≡ next self.old.counts.events }
-        ensures takes { Taken (queue_and_step columns.now fields.now) (next self.old.counts.events) result }
+        ensures { (entries : List Entry) → HasRead self.old entries → has_failed result ≡ false
+            → Takes self.new entries (entry_in columns.now fields.now) result }
     {
         self.lost.clear();
         self.arrival = None;
@@ -201,7 +167,7 @@ impl Queues {
         match lost_at(fields) {
             Ok(None) => {}
             Ok(Some((queue, count))) => {
-                self.lose(fields.get(2).unwrap_or(&[]), count);
+                self.lose(&queue, count);
                 return Ok(None);
             }
             Err(why) => return Err(fault_at(row, why)),
@@ -210,90 +176,79 @@ impl Queues {
             Ok(step) => step,
             Err(why) => return Err(fault_at(row, why)),
         };
-        let name = columns.queue(fields);
-        match QueueName::new(name) {
-            Some(queue) => self.decide(row, queue, name, &step),
+        match QueueName::new(columns.queue(fields)) {
+            Some(queue) => self.decide(queue, &step),
             None => Err(fault_at(row, RecordFault::Word)),
         }
     }
 
     /// Takes a row of lost steps. The queue must be resumed before its next step.
-    fn lose(&mut self, queue: &[u8], count: u64)
-        ensures { self.new.counts.events ≡ self.old.counts.events }
+    fn lose(&mut self, queue: &QueueName, count: u64)
+        ensures counts { self.new.counts ≡ record self.old.counts { lost = (self.old.counts.lost + count) % 2 ^ 64 } }
+        ensures known { (entries : List Entry) → Represents self.old.known.all.items entries
+            → Represents self.new.known.all.items (entries ++ Lost queue.now count ∷ []) }
+        ensures step { (self.new.last ≡ self.old.last) × (self.new.arrival ≡ self.old.arrival) × (self.new.lost ≡ self.old.lost) }
     {
         self.counts.lost = self.counts.lost.wrapping_add(count);
-        if let Some(place) = self.find(queue)
-            && place < self.queues.len()
-        {
-            let _ = self.queues.remove(place);
-        }
+        self.known.lose(queue.bytes());
     }
 
-    /// Decides a step of record `row` again.
+    /// Decides a step again.
     fn decide(
         &mut self,
-        row: u64,
         queue: QueueName,
-        name: &[u8],
         step: &Step,
     ) -> Result<Option<StepDifference>, StepsFault>
-        requires { row ≡ next self.old.counts.events }
-        ensures event { self.new.counts.events ≡ self.old.counts.events }
-        ensures takes { StepTaken queue step.now self.old.counts.events result }
+        requires fresh { (self.old.arrival ≡ None) × (self.old.lost.items ≡ []) }
+        ensures counts { self.new.counts ≡ record self.old.counts { steps = (self.old.counts.steps + one_if (is_step (Took queue step.now))) % 2 ^ 64 } }
+        ensures takes { (entries : List Entry) → Represents self.old.known.all.items entries → has_failed result ≡ false
+            → (result ≡ verdict_of entries self.old.counts.events (Took queue step.now)) × Leaves self.new entries (Took queue step.now) }
     {
         let is_part = step.kind.is_part();
         self.counts.steps = self.counts.steps.wrapping_add(u64::from(!is_part));
         self.last = Some((queue, *step));
         if matches!(step.kind, Kind::Init | Kind::Resume) {
-            return self.open(queue, name, step);
+            return self.open(queue, step);
         }
-        let at = self.find(name);
-        let Some(known) = at.and_then(|at| self.queues.get_mut(at)) else {
-            return Err(StepsFault::NoStart {
-                row,
+        self.follow(queue, step)
+    }
+
+    /// Decides a step of a queue that has begun again.
+    fn follow(
+        &mut self,
+        queue: QueueName,
+        step: &Step,
+    ) -> Result<Option<StepDifference>, StepsFault>
+        requires fresh { (self.old.arrival ≡ None) × (self.old.lost.items ≡ []) × (self.old.last ≡ Some (queue, step.now)) }
+        requires later { is_opening step.now.kind ≡ false }
+        ensures counts { self.new.counts ≡ self.old.counts }
+        ensures takes { (entries : List Entry) → Represents self.old.known.all.items entries → has_failed result ≡ false
+            → (result ≡ verdict_of entries self.old.counts.events (Took queue step.now)) × Leaves self.new entries (Took queue step.now) }
+    {
+        let event = self.counts.events;
+        match self.known.take(queue.bytes(), step, &mut self.lost) {
+            Ok(Some(decision)) => {
+                self.arrival = decision.arrival;
+                Ok(difference_at(event, queue, step, decision.difference))
+            }
+            Ok(None) => Err(StepsFault::NoStart {
+                row: event.wrapping_add(1),
                 queue,
                 step: step.number,
-            });
-        };
-        let Ok(decision) = known.take(step, &mut self.lost) else {
-            return Err(out_of_memory());
-        };
-        self.arrival = decision.arrival;
-        Ok(
-            decision.difference.map(|difference| difference_at(
-                self.counts.events,
-                queue,
-                step,
-                difference,
-            )),
-        )
+            }),
+            Err(_) => Err(out_of_memory()),
+        }
     }
 
     /// Makes a queue, in the place of an earlier one with the same name.
-    fn open(
-        &mut self,
-        queue: QueueName,
-        name: &[u8],
-        step: &Step,
-    ) -> Result<Option<StepDifference>, StepsFault>
-        ensures event { self.new.counts.events ≡ self.old.counts.events }
-        ensures takes { StepTaken queue step.now self.old.counts.events result }
+    fn open(&mut self, queue: QueueName, step: &Step) -> Result<Option<StepDifference>, StepsFault>
+        requires fresh { (self.old.arrival ≡ None) × (self.old.lost.items ≡ []) × (self.old.last ≡ Some (queue, step.now)) }
+        requires first { is_opening step.now.kind ≡ true }
+        ensures counts { self.new.counts ≡ self.old.counts }
+        ensures takes { (entries : List Entry) → Represents self.old.known.all.items entries → has_failed result ≡ false
+            → (result ≡ verdict_of entries self.old.counts.events (Took queue step.now)) × Leaves self.new entries (Took queue step.now) }
     {
-        let Ok(opened) = Queue::open(self.alloc, step) else {
-            return Err(out_of_memory());
-        };
-        let made = Known {
-            name: queue,
-            last: step.number,
-            queue: opened,
-        };
-        if let Some(place) = self.find(name)
-            && let Some(known) = self.queues.get_mut(place)
-        {
-            *known = made;
-            return Ok(None);
-        }
-        match self.queues.push(made) {
+        match self.known.open(self.alloc, queue, step) {
             Ok(()) => Ok(None),
             Err(_) => Err(out_of_memory()),
         }
@@ -305,14 +260,17 @@ fn difference_at(
     event: u64,
     queue: QueueName,
     step: &Step,
-    difference: Difference,
-) -> StepDifference
-    ensures { result ≡ record { event = event; queue = queue; step = step.now.number; difference = difference } }
+    difference: Option<Difference>,
+) -> Option<StepDifference>
+    ensures { result ≡ difference_at event queue step.now difference }
 {
-    StepDifference {
-        event,
-        queue,
-        step: step.number,
-        difference,
+    match difference {
+        Some(difference) => Some(StepDifference {
+            event,
+            queue,
+            step: step.number,
+            difference,
+        }),
+        None => None,
     }
 }

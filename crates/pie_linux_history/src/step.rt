@@ -1,7 +1,8 @@
 //! One recorded step.
 ghost use Rattle.std.specs.Prelude.{◌≡◌, ◌≤◌, length};
-ghost use Rattle.std.specs.Str.{is_utf8};
+ghost use Rattle.std.specs.Str.{bytes_eq, is_utf8};
 ghost use Rattle.pie_linux_history.specs.Columns.{padded, queue_name};
+ghost use Rattle.pie_linux_history.specs.LookBack.{name_of};
 ghost use Rattle.pie_linux_history.specs.Queue.{is_part};
 
 use crate::difference::Column;
@@ -54,25 +55,34 @@ impl QueueName {
     }
 
     /// Returns true if both names are equal.
-    pub(crate) fn equals(&self, other: &QueueName) -> bool {
-        self.is(other.bytes.get(..other.len).unwrap_or(&[]))
+    pub(crate) fn equals(&self, other: &QueueName) -> bool
+        ensures { result ≡ bytes_eq (name_of self.now) (name_of other.now) }
+    {
+        self.is(other.bytes())
     }
 
     /// Returns true if this is the name with these bytes.
-    pub(crate) fn is(&self, name: &[u8]) -> bool {
-        self.bytes.get(..self.len) == Some(name)
+    pub(crate) fn is(&self, name: &[u8]) -> bool
+        ensures { result ≡ bytes_eq (name_of self.now) name.now }
+    {
+        self.bytes() == name
     }
 
     /// Returns the bytes of the name.
-    pub(crate) fn bytes(&self) -> &[u8] {
-        self.bytes.get(..self.len).unwrap_or(&[])
+    pub(crate) fn bytes(&self) -> &[u8]
+        ensures { result.now ≡ name_of self.now }
+    {
+        if self.len <= MAX_NAME {
+            &self.bytes[..self.len]
+        } else {
+            &[]
+        }
     }
 }
 
 impl fmt::Display for QueueName {
     fn fmt<W: fmt::Write>(&self, f: &mut fmt::Formatter<W>) -> fmt::Result {
-        let bytes = self.bytes.get(..self.len).unwrap_or(&[]);
-        f.write_str(std::str::from_utf8(bytes).unwrap_or(""))
+        f.write_str(std::str::from_utf8(self.bytes()).unwrap_or(""))
     }
 }
 

@@ -1,7 +1,9 @@
 //! Audits of a text of recorded steps.
-ghost use Rattle.std.specs.Prelude.{◌≡◌, IfSome, false};
+ghost use Rattle.std.specs.Prelude.{◌≡◌, [], IfSome, List, false};
 ghost use Rattle.pie_record.specs.Text.{records_of};
-ghost use Rattle.pie_linux_history.specs.Audit.{Audits, AuditsText, ReadsColumns, TakesNext, has_failed};
+ghost use Rattle.pie_linux_history.specs.Audit.{ReadsColumns, finding_after, finding_of, has_failed};
+ghost use Rattle.pie_linux_history.specs.Known.{HasRead, TakesNext};
+ghost use Rattle.pie_linux_history.specs.LookBack.{Entry};
 
 use crate::columns::Columns;
 use crate::fault::StepsFault;
@@ -55,8 +57,8 @@ fn next_step<R: Read>(
     fields: &mut Record,
     queues: &mut Queues,
 ) -> Result<Option<Option<StepDifference>>, StepsFault>
-    ensures { IfSome records.old (λ rows. has_failed result ≡ false
-        → TakesNext columns.now queues.old.counts.events rows result records.new queues.new.counts.events) }
+    ensures { (entries : List Entry) → HasRead queues.old entries → IfSome records.old (λ rows. has_failed result ≡ false
+        → TakesNext columns.now entries rows result records.new queues.new) }
 {
     match records.next(fields) {
         Ok(true) => {}
@@ -76,7 +78,8 @@ fn audit_steps<R: Read>(
     fields: &mut Record,
     queues: &mut Queues,
 ) -> Result<StepsFinding, StepsFault>
-    ensures { IfSome records.old (λ rows. has_failed result ≡ false → Audits columns.now queues.old.counts.events rows result) }
+    ensures { (entries : List Entry) → HasRead queues.old entries → IfSome records.old (λ rows. has_failed result ≡ false
+        → result ≡ finding_after columns.now entries rows) }
 {
     for steps in 0..u64::MAX {
         match next_step(records, columns, fields, queues) {
@@ -95,8 +98,8 @@ fn audit_records<R: Read>(
     fields: &mut Record,
     queues: &mut Queues,
 ) -> Result<StepsFinding, StepsFault>
-    requires { queues.old.counts.events ≡ 0 }
-    ensures { IfSome records.old (λ rows. has_failed result ≡ false → AuditsText rows result) }
+    requires { HasRead queues.old [] }
+    ensures { IfSome records.old (λ rows. has_failed result ≡ false → result ≡ finding_of rows) }
 {
     match read_columns(records, fields) {
         Ok(columns) => audit_steps(records, &columns, fields, queues),
@@ -112,7 +115,7 @@ fn audit_records<R: Read>(
 /// The fault of the first record that cannot be read, a missing column, a queue without its first step, a failure of the
 /// reader, or of memory.
 pub fn audit<R: Read + Drop>(alloc: Global, input: R) -> Result<StepsFinding, StepsFault>
-    ensures { IfSome (R.remaining input) (λ text. has_failed result ≡ false → AuditsText (records_of text) result) }
+    ensures { IfSome (R.remaining input) (λ text. has_failed result ≡ false → result ≡ finding_of (records_of text)) }
 {
     let mut records = Records::new(alloc, StepsReader(input));
     let mut fields = Record::new(alloc);

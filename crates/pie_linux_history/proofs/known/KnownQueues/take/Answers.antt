@@ -1,0 +1,22 @@
+use Rattle.std.proofs.Common.{◌≡◌, Option, Some, arith, sym, ap}
+use Rattle.pie_linux_history.specs.declared.explained.Decision.{Decision}
+use Rattle.pie_linux_history.specs.Known.{looked_up, tracked}
+use Rattle.pie_linux_history.specs.Queue.{Stepped}
+use Rattle.pie_linux_history.proofs.KnownFacts.{looked-at, looked-take, place-within}
+use Rattle.pie_linux_history.proofs.known.KnownQueues.take.Goals as goal
+
+pub returns-in_default-get_mut : goal.returns-in_default-get_mut
+returns-in_default-get_mut c =
+    absurd (omega (arith, place-within c.args.name.now c.args.self.now.all.items c.in-Some.place c.in-Some.ensures, c.in_default-get_mut.ensures.item.3))
+
+pub returns-in-Ok : goal.returns-in-Ok
+returns-in-Ok c =
+    let known = c.in-Some-get_mut.known.now in
+    let found : looked_up c.args.name.now c.args.self.now.all.items ≡ Some (tracked known) =
+    looked-at c.args.self.now.all.items c.in-Some.place c.args.name.now known c.in-Some.ensures c.in-Some-get_mut.ensures.value in
+    record {
+      decision = rw found (ap (λ (x : Stepped). let some : Option Decision = Some x.decision in some) (sym c.in-Ok.ensures.made));
+      lost = rw found c.in-Ok.ensures.lost;
+      queues = λ other. looked-take c.args.self.now.all.items c.in-Some.place c.args.name.now known c.take.new.self c.args.step.now c.in-Ok.decision other
+          c.in-Some.ensures c.in-Some-get_mut.ensures.value c.in-Ok.ensures.name c.in-Ok.ensures.last c.in-Ok.ensures.made;
+    }

@@ -1,0 +1,15 @@
+use Rattle.std.proofs.Common.{Option, Some, None, refl}
+use Rattle.pie_linux_history.proofs.RowFacts.{follow-row}
+use Rattle.pie_linux_history.proofs.queues.Queues.follow.Goals as goal
+
+pub returns-in-Ok-Some-clause-takes : goal.returns-in-Ok-Some-clause-takes
+returns-in-Ok-Some-clause-takes c = λ entries was ok. follow-row c.args.self.now.known.all.items _ entries c.args.queue c.args.step.now
+    c.args.self.now.counts.events (Some c.in-Ok-Some.decision) _ c.requires.later was
+    (rw (c.in-Ok-Some.field-0-is, c.bytes.ensures) at c.in-Ok-Some.ensures.decision) (rw c.bytes.ensures at c.in-Ok-Some.ensures.queues)
+    c.requires.fresh.2 refl (rw (c.requires.fresh.1, c.bytes.ensures) at c.in-Ok-Some.ensures.lost) (rw c.difference_at.ensures refl)
+
+pub returns-in-Ok-None-clause-takes : goal.returns-in-Ok-None-clause-takes
+returns-in-Ok-None-clause-takes c = λ entries was ok. follow-row c.args.self.now.known.all.items _ entries c.args.queue c.args.step.now
+    c.args.self.now.counts.events None _ c.requires.later was
+    (rw (c.in-Ok-None.field-0-is, c.bytes.ensures) at c.in-Ok-None.ensures.decision) (rw c.bytes.ensures at c.in-Ok-None.ensures.queues)
+    c.requires.fresh.2 c.requires.fresh.0 (rw (c.requires.fresh.1, c.bytes.ensures) at c.in-Ok-None.ensures.lost) refl

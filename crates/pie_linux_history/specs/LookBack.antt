@@ -1,0 +1,127 @@
+-- A queue after the rows of a text, by looking back over them: the last row `init` or `resume` of its name, and each later step of this name.
+use Rattle.std.specs.Prelude.{ℕ, ◌+◌, ◌%◌, ◌^◌, ◌≡◌, ◌++◌, ◌∷◌, if◌then◌else◌, List, [], length, take, filter, nat_le, not, Bool, true, false, Option, Some, None, Result, Ok, Err}
+use Rattle.std.specs.List.{filter_map, fold, sum_by}
+use Rattle.std.specs.Option.{ok_or, option_or}
+use Rattle.std.specs.Str.{bytes_eq}
+use Rattle.pie_linux.specs.Enqueue.{one_if}
+use Rattle.pie_record.specs.Text.{Row}
+use Rattle.pie_record.specs.Field.{and_then}
+use Rattle.pie_record.specs.declared.fault.RecordFault.{RecordFault}
+use Rattle.pie_record.specs.declared.fault.RecordFault.TheVariants as flaw
+use Rattle.pie_linux_history.specs.declared.columns.Columns.{Columns}
+use Rattle.pie_linux_history.specs.declared.explained.DecidedPacket.{DecidedPacket}
+use Rattle.pie_linux_history.specs.declared.explained.Decision.{Decision}
+use Rattle.pie_linux_history.specs.declared.queues.StepsCounts.{StepsCounts}
+use Rattle.pie_linux_history.specs.declared.step.Kind.{Kind}
+use Rattle.pie_linux_history.specs.declared.step.Kind.TheVariants as kind
+use Rattle.pie_linux_history.specs.declared.step.QueueName.{QueueName}
+use Rattle.pie_linux_history.specs.declared.step.Step.{Step}
+use Rattle.pie_linux_history.specs.Columns.{field_or, lost_in, queue_name, step_in}
+use Rattle.pie_linux_history.specs.Queue.{is_part, last_after, next_dropped, next_step, opened}
+use Rattle.pie_linux_history.specs.Views.{QueueView}
+
+-- ---- rows
+
+-- a row: the number of steps of a queue that the recorder lost, or a step of a queue
+pub data Entry : Type 0 where
+  Lost : (queue : QueueName) → (count : ℕ) → Entry
+  Took : (queue : QueueName) → (step : Step) → Entry
+
+abbrev pub entry_after : Columns → Row → Option (QueueName × ℕ) → Result Entry RecordFault
+entry_after columns row (Some lost) = Ok (Lost lost.0 lost.1)
+entry_after columns row None = and_then (step_in columns row) (λ step. and_then (ok_or (queue_name (field_or row columns.queue)) flaw.Word) (λ queue. Ok (Took queue step)))
+
+unfoldable pub entry_in : Columns → Row → Result Entry RecordFault
+entry_in columns row = and_then (lost_in row) (entry_after columns row)
+
+-- the bytes of a name
+abbrev pub name_of : QueueName → List ℕ
+name_of queue = if nat_le queue.len 64 then take queue.len queue.bytes else []
+
+-- true for a row of the queue with exactly this name
+abbrev pub is_of : List ℕ → Entry → Bool
+is_of name (Lost queue count) = bytes_eq (name_of queue) name
+is_of name (Took queue step) = bytes_eq (name_of queue) name
+
+-- ---- the rows of a queue
+
+-- true for a row `init` or `resume`
+abbrev pub is_opening : Kind → Bool
+is_opening kind.Init = true
+is_opening kind.Resume = true
+is_opening _ = false
+
+-- true for a row from which a queue is taken anew, or is lost
+abbrev pub begins : Entry → Bool
+begins (Lost queue count) = true
+begins (Took queue step) = is_opening step.kind
+
+abbrev pub step_of : Entry → Option Step
+step_of (Took queue step) = Some step
+step_of _ = None
+
+-- the last element that passes a test, with those after it
+unfoldable pub since_last : {A : Type 0} → (A → Bool) → List A → Option (A × List A)
+since_last test [] = None
+since_last test (first ∷ rest) = option_or (since_last test rest) (if test first then Some (first, rest) else None)
+
+abbrev pub opening_of : Option (Entry × List Entry) → Option (Step × List Step)
+opening_of (Some (Took queue step, later)) = Some (step, filter_map step_of later)
+opening_of _ = None
+
+-- the last row `init` or `resume` of this name, with the later steps of this name: none if there is no such row, or if steps of this name were lost after it
+unfoldable pub steps_of : List ℕ → List Entry → Option (Step × List Step)
+steps_of name entries = opening_of (since_last begins (filter (is_of name) entries))
+
+-- ---- the queue
+
+-- a queue, and the number of its last step
+pub record Followed : Type 0 where
+  pub last : ℕ
+  pub queue : QueueView
+
+abbrev pub begun : Step → Followed
+begun step = record { last = step.number; queue = opened step }
+
+abbrev pub follow : Followed → Step → Followed
+follow was step = record { last = last_after was.last step; queue = (next_step was.last was.queue step).queue }
+
+abbrev pub followed_by : Option (Step × List Step) → Option Followed
+followed_by None = None
+followed_by (Some (first, later)) = Some (fold follow (begun first) later)
+
+-- the queue with this name after the rows
+unfoldable pub followed : List ℕ → List Entry → Option Followed
+followed name entries = followed_by (steps_of name entries)
+
+-- ---- the decision of a row after others
+
+-- the decision of a step of a queue: none without the queue
+abbrev pub decision_by : Step → Option Followed → Option Decision
+decision_by step None = None
+decision_by step (Some was) = Some (next_step was.last was.queue step).decision
+
+abbrev pub dropped_by_step : Step → Option Followed → List DecidedPacket
+dropped_by_step step None = []
+dropped_by_step step (Some was) = next_dropped was.last was.queue step
+
+-- ---- counts
+
+abbrev pub is_step : Entry → Bool
+is_step (Took queue step) = not (is_part step.kind)
+is_step _ = false
+
+abbrev pub step_count : Entry → ℕ
+step_count one = one_if (is_step one)
+
+abbrev pub lost_steps : Entry → ℕ
+lost_steps (Lost queue count) = count
+lost_steps _ = 0
+
+-- the rows, the steps and the lost steps, in 64 bits
+abbrev pub counts_of : List Entry → StepsCounts
+counts_of entries = record {
+  events = length entries % 2 ^ 64;
+  steps = sum_by step_count entries % 2 ^ 64;
+  lost = sum_by lost_steps entries % 2 ^ 64;
+}

@@ -1,0 +1,143 @@
+//! The queues of a text by their names. The queue of a name is the one after its last row `init` or `resume`, unless
+//! steps of it were lost later.
+ghost use Rattle.std.specs.Prelude.{◌≡◌, ◌++◌, [], ℕ, List, Option, Some, None, IfOk, OnOk, if◌then◌else◌};
+ghost use Rattle.std.specs.Option.{MatchOption, option_map};
+ghost use Rattle.std.specs.Str.{bytes_eq};
+ghost use Rattle.pie_linux_history.specs.Known.{IsPlaceOf, looked_up};
+ghost use Rattle.pie_linux_history.specs.LookBack.{begun, decision_by, dropped_by_step, follow, name_of};
+ghost use Rattle.pie_linux_history.specs.Queue.{last_after, next_dropped, next_step, opened};
+
+use crate::difference::{Column, Difference};
+use crate::explained::{DecidedPacket, Decision};
+use crate::queue::Queue;
+use crate::step::{QueueName, Step};
+use std::alloc::{AllocError, Global};
+
+/// A queue with its name, and the number of its last step.
+#[derive(Drop)]
+pub(crate) struct Known {
+    pub(crate) name: QueueName,
+    pub(crate) last: u64,
+    pub(crate) queue: Queue,
+}
+
+impl Known {
+    /// Decides a step again, if it is the next one of the queue. Adds the packets that a change or a reset dropped to
+    /// `lost`.
+    fn take(&mut self, step: &Step, lost: &mut Vec<DecidedPacket>) -> Result<Decision, AllocError>
+        ensures name { OnOk result (self.new.name ≡ self.old.name) }
+        ensures last { OnOk result (self.new.last ≡ last_after self.old.last step.now) }
+        ensures made { IfOk result (λ decision. next_step self.old.last self.old.queue step.now
+            ≡ record { queue = self.new.queue; decision = decision; sent = None }) }
+        ensures lost { OnOk result (lost.new.items
+            ≡ lost.old.items ++ next_dropped self.old.last self.old.queue step.now) }
+    {
+        let next = self.last.wrapping_add(u64::from(!step.kind.is_part()));
+        if step.number != next {
+            return Ok(Decision::other(Some(Difference {
+                column: Column::Number,
+                recorded: step.number,
+                right: next,
+            })));
+        }
+        self.last = step.number;
+        self.queue.step(step, lost)
+    }
+}
+
+/// The queues of a text.
+#[derive(Drop)]
+pub(crate) struct KnownQueues {
+    pub(crate) all: Vec<Known>,
+}
+
+impl KnownQueues {
+    /// Returns no queues.
+    pub(crate) fn new(alloc: Global) -> KnownQueues
+        ensures { result.all.items ≡ [] }
+    {
+        KnownQueues {
+            all: Vec::new(alloc),
+        }
+    }
+
+    /// Returns the place of the queue with this name.
+    fn find(&self, name: &[u8]) -> Option<usize>
+        ensures { MatchOption result (looked_up name.now self.now.all.items ≡ None) (λ place. IsPlaceOf name.now self.now.all.items place) }
+    {
+        for place in 0..self.all.len() {
+            if self.all[place].name.is(name) {
+                return Some(place);
+            }
+        }
+        None
+    }
+
+    /// Returns the queue with this name.
+    pub(crate) fn get(&self, name: &[u8]) -> Option<&Queue> {
+        let known = self.all.get(self.find(name)?)?;
+        Some(&known.queue)
+    }
+
+    /// Decides a step of the queue with this name again. Returns `None` if there is none. Adds the packets that a change
+    /// or a reset dropped to `lost`.
+    pub(crate) fn take(
+        &mut self,
+        name: &[u8],
+        step: &Step,
+        lost: &mut Vec<DecidedPacket>,
+    ) -> Result<Option<Decision>, AllocError>
+        ensures decision { IfOk result (λ decision. decision ≡ decision_by step.now (looked_up name.now self.old.all.items)) }
+        ensures lost { OnOk result (lost.new.items
+            ≡ lost.old.items ++ dropped_by_step step.now (looked_up name.now self.old.all.items)) }
+        ensures queues { OnOk result ((other : List ℕ) → looked_up other self.new.all.items
+            ≡ (if bytes_eq name.now other
+            then option_map (λ was. follow was step.now) (looked_up other self.old.all.items)
+            else looked_up other self.old.all.items)) }
+    {
+        let Some(place) = self.find(name) else {
+            return Ok(None);
+        };
+        let Some(known) = self.all.get_mut(place) else {
+            return Ok(None);
+        };
+        match known.take(step, lost) {
+            Ok(decision) => Ok(Some(decision)),
+            Err(why) => Err(why),
+        }
+    }
+
+    /// Makes a queue from its first step, in the place of an earlier one with the same name.
+    pub(crate) fn open(
+        &mut self,
+        alloc: Global,
+        name: QueueName,
+        step: &Step,
+    ) -> Result<(), AllocError>
+        ensures { OnOk result ((other : List ℕ) → looked_up other self.new.all.items
+            ≡ (if bytes_eq (name_of name) other then Some (begun step.now) else looked_up other self.old.all.items)) }
+    {
+        let made = Known {
+            name,
+            last: step.number,
+            queue: Queue::open(alloc, step)?,
+        };
+        let Some(place) = self.find(name.bytes()) else {
+            self.all.push(made)?;
+            return Ok(());
+        };
+        let Some(known) = self.all.get_mut(place) else {
+            return Ok(());
+        };
+        *known = made;
+        Ok(())
+    }
+
+    /// Forgets the queue with this name.
+    pub(crate) fn lose(&mut self, name: &[u8])
+        ensures { (other : List ℕ) → looked_up other self.new.all.items
+            ≡ (if bytes_eq name.now other then None else looked_up other self.old.all.items) }
+    {
+        self.all.retain(|known| !known.name.is(name));
+    }
+}

@@ -52,14 +52,13 @@ ends() {
     [ $status = $1 ] || echo "FAILED: the reader of $name has status $status: $($box cat /tmp/$name.said)"
 }
 
-# tcp BYTES [WORDS..]: TCP in four flows; udp RATE SECONDS: datagrams
+# tcp WORDS..: TCP in four flows; udp RATE SECONDS: datagrams. A program with a fault may stop them
+failing=FAILED
 tcp() {
-    bytes=$1
-    shift
-    /bin/ip netns exec a $box timeout 300 /bin/iperf3 -c 10.0.2.1 -P 4 -n $bytes -f m "$@" > /tmp/said 2>&1 || echo "FAILED tcp: $($box tail -n 3 /tmp/said)"
+    /bin/ip netns exec a $box timeout 30 /bin/iperf3 -c 10.0.2.1 -P 4 -f m "$@" > /tmp/said 2>&1 || $box echo "$failing tcp: $($box tail -n 1 /tmp/said)"
 }
 udp() {
-    /bin/ip netns exec a $box timeout 300 /bin/iperf3 -c 10.0.2.1 -p 5202 -u -b $1 -t $2 -l 1200 > /tmp/said.udp 2>&1 || echo "FAILED udp: $($box tail -n 3 /tmp/said.udp)"
+    /bin/ip netns exec a $box timeout 30 /bin/iperf3 -c 10.0.2.1 -p 5202 -u -b $1 -t $2 -l 1200 > /tmp/said.udp 2>&1 || $box echo "$failing udp: $($box tail -n 1 /tmp/said.udp)"
 }
 
 # refuses TEXT WORDS..: pie-qdisc with these words fails with this text
@@ -84,7 +83,7 @@ refuses 'not a number' attach rb rate 20
 # TCP and UDP through 10 Mbit/s; a reader that comes late, and one that is killed
 attaches rb rate 10mbit
 records flows rb
-tcp 400K &
+tcp -t 2 &
 sender=$!
 udp 14M 1
 wait $sender
@@ -92,24 +91,23 @@ keeps flows r rb
 ends 0
 q show
 records killed rb
-tcp 100K &
+tcp -t 2 &
 sender=$!
-$box sleep 0.3
+$box sleep 0.7
 $box kill -9 $reader
 $box sleep 0.3
 records again rb
 wait $sender
-tcp 100K
 keeps again r rb
 ends 0
 
 # changed parameters and another rate, while packets are queued
 records changed rb
-tcp 200K &
+tcp -t 2 &
 sender=$!
-$box sleep 0.3
+$box sleep 0.8
 q change rb target 5ms tupdate 10ms rate 5mbit || echo "FAILED change"
-$box sleep 0.3
+$box sleep 0.6
 q change rb alpha 4 beta 30 max_burst 10ms || echo "FAILED change"
 wait $sender
 keeps changed r rb
@@ -121,12 +119,12 @@ refuses 'cannot change' change rb limit 10
 reader=$!
 $box sleep 0.1
 q show rb --json > /tmp/small.before
-tcp 100K
+tcp -t 1
 $box kill -STOP $reader
-tcp 100K
+tcp -t 1
 $box kill -CONT $reader
 $box sleep 0.1
-tcp 100K
+tcp -t 1
 keeps small r rb
 name=small
 ends 2
@@ -150,9 +148,9 @@ second=$!
 $box sleep 0.1
 udp 4M 1 &
 sender=$!
-(/bin/ip netns exec b $box timeout 300 /bin/iperf3 -c 10.0.1.1 -p 5203 -u -b 22M -t 1 -l 1200 > /tmp/said.back 2>&1 || echo "FAILED back: $($box tail -n 2 /tmp/said.back)") &
+(/bin/ip netns exec b $box timeout 30 /bin/iperf3 -c 10.0.1.1 -p 5203 -u -b 22M -t 1 -l 1200 > /tmp/said.back 2>&1 || echo "FAILED back: $($box tail -n 2 /tmp/said.back)") &
 back=$!
-tcp 100K
+tcp -t 1
 wait $sender $back
 keeps packets r rb
 keeps choices r ra
@@ -168,7 +166,7 @@ q detach rb
 attaches ra
 /bin/tc -n r qdisc add dev rb root bpf_pie || echo "FAILED tc"
 records plain rb
-tcp 1M
+tcp -n 6M
 keeps plain r rb
 ends 0
 /bin/tc -n r qdisc del dev rb root
@@ -183,8 +181,7 @@ for child in 1 2 3 4; do
     q record rb parent 1:$child > /tmp/mq$child.history 2> /tmp/mq$child.said &
 done
 $box sleep 0.2
-tcp 300K
-udp 2M 1
+/bin/ip netns exec r $box timeout 30 /bin/iperf3 -c 10.0.2.1 -P 8 -t 1 > /tmp/said 2>&1 || echo "FAILED mq"
 keeps mq r rb
 for pid in $($box pidof pie-qdisc); do $box kill $pid; done
 wait
@@ -195,7 +192,7 @@ q detach ra
 within b attach lo rate 200mbit || echo "FAILED attach lo"
 (within b record lo > /tmp/segments.history 2> /tmp/segments.said) &
 $box sleep 0.1
-/bin/ip netns exec b $box timeout 300 /bin/iperf3 -c 127.0.0.1 -n 2M -f m > /tmp/said 2>&1 || echo "FAILED lo"
+/bin/ip netns exec b $box timeout 30 /bin/iperf3 -c 127.0.0.1 -t 1 -f m > /tmp/said 2>&1 || echo "FAILED lo"
 keeps segments b lo
 for pid in $($box pidof pie-qdisc); do $box kill $pid; done
 wait
@@ -203,11 +200,12 @@ wait
 within b detach lo
 
 # programs with one fault each
+failing='TOLD with a fault:'
 for fault in $($box cat /mods/mutants); do
     program=/bin/pie-qdisc-$fault
     attaches rb rate 5mbit
     records mutant_$fault rb
-    tcp 150K &
+    tcp -t 1 &
     sender=$!
     udp 4M 1
     wait $sender

@@ -153,6 +153,8 @@ for path in sorted(FOLDER.glob("*.history")):
     faults, it = faults_of(path.stem, path)
     problems += [f"{path.stem}: {fault}" for fault in faults]
     if it:
+        if path.stem == "changed" and it.sums["changes"] < 2 or path.stem == "flows" and not it.sums["early"] or path.stem == "packets" and not it.sums["over_packets"]:
+            problems.append(f"{path.stem}: fewer changes or drops than there must be")
         print(f"  {path.stem}: {audited(path).rsplit(': ', 1)[-1]}; {it.sums['enqueued']} queued, {it.sums['early']} early, {it.sums['over_bytes']} over_bytes, "
               f"{it.sums['over_packets']} over_packets, {it.sums['updates']} updates, {it.sums['changes']} changes")
 small()

@@ -38,7 +38,7 @@ OTHERS = {
     "using", "requires", "Lts", "CRATE", "get_flag",  # the toolchain; a crate's name; clap
     "tc", "stab", "kbps", "tbit", "kibit", "kibps", "bytemode",  # Linux's tc, and its scheduler
     "pie_qdisc_enqueue", "pie_drop_early", "pie_process_dequeue", "pie_calculate_probability", "pie_timer", "pie_vars_init",
-    "pie_change", "INET_ECN_set_ce",
+    "pie_change", "INET_ECN_set_ce", "skb_protocol", "eth_type_vlan", "fq_pie_classify", "qdisc_dequeue_internal",
     "sch_pie", "sch_fq_pie", "pie_init", "pie_stats", "pie_vars", "fq_pie_change", "fq_pie_hash", "fq_pie_init", "fq_pie_qdisc_enqueue", "fq_pie_reset",
     "fq_pie_timer", "ecn_prob", "ktime_get", "psched_get_time", "psched_mtu", "qdisc_qlen", "skb", "len", "PIE_SCALE", "MAX_PROB", "QUEUE_THRESHOLD",
     "DTIME_INVALID", "DQCOUNT_INVALID", "qdisc_pkt_len", "watch", "a_dq_tstamp",  # also pie-watch and its columns

@@ -32,7 +32,7 @@ struct list_head {
 struct sk_buff {
     struct sk_buff *next;
     char cb[48];
-    unsigned int len;
+    unsigned int len, data_len;
     u16 mac_len;
     u32 priority;
     u32 hash;
@@ -97,7 +97,7 @@ struct Qdisc {
     u32 limit;
     u32 handle, parent;
     struct netdev_queue *dev_queue;
-    struct sk_buff_head gso_skb;
+    struct sk_buff_head gso_skb, skb_bad_txq;
     struct qdisc_skb_head q;
     struct gnet_stats_queue qstats;
     long privdata[0];
@@ -128,6 +128,15 @@ struct timer_list {
     unsigned long expires;
 };
 
+struct tcf_proto {
+    u32 prio;
+};
+
+struct tcf_result {
+    unsigned long class;
+    u32 classid;
+};
+
 struct fq_pie_flow {
     struct pie_vars vars;
     __s32 deficit;
@@ -137,6 +146,7 @@ struct fq_pie_flow {
 };
 
 struct fq_pie_sched_data {
+    struct tcf_proto *filter_list;
     struct fq_pie_flow *flows;
     struct list_head old_flows, new_flows;
     struct pie_params p_params;

@@ -219,6 +219,19 @@ for name in "$work/trace" "$work/./trace" "$work/other/../trace" "$work/hard" "$
 done
 rm "$work/hard" "$work/symbolic"
 
+# Standard output that is the input file, as with >>, is refused before anything is written.
+for words in run migrate 'explain --all' 'cut --from 0ms' 'what-if --from 0ms --target 5ms'; do
+    cp "$work/trace" "$work/itself"
+    "$program" $words "$work/itself" >> "$work/itself" 2> "$work/errors"
+    [ $? = 1 ] && [ "$(cat "$work/errors")" = "pie: $work/itself: the input file cannot be the output file" ] ||
+        fail "$words of a file that is standard output: $(cat "$work/errors")"
+    "$program" $words < "$work/itself" >> "$work/itself" 2> "$work/errors"
+    [ $? = 1 ] && [ "$(cat "$work/errors")" = "pie: the input file cannot be the output file" ] ||
+        fail "$words of standard input that is standard output: $(cat "$work/errors")"
+    cmp -s "$work/trace" "$work/itself" || fail "$words: the file that is standard input and output was changed"
+done
+rm "$work/itself"
+
 # Two files are one only if their devices are the same too: the first files of two new file systems have one number.
 if unshare -rm true 2> "$work/said"; then
     printf -- "$trace" > "$work/other/trace"

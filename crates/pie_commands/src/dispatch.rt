@@ -74,8 +74,9 @@ pub(crate) fn dispatch_to_file<
 
 /// Returns the name of the file that a subcommand writes instead of the caller's writer.
 pub(crate) fn output_for<'a>(subcommand: Subcommand, options: &ArgMatches<'a>) -> Option<&'a str> {
-    match subcommand {
-        Subcommand::Audit | Subcommand::Storm | Subcommand::Params | Subcommand::Advise => None,
-        _ => output(options),
+    if subcommand.has_output_file() {
+        output(options)
+    } else {
+        None
     }
 }

@@ -121,6 +121,23 @@ fn refusal(is_input: bool, is_taken: bool, is_forced: bool) -> Option<&'static s
     None
 }
 
+/// Returns true if standard output is the file that is read: the file `read`, or standard input. Writes a line then.
+pub(crate) fn is_input_written<H: NamedFiles, E: Write>(
+    rt: &H,
+    read: Option<&str>,
+    errors: &mut E,
+) -> bool {
+    let read = file_of(read);
+    let Some(why) = refusal(rt.is_same_file("/dev/stdout", read), false, false) else {
+        return false;
+    };
+    match read {
+        Some(name) => named_fault(errors, name, why),
+        None => fault(errors, why),
+    }
+    true
+}
+
 /// Creates a file that can be moved onto `name`. If it can't be created, a file of the name must not be replaced, or is
 /// the file that is read, writes a line to `errors` and returns `None`.
 pub(crate) fn create_output<H: NamedFiles, E: Write>(

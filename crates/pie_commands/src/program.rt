@@ -2,8 +2,8 @@
 
 use crate::dispatch::{dispatch, dispatch_to_file, output_for};
 use crate::end::{End, end_failed, end_unable, end_with_fault};
-use crate::files::NamedFiles;
-use crate::options::{Subcommand, options, report_elements, report_numbers};
+use crate::files::{NamedFiles, is_input_written};
+use crate::options::{Subcommand, file, options, report_elements, report_numbers};
 use crate::progress::Screen;
 use clap::error::ErrorKind;
 use clap::{ArgMatches, Error};
@@ -89,6 +89,10 @@ fn perform<H: Threads + Wait + Sync + NamedFiles + Screen, R: Read + Drop, W: Wr
     let Some((subcommand, options)) = chosen_subcommand(matches) else {
         return end_failed(errors, "no subcommand");
     };
+    let is_written = output_for(subcommand, options).is_none();
+    if is_written && subcommand.has_output_file() && is_input_written(&*rt, file(options), errors) {
+        return End::NoOutputFile;
+    }
     match output_for(subcommand, options) {
         None => dispatch(&*rt, alloc, subcommand, options, input, output, errors),
         Some(name) => dispatch_to_file(rt, alloc, subcommand, options, name, input, errors),

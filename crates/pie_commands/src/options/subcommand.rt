@@ -24,6 +24,14 @@ pub(crate) enum Subcommand {
 }
 
 impl Subcommand {
+    /// Returns true if the subcommand reads one text and writes another, also to a file.
+    pub(crate) fn has_output_file(self) -> bool {
+        !matches!(
+            self,
+            Subcommand::Audit | Subcommand::Storm | Subcommand::Params | Subcommand::Advise
+        )
+    }
+
     /// Returns the subcommand of this name.
     pub(crate) fn named(word: &str) -> Option<Subcommand> {
         match word {

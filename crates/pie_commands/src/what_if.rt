@@ -149,7 +149,7 @@ enum Wanted {
 }
 
 /// Returns the output that the options request, if it is one.
-fn wanted(options: &ArgMatches<'_>) -> Option<Wanted> {
+fn output_wanted(options: &ArgMatches<'_>) -> Option<Wanted> {
     let (csv, json) = (flag(options, "csv"), flag(options, "json"));
     match (text(options, "output"), csv, json) {
         (Some(_), false, false) => {
@@ -399,7 +399,7 @@ pub(crate) fn what_if<H: NamedFiles + Screen, R: Read + Drop, W: Write, E: Write
     let Some(alteration) = alteration_of(options, errors) else {
         return End::Failed;
     };
-    let Some(wanted) = wanted(options) else {
+    let Some(wanted) = output_wanted(options) else {
         return end_failed(errors, ONE_FORM);
     };
     warn_rounded(options, errors);

@@ -83,7 +83,7 @@ refuses 'not a number' attach rb rate 20
 # TCP and UDP through 10 Mbit/s; a reader that comes late, and one that is killed
 attaches rb rate 10mbit
 records flows rb
-tcp -t 2 &
+tcp -t 1 &
 sender=$!
 udp 14M 1
 wait $sender
@@ -176,16 +176,21 @@ refuses 'only supported on root or mq' attach rb parent 1:1
 /bin/tc -n r qdisc del dev rb root
 
 # four queues below mq
-attaches rb mq rate 3mbit
+/bin/ip -n r link add m0 numtxqueues 4 numrxqueues 4 type veth peer name m1 netns b
+/bin/ip -n r addr add 10.0.4.2/24 dev m0
+/bin/ip -n b addr add 10.0.4.1/24 dev m1
+/bin/ip -n r link set m0 up
+/bin/ip -n b link set m1 up
+attaches m0 mq rate 3mbit
 for child in 1 2 3 4; do
-    q record rb parent 1:$child > /tmp/mq$child.history 2> /tmp/mq$child.said &
+    q record m0 parent 1:$child > /tmp/mq$child.history 2> /tmp/mq$child.said &
 done
 $box sleep 0.2
-/bin/ip netns exec r $box timeout 30 /bin/iperf3 -c 10.0.2.1 -P 8 -t 1 > /tmp/said 2>&1 || echo "FAILED mq"
-keeps mq r rb
+/bin/ip netns exec r $box timeout 30 /bin/iperf3 -c 10.0.4.1 -P 8 -t 1 > /tmp/said 2>&1 || echo "FAILED mq"
+keeps mq r m0
 for pid in $($box pidof pie-qdisc); do $box kill $pid; done
 wait
-q detach rb || echo "FAILED detach mq"
+q detach m0 || echo "FAILED detach mq"
 q detach ra
 
 # segments of 64 KiB over lo

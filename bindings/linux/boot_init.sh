@@ -199,7 +199,10 @@ refuses types "/bin/pie-watch lo" 'CONFIG_DEBUG_INFO_BTF'
 $box umount /sys/kernel/btf
 $box rmmod sch_fq_pie
 $box rmmod sch_pie
-refuses module "/bin/pie-watch lo" 'sch_pie is not loaded'
+/bin/pie-watch lo 2> /tmp/refused &
+until $box grep -q 'sch_pie is not loaded, .* waiting' /tmp/refused; do $box sleep 0.1; done
+$box kill -INT $($box pidof pie-watch)
+wait $! && echo "FAILED: pie-watch ends with 0 without a module"
 $box mount -t securityfs none /sys/kernel/security
 echo confidentiality > /sys/kernel/security/lockdown
 refuses lockdown "/bin/pie-watch lo" 'locked down'

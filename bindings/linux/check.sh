@@ -36,5 +36,14 @@ refuses '--rotate needs -o FILE' --rotate 64kb lo
 refuses '--segments needs --rotate' --segments 2 -o "$work/steps.csv" lo
 touch "$work/steps.csv.07"
 refuses 'steps.csv.07: the file exists' --rotate 64kb -o "$work/steps.csv" lo
+refuses '--duration is a number of seconds from 1 on: 0' --duration 0 lo
 refuses 'no such device' no_such_device -o "$work/steps.csv"
+printf 'pie-watch steps1' > "$work/old.steps"
+refuses 'another version of pie-watch wrote this file' text "$work/old.steps"
+# the beginning of a record is left out
+printf 'pie-watch steps2%012d' 0 > "$work/cut.steps"
+status=0
+"$work/pie-watch" text "$work/cut.steps" > "$work/cut.csv" 2> "$work/left" || status=$?
+[ $status = 2 ] && [ "$(wc -l < "$work/cut.csv")" = 1 ] && grep -q 'the last record is not complete, and left out' "$work/left" ||
+    { echo "$me: cut.steps: status $status, $(cat "$work/left")" >&2; exit 1; }
 echo "$me: pie-watch $version builds without warnings, and refuses: $(cat "$work/refusal")"

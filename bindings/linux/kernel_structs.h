@@ -32,7 +32,7 @@ struct list_head {
 struct sk_buff {
     struct sk_buff *next;
     char cb[48];
-    unsigned int len;
+    unsigned int len, data_len;
     u16 mac_len;
     u32 priority;
     u32 hash;
@@ -97,7 +97,7 @@ struct Qdisc {
     u32 limit;
     u32 handle, parent;
     struct netdev_queue *dev_queue;
-    struct sk_buff_head gso_skb;
+    struct sk_buff_head gso_skb, skb_bad_txq;
     struct qdisc_skb_head q;
     struct gnet_stats_queue qstats;
     long privdata[0];
@@ -127,6 +127,7 @@ struct pie_sched_data {
 struct timer_list {
     unsigned long expires;
 };
+
 
 struct fq_pie_flow {
     struct pie_vars vars;

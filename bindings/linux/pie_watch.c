@@ -32,8 +32,8 @@ static const char usage[] =
     "       pie-watch [OPTIONS] --all\n"
     "       pie-watch text [--force] [-o FILE] STEPS\n"
     "\n"
-    "Nothing is loaded or changed but BPF programs, which end with pie-watch. A queue is recorded from its creation on, or from its next enqueue. A\n"
-    "signal ends the recording (INT, TERM or HUP). `pie-watch text` writes a compact file of steps as text.\n"
+    "Nothing is loaded or changed but BPF programs, which end with pie-watch. A queue is recorded from its creation on, or from its next enqueue; also if its\n"
+    "device or the kernel's module comes later. A signal ends the recording (INT, TERM or HUP). `pie-watch text` writes a compact file of steps as text.\n"
     "\n"
     "  -q, --queue HANDLE  Record only the queue with this handle, such as 8001:\n"
     "  -a, --all           Record the queues of all devices of this network namespace\n"
@@ -44,6 +44,8 @@ static const char usage[] =
     "  -c, --compact       Write compact steps, of which `pie-watch text` makes text\n"
     "      --rotate SIZE   Write in segments of this size (64mb), FILE.1, FILE.2 and so on; each can be read alone\n"
     "      --segments N    Keep N segments, and remove older ones. Default: all\n"
+    "  -d, --duration SECONDS\n"
+    "                      End after this time. Default: at a signal\n"
     "  -r, --ring MIB      Size of the ring buffer, a power of two. A larger one loses no steps when this program has to wait. Default: 32\n"
     "      --anyway        Record on a kernel that is not known\n"
     "      --force         Replace an existing file\n"
@@ -58,8 +60,9 @@ static const char usage[] =
 
 struct options {
     const char *device, *output, *steps;
-    unsigned ifindex, handle, ring, part;
+    unsigned handle, ring, part;
     u64 rotate, segments; /* bytes of a segment, and the number of last ones that are kept; 0: one file, and all */
+    u64 duration; /* in seconds; 0: until a signal */
     bool is_all, is_compact, is_anyway, is_forced, is_verbose, is_text, has_clock;
 };
 
@@ -67,10 +70,11 @@ struct options {
 struct recording {
     const struct options *options;
     struct pie_watch_bpf *bpf;
+    struct pie_watch_bpf *later; /* the programs for fq_pie, if its module was loaded after the others; it shares all maps with `bpf` */
     struct bpf_link *links[MOST_PROGRAMS];
     size_t links_count;
     struct watch_output output;
-    bool needs_clock; /* a queue has the rate estimator */
+    bool has_fq_pie, has_ring_message;
     const char *fault;
 };
 
@@ -101,11 +105,11 @@ static void take_record(struct recording *recording, const struct watch_head *he
         recording->fault = "the recorder wrote a record that is not possible; please report this";
         return;
     }
-    if ((head->type == WATCH_INIT || head->type == WATCH_RESUME || head->type == WATCH_CHANGE) && head->bits & WATCH_DQ_RATE)
-        recording->needs_clock = true;
     if (head->type == WATCH_QUEUE)
         fprintf(stderr, PROGRAM ": %s: %s\n", watch_text_name(&recording->output.text, head->queue),
                 ((const struct watch_queue *)head)->kind == WATCH_PIE ? "pie" : "fq_pie");
+    if (head->type == WATCH_DESTROY)
+        fprintf(stderr, PROGRAM ": %s: removed\n", watch_text_name(&recording->output.text, head->queue));
 }
 
 /* Writes the records of an item of the ring. Each queue is resumed if a segment of the output begins then. */
@@ -121,6 +125,22 @@ static int take(void *user, void *records, size_t bytes) {
     return 0;
 }
 
+#define UNKNOWN (WATCH_MOST + 1)
+
+/* Reads a record of a compact file. Returns WATCH_MOST; 0 at the end; UNKNOWN if there is no such record; another number if the file ends within it. */
+static size_t read_record(FILE *steps, unsigned char *bytes) {
+    struct watch_head head;
+    size_t count = fread(&head, 1, sizeof head, steps), rest;
+    if (count != sizeof head)
+        return count;
+    if (watch_bytes(&head) == 0)
+        return UNKNOWN;
+    memcpy(bytes, &head, sizeof head);
+    rest = watch_bytes(&head) - sizeof head;
+    count = fread(bytes + sizeof head, 1, rest, steps);
+    return count == rest ? WATCH_MOST : 1;
+}
+
 /* Reads a compact file, and writes its text. */
 static int write_text(const struct options *options) {
     struct output output;
@@ -131,30 +151,32 @@ static int write_text(const struct options *options) {
     } record;
     char magic[sizeof WATCH_MAGIC - 1];
     const char *fault = NULL;
+    size_t read = 0;
     FILE *steps = strcmp(options->steps, "-") == 0 ? stdin : fopen(options->steps, "rb");
     if (steps == NULL)
         fail_file(options->steps);
-    if (fread(magic, 1, sizeof magic, steps) != sizeof magic || memcmp(magic, WATCH_MAGIC, sizeof magic) != 0)
+    if (fread(magic, 1, sizeof magic, steps) != sizeof magic || memcmp(magic, WATCH_MAGIC, sizeof magic - 1) != 0)
         fail("this is no file of `pie-watch --compact`: ", options->steps);
+    if (memcmp(magic, WATCH_MAGIC, sizeof magic) != 0)
+        fail("another version of pie-watch wrote this file: ", options->steps);
     if (!open_output(&output, options->output != NULL ? options->output : "-", OUTPUT_WHOLE, options->is_forced))
         fail_file(options->output);
     watch_text_head(&text, output.file);
-    while (fault == NULL && fread(&record.head, sizeof record.head, 1, steps) == 1) {
-        size_t rest = watch_bytes(&record.head) - sizeof record.head;
-        if (watch_bytes(&record.head) == 0)
-            fault = "a record has an unknown type: ";
-        else if (rest != 0 && fread(record.bytes + sizeof record.head, rest, 1, steps) != 1)
-            fault = "the last record is not complete: ";
-        else if (!watch_text_add(&text, &record))
+    while (fault == NULL && (read = read_record(steps, record.bytes)) == WATCH_MOST) {
+        if (!watch_text_add(&text, &record))
             fault = "a record contradicts those before it: ";
     }
+    if (fault == NULL && read == UNKNOWN)
+        fault = "a record has an unknown type: ";
     if (fault != NULL)
         fail(fault, options->steps);
+    if (read != 0)
+        fprintf(stderr, PROGRAM ": %s: the last record is not complete, and left out; the recording ended before its end\n", options->steps);
     if (!close_output(&output))
         fail("the output is not complete: ", strerror(errno));
     u64 lost = text.lost + text.missing;
     watch_text_end(&text);
-    return lost != 0 ? 2 : 0;
+    return lost != 0 || read != 0 ? 2 : 0;
 }
 
 /* ---- BPF */
@@ -172,15 +194,20 @@ static int note_libbpf(enum libbpf_print_level level, const char *format, va_lis
     return is_verbose ? vfprintf(stderr, format, arguments) : 0;
 }
 
-/* The programs that only fq_pie needs, and those that only the rate estimator needs. */
+/* The programs that only fq_pie needs, those that only the rate estimator needs, and those that serve pie and fq_pie. */
 static bool is_of_fq_pie(const struct bpf_program *program) {
     const char *name = bpf_program__name(program);
-    return strncmp(name, "fq_pie", 6) == 0 || strcmp(name, "drop_early_ends") == 0 || strcmp(name, "calculation_begins") == 0;
+    return strncmp(name, "fq_pie", 6) == 0 || strcmp(name, "drop_early_ends") == 0;
 }
 
 static bool is_of_clock(const struct bpf_program *program) {
     const char *name = bpf_program__name(program);
     return strncmp(name, "clock", 5) == 0 || strcmp(name, "dequeue_begins") == 0;
+}
+
+static bool is_of_both(const struct bpf_program *program) {
+    const char *name = bpf_program__name(program);
+    return strncmp(name, "dequeue", 7) == 0 || strncmp(name, "calculation", 11) == 0;
 }
 
 static bool attach(struct recording *recording, const struct bpf_program *program) {
@@ -193,55 +220,116 @@ static bool attach(struct recording *recording, const struct bpf_program *progra
     return true;
 }
 
-/* Attaches the programs that read the clock for the rate estimator. They run at each reading of the clock in the kernel. */
-static void attach_clock(struct recording *recording) {
+/* Attaches the programs of an object that `is_chosen` chooses. */
+static void attach_all(struct recording *recording, struct pie_watch_bpf *bpf, bool is_chosen(const struct bpf_program *)) {
     struct bpf_program *program;
-    if (recording->bpf->bss->has_clock)
-        return;
-    bpf_object__for_each_program(program, recording->bpf->obj) {
-        if (is_of_clock(program) && !attach(recording, program))
+    bpf_object__for_each_program(program, bpf->obj) {
+        if (bpf_program__autoload(program) && is_chosen(program) && !attach(recording, program))
             exit(1);
     }
+}
+
+static bool is_always_attached(const struct bpf_program *program) {
+    return !is_of_clock(program);
+}
+
+/* Attaches the programs that read the clock for the rate estimator. They run at each reading of the clock in the kernel. */
+static void attach_clock(struct recording *recording) {
+    if (recording->bpf->bss->has_clock)
+        return;
+    attach_all(recording, recording->bpf, is_of_clock);
+    if (recording->later != NULL)
+        attach_all(recording, recording->later, is_of_clock);
     recording->bpf->bss->has_clock = true;
 }
 
-static void load(struct recording *recording, const struct watch_checked *checked) {
-    const struct options *options = recording->options;
+static struct pie_watch_bpf *open_programs(const struct options *options, bool has_fq_pie) {
     LIBBPF_OPTS(bpf_object_open_opts, opened, .kernel_log_level = options->is_verbose ? VERIFIER_COUNTS : 0);
     struct pie_watch_bpf *bpf = pie_watch_bpf__open_opts(&opened);
-    struct bpf_program *program;
     struct stat namespace;
     int processors = libbpf_num_possible_cpus();
     if (bpf == NULL || processors < 1)
         fail("the BPF programs cannot be read: ", strerror(errno));
     if (stat("/proc/self/ns/net", &namespace) != 0)
         fail("/proc/self/ns/net: ", strerror(errno));
-    bpf->rodata->wanted_ifindex = options->ifindex;
+    if (options->device != NULL)
+        snprintf((char *)bpf->rodata->wanted_device, sizeof bpf->rodata->wanted_device, "%s", options->device);
     bpf->rodata->wanted_handle = options->handle;
     bpf->rodata->wanted_netns = (u32)namespace.st_ino;
     bpf->rodata->wanted_part = options->part;
-    bpf->rodata->has_fq_pie = checked->has_fq_pie;
+    bpf->rodata->has_fq_pie = has_fq_pie;
     bpf_map__set_max_entries(bpf->maps.words, (u32)processors);
     bpf_map__set_max_entries(bpf->maps.readings, (u32)processors);
     bpf_map__set_max_entries(bpf->maps.ring, options->ring << 20);
-    bpf_object__for_each_program(program, bpf->obj)
-        bpf_program__set_autoload(program, checked->has_fq_pie || !is_of_fq_pie(program));
+    return bpf;
+}
+
+static void load_programs(struct pie_watch_bpf *bpf) {
     if (pie_watch_bpf__load(bpf) != 0) {
         fprintf(stderr, PROGRAM ": the kernel refuses the BPF programs: %s (%s)\n", strerror(errno), last_warning);
         exit(1);
     }
+}
+
+static void load(struct recording *recording, const struct watch_checked *checked) {
+    struct pie_watch_bpf *bpf = open_programs(recording->options, checked->has_fq_pie);
+    struct bpf_program *program;
+    bpf_object__for_each_program(program, bpf->obj)
+        bpf_program__set_autoload(program, checked->has_fq_pie || !is_of_fq_pie(program));
+    if (!checked->has_fq_pie)
+        bpf->rodata->handled = 1 << WATCH_PIE;
+    load_programs(bpf);
     recording->bpf = bpf;
-    bpf_object__for_each_program(program, bpf->obj) {
-        if (bpf_program__autoload(program) && !is_of_clock(program) && !attach(recording, program))
-            exit(1);
-    }
-    if (options->has_clock)
+    recording->has_fq_pie = checked->has_fq_pie;
+    attach_all(recording, bpf, is_always_attached);
+    if (recording->options->has_clock)
         attach_clock(recording);
+}
+
+/* Loads the programs for fq_pie, whose module was loaded after the others. */
+static void load_later(struct recording *recording) {
+    struct watch_checked checked;
+    struct pie_watch_bpf *bpf, *first = recording->bpf;
+    struct bpf_program *program;
+    if (recording->has_fq_pie || !watch_is_loaded("sch_fq_pie"))
+        return;
+    recording->has_fq_pie = true;
+    if (!watch_check(&checked, recording->options->is_anyway)) {
+        fprintf(stderr, PROGRAM ": sch_fq_pie was loaded; its queues are not recorded\n");
+        return;
+    }
+    bpf = open_programs(recording->options, true);
+    bpf->rodata->handled = 1 << WATCH_FQ_PIE;
+    bpf_object__for_each_program(program, bpf->obj)
+        bpf_program__set_autoload(program, is_of_fq_pie(program) || is_of_both(program));
+    bpf_map__reuse_fd(bpf->maps.ring, bpf_map__fd(first->maps.ring));
+    bpf_map__reuse_fd(bpf->maps.words, bpf_map__fd(first->maps.words));
+    bpf_map__reuse_fd(bpf->maps.readings, bpf_map__fd(first->maps.readings));
+    bpf_map__reuse_fd(bpf->maps.bss, bpf_map__fd(first->maps.bss));
+    load_programs(bpf);
+    recording->later = bpf;
+    if (first->bss->has_clock)
+        attach_all(recording, bpf, is_of_clock);
+    attach_all(recording, bpf, is_always_attached);
+    fprintf(stderr, PROGRAM ": sch_fq_pie was loaded; its queues are recorded\n");
 }
 
 static void detach(struct recording *recording) {
     while (recording->links_count > 0)
         bpf_link__destroy(recording->links[--recording->links_count]);
+}
+
+/* Writes the name of a queue that was never recorded. */
+static void write_late_name(struct recording *recording, const struct queue *queue) {
+    struct watch_queue name = {.head = {.type = WATCH_QUEUE, .queue = queue->number, .seq = queue->seq - queue->lost},
+                               .address = queue->key,
+                               .kind = queue->kind,
+                               .ifindex = queue->ifindex,
+                               .handle = queue->handle,
+                               .parent = queue->parent,
+                               .netns = queue->netns};
+    memcpy(name.device, queue->device, sizeof name.device);
+    take_record(recording, &name.head, sizeof name);
 }
 
 /* Writes the records that the queues hold, and the number of steps that were lost at the end. */
@@ -255,15 +343,10 @@ static void write_last_records(struct recording *recording) {
             take(recording, queue->records, queue->held * WATCH_MOST);
         if (queue->lost == 0)
             continue;
-        memset(&lost, 0, sizeof lost);
-        lost.head.type = WATCH_LOST;
-        lost.head.queue = queue->number;
-        lost.head.seq = queue->seq;
-        lost.lost = queue->lost;
-        if (queue->is_named)
-            take_record(recording, &lost.head, sizeof lost);
-        else
-            recording->output.text.lost += queue->lost;
+        if (!queue->is_named)
+            write_late_name(recording, queue);
+        lost = (struct watch_base){.head = {.type = WATCH_LOST, .queue = queue->number, .seq = queue->seq}, .lost = queue->lost};
+        take_record(recording, &lost.head, sizeof lost);
     }
 }
 
@@ -278,17 +361,48 @@ static int report(const struct recording *recording) {
         fprintf(stderr, PROGRAM ": %llu steps are missing without a row; please report this\n", (unsigned long long)missing);
     if (queues_missed != 0)
         fprintf(stderr, PROGRAM ": queues beyond the first 1024 were not recorded\n");
+    if (queues == 0)
+        fprintf(stderr, PROGRAM ": no queue of pie or fq_pie was seen: none was created, and none enqueued a packet; `tc qdisc show` lists queues\n");
     return lost != 0 || queues_missed != 0 ? 2 : 0;
 }
 
-/* Reads records from the ring until a signal comes or an error occurs. */
+/* Returns the size of a ring that holds this number of bytes, in MiB. */
+static unsigned ring_of(unsigned bytes) {
+    unsigned mib = 1;
+    while (mib < MOST_RING && (u64)mib << 20 < bytes)
+        mib *= 2;
+    return mib;
+}
+
+/* Does what the programs ask for, and what changed around them. */
+static void follow(struct recording *recording) {
+    unsigned needed = recording->bpf->bss->ring_needed;
+    if (recording->bpf->bss->needs_clock)
+        attach_clock(recording);
+    if (needed != 0 && !recording->has_ring_message)
+        fprintf(stderr, PROGRAM ": a queue is too long for the ring, so that its steps are lost; --ring %u or more\n", ring_of(needed));
+    recording->has_ring_message |= needed != 0;
+}
+
+static u64 seconds(void) {
+    struct timespec time;
+    clock_gettime(CLOCK_MONOTONIC, &time);
+    return (u64)time.tv_sec;
+}
+
+/* Reads records from the ring until a signal comes, the time is over or an error occurs. */
 static void read_ring_buffer(struct recording *recording, struct ring_buffer *ring) {
-    while (!is_ended && recording->fault == NULL && !watch_output_failed(&recording->output)) {
+    u64 duration = recording->options->duration, begun = seconds(), last = begun;
+    while (!is_ended && recording->fault == NULL && recording->output.fault == 0 && (duration == 0 || seconds() - begun < duration)) {
         int count = ring_buffer__consume(ring);
-        if (recording->needs_clock)
-            attach_clock(recording);
-        if (count == 0)
-            nanosleep(&(struct timespec){.tv_nsec = 2000000}, NULL);
+        follow(recording);
+        if (count > 0)
+            continue;
+        watch_output_flush(&recording->output);
+        if (seconds() != last)
+            load_later(recording);
+        last = seconds();
+        nanosleep(&(struct timespec){.tv_nsec = 2000000}, NULL);
     }
 }
 
@@ -302,10 +416,6 @@ static int record(const struct options *options, const struct watch_checked *che
     ring = ring_buffer__new(bpf_map__fd(recording.bpf->maps.ring), take, &recording, NULL);
     if (ring == NULL)
         fail("the ring buffer cannot be mapped: ", strerror(errno));
-    signal(SIGINT, end);
-    signal(SIGTERM, end);
-    signal(SIGHUP, end);
-    signal(SIGPIPE, SIG_IGN);
     recording.bpf->bss->is_on = true;
     fprintf(stderr, PROGRAM ": recording %s\n", options->is_all ? "all devices" : options->device);
     read_ring_buffer(&recording, ring);
@@ -371,6 +481,7 @@ static void read_options(struct options *options, int count, char **words) {
                                           {"rotate", required_argument, NULL, 't'},
                                           {"segments", required_argument, NULL, 's'},
                                           {"ring", required_argument, NULL, 'r'},
+                                          {"duration", required_argument, NULL, 'd'},
                                           {"anyway", no_argument, NULL, 'w'},
                                           {"force", no_argument, NULL, 'f'},
                                           {"verbose", no_argument, NULL, 'v'},
@@ -384,7 +495,7 @@ static void read_options(struct options *options, int count, char **words) {
         words++;
         count--;
     }
-    while ((letter = getopt_long(count, words, "q:an:o:cer:vhV", names, NULL)) != -1) {
+    while ((letter = getopt_long(count, words, "q:an:o:cer:d:vhV", names, NULL)) != -1) {
         switch (letter) {
         case 'q':
             options->handle = read_handle(optarg);
@@ -412,6 +523,9 @@ static void read_options(struct options *options, int count, char **words) {
             break;
         case 'r':
             options->ring = read_ring(optarg);
+            break;
+        case 'd':
+            options->duration = read_number(optarg, UINT32_MAX, "--duration is a number of seconds from 1 on: ");
             break;
         case 'w':
             options->is_anyway = true;
@@ -457,6 +571,16 @@ static bool are_files_usable(const struct options *options) {
     return check_files(PROGRAM, &(struct file_name){name, FILE_WRITTEN}, 1, options->is_forced);
 }
 
+/* Waits until the module sch_pie is loaded. Returns false if a signal comes before. */
+static bool wait_for_module(void) {
+    if (watch_is_loaded("sch_pie"))
+        return true;
+    fprintf(stderr, PROGRAM ": the module sch_pie is not loaded, so there is no queue to record; waiting (`tc qdisc add .. pie` loads it)\n");
+    while (!is_ended && !watch_is_loaded("sch_pie"))
+        nanosleep(&(struct timespec){.tv_nsec = 20000000}, NULL);
+    return !is_ended;
+}
+
 int main(int count, char **words) {
     struct options options;
     struct watch_checked checked;
@@ -467,10 +591,16 @@ int main(int count, char **words) {
         return 1;
     if (options.is_text)
         return write_text(&options);
-    if (options.device != NULL && (options.ifindex = if_nametoindex(options.device)) == 0)
+    if (options.device != NULL && if_nametoindex(options.device) == 0)
         fail("there is no such device in this network namespace: ", options.device);
     is_verbose = options.is_verbose;
     libbpf_set_print(note_libbpf);
+    signal(SIGINT, end);
+    signal(SIGTERM, end);
+    signal(SIGHUP, end);
+    signal(SIGPIPE, SIG_IGN);
+    if (!watch_can_record() || !wait_for_module())
+        return 1;
     if (!watch_check(&checked, options.is_anyway))
         return 1;
     return record(&options, &checked);

@@ -86,7 +86,8 @@ static const struct field kernel_fields[] = {
     {"qdisc_skb_head", "head", 8, -1},  {"qdisc_skb_head", "qlen", 4, -1}, {"sk_buff_head", "qlen", 4, -1}, {"gnet_stats_queue", "backlog", 4, -1},
     {"sk_buff", "next", 8, -1},         {"sk_buff", "cb", 48, -1},        {"sk_buff", "len", 4, -1},     {"sk_buff", "priority", 4, -1},
     {"sk_buff", "hash", 4, -1},         {"sk_buff", "protocol", 2, -1},   {"sk_buff", "network_header", 2, -1}, {"sk_buff", "tail", 4, -1},
-    {"sk_buff", "head", 8, -1},         {"sk_buff", "truesize", 4, -1},   {"net_device", "mtu", 4, -1},  {"net_device", "hard_header_len", 2, -1},
+    {"sk_buff", "head", 8, -1},         {"sk_buff", "data", 8, -1},       {"sk_buff", "data_len", 4, -1},  {"sk_buff", "mac_len", 2, -1},
+    {"sk_buff_head", "next", 8, -1},    {"sk_buff", "truesize", 4, -1},   {"net_device", "mtu", 4, -1},  {"net_device", "hard_header_len", 2, -1},
     {"net_device", "ifindex", 4, -1},
 };
 
@@ -94,7 +95,7 @@ static const struct field kernel_fields[] = {
 #define PIE_FIELDS                                                                                                                                       \
     {"pie_vars", "qdelay", 8, 0}, {"pie_vars", "qdelay_old", 8, 8}, {"pie_vars", "burst_time", 8, 16}, {"pie_vars", "dq_tstamp", 8, 24},                  \
         {"pie_vars", "prob", 8, 32}, {"pie_vars", "accu_prob", 8, 40}, {"pie_vars", "dq_count", 8, 48}, {"pie_vars", "avg_dq_rate", 4, 56},               \
-        {"pie_vars", "backlog_old", 4, 60}, {"pie_params", "target", 8, -1}, {"pie_params", "tupdate", 4, -1}, {"pie_params", "alpha", 4, -1},            \
+        {"pie_vars", "backlog_old", 4, 60}, {"pie_params", "target", 8, -1}, {"pie_params", "tupdate", 4, -1}, {"pie_params", "limit", 4, -1}, {"pie_params", "alpha", 4, -1},            \
         {"pie_params", "beta", 4, -1}, {"pie_params", "ecn", 1, -1}, {"pie_params", "bytemode", 1, -1}, {"pie_params", "dq_rate_estimator", 1, -1},        \
         {"pie_stats", "packets_in", 4, -1}, {"pie_stats", "dropped", 4, -1}, {"pie_stats", "overlimit", 4, -1}, {"pie_stats", "ecn_mark", 4, -1},          \
         {"pie_stats", "maxq", 4, -1}, {"pie_skb_cb", "enqueue_time", 8, -1}, {"pie_skb_cb", "mem_usage", 4, -1}
@@ -167,7 +168,7 @@ static bool check_module(struct findings *findings, struct btf *kernel, const ch
     return true;
 }
 
-static bool is_loaded(const char *module) {
+bool watch_is_loaded(const char *module) {
     char path[64];
     snprintf(path, sizeof path, MODULES "/%s", module);
     return access(path, F_OK) == 0;
@@ -372,19 +373,18 @@ static void check_functions(struct findings *findings, const struct watch_checke
         report(findings, false, "the addresses of functions are hidden (kernel.kptr_restrict), so that inlined functions are not found");
 }
 
+bool watch_can_record(void) {
+    struct findings findings = {0};
+    check_capabilities(&findings);
+    check_lockdown(&findings);
+    return !findings.is_impossible;
+}
+
 bool watch_check(struct watch_checked *checked, bool is_anyway) {
     struct findings findings = {.is_anyway = is_anyway};
     struct utsname kernel;
     unsigned major = 0, minor = 0;
-    checked->has_fq_pie = is_loaded("sch_fq_pie");
-    check_capabilities(&findings);
-    check_lockdown(&findings);
-    if (findings.is_impossible)
-        return false;
-    if (!is_loaded("sch_pie")) {
-        report(&findings, true, "the module sch_pie is not loaded, so there is no queue to record; `modprobe sch_pie` loads it, or `tc qdisc add .. pie`");
-        return false;
-    }
+    checked->has_fq_pie = watch_is_loaded("sch_fq_pie");
     if (uname(&kernel) != 0 || sscanf(kernel.release, "%u.%u", &major, &minor) != 2 || major != 6 || (minor != 1 && minor != 12))
         report(&findings, false, "Linux %s was not tested; tested: " TESTED, kernel.release);
     check_types(&findings, checked);

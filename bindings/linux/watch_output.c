@@ -1,9 +1,14 @@
 #define _GNU_SOURCE
 #include "watch_output.h"
 
+#include <errno.h>
+#include <stdio_ext.h>
 #include <stdlib.h>
 #include <string.h>
+#include <unistd.h>
 
+#define BUFFER (1 << 20) /* bytes of a file in memory */
+#define MOST_ROW 4096    /* bytes of a record or row */
 #define PATIENCE 10 /* s until a queue that is not resumed no longer keeps the segment before open */
 
 /* A queue. `is_pending`: its records belong to the segment before. `is_late`: that segment is closed, so that `late` steps are lost. */
@@ -12,6 +17,8 @@ struct output_queue {
     u32 late;
     struct watch_queue name;
 };
+
+static char buffers[2][BUFFER]; /* of the present segment and the segment before */
 
 static time_t now(void) {
     struct timespec time;
@@ -25,6 +32,8 @@ static bool open_file(struct watch_output *output, const char *file, bool is_for
         return false;
     output->bytes = output->text.bytes = 0;
     output->begun = now();
+    output->buffer = !output->buffer;
+    setvbuf(output->output.file, buffers[output->buffer], _IOFBF, BUFFER);
     if (output->is_compact)
         fputs(WATCH_MAGIC, output->output.file);
     else
@@ -35,9 +44,6 @@ static bool open_file(struct watch_output *output, const char *file, bool is_for
 bool watch_output_open(struct watch_output *output, const char *file, u64 rotate, u64 kept, bool is_compact, bool is_forced) {
     *output = (struct watch_output){.is_compact = is_compact, .rotate = rotate, .segments = {.kept = kept, .is_forced = is_forced}};
     snprintf(output->segments.path, sizeof output->segments.path, "%s", file);
-    if (is_compact && (output->nowhere = fopen("/dev/null", "w")) == NULL)
-        return false;
-    output->text.out = output->nowhere;
     return open_file(output, file, is_forced);
 }
 
@@ -63,16 +69,38 @@ static bool add_queue(struct watch_output *output, const struct watch_queue *rec
     return true;
 }
 
+/* Writes what is in memory to a file. If that fails, the file ends with the last record or row that is complete, so that it can be read. */
+static void flush_file(struct watch_output *output, FILE *file) {
+    off_t written = file != NULL && __fpending(file) != 0 ? ftello(file) - (off_t)__fpending(file) : 0;
+    if (file == NULL || output->fault != 0 || fflush(file) == 0)
+        return;
+    output->fault = errno;
+    __fpurge(file);
+    if (written > 0 && (ftruncate(fileno(file), written) != 0 || lseek(fileno(file), written, SEEK_SET) < 0))
+        output->fault = errno;
+}
+
+void watch_output_flush(struct watch_output *output) {
+    flush_file(output, output->before.file);
+    flush_file(output, output->output.file);
+}
+
 /* Writes a record to a file. Returns false if it contradicts the records before it. */
 static bool write_to(struct watch_output *output, FILE *file, const void *record) {
     size_t bytes = watch_bytes(record);
-    if (!output->is_compact)
+    if (output->is_compact || output->fault != 0) {
+        if (bytes == 0 || !watch_text_count(&output->text, record))
+            return false;
+        if (output->fault == 0)
+            fwrite_unlocked(record, 1, bytes, file);
+    } else {
         output->text.out = file;
-    if (!watch_text_add(&output->text, record))
-        return false;
-    if (output->is_compact)
-        fwrite(record, 1, bytes, file);
+        if (!watch_text_add(&output->text, record))
+            return false;
+    }
     output->bytes += bytes;
+    if (__fpending(file) + MOST_ROW > __fbufsize(file))
+        flush_file(output, file);
     return true;
 }
 
@@ -142,19 +170,16 @@ int watch_output_turn(struct watch_output *output) {
     return 1;
 }
 
-bool watch_output_failed(const struct watch_output *output) {
-    return ferror(output->output.file) || (output->before.file != NULL && ferror(output->before.file));
-}
-
 bool watch_output_close(struct watch_output *output) {
     for (size_t i = 0; i < output->count; i++) {
         if (output->queues[i].is_late && output->queues[i].late != 0)
             begin_queue(output, &output->queues[i], (unsigned)i, output->queues[i].late);
     }
+    watch_output_flush(output);
     bool is_closed = close_output(&output->before);
     is_closed = close_output(&output->output) && is_closed;
-    if (output->nowhere != NULL)
-        fclose(output->nowhere);
+    if (output->fault != 0)
+        errno = output->fault;
     free(output->queues);
     output->queues = NULL;
     output->count = 0;

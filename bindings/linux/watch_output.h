@@ -10,7 +10,7 @@
 
 #include <time.h>
 
-#define WATCH_MAGIC "pie-watch steps1" /* the first 16 bytes of compact records */
+#define WATCH_MAGIC "pie-watch steps2" /* the first 16 bytes of compact records */
 
 struct watch_output {
     struct watch_text text; /* its rows, or only its counters if `is_compact` */
@@ -24,7 +24,8 @@ struct watch_output {
     u64 bytes;    /* of the present segment, in compact records */
     struct output_queue *queues; /* by their numbers */
     size_t count;
-    FILE *nowhere;
+    bool buffer; /* of two, the one of the present segment */
+    int fault; /* the error of the first failed write, after which nothing is written; 0: none */
 };
 
 /* Opens FILE, or FILE.1 if `rotate` is not 0. `kept` is the number of last segments that are kept, 0: all. Returns false with errno if that fails. */
@@ -37,8 +38,8 @@ bool watch_output_add(struct watch_output *output, const void *record);
  * if the segment cannot be opened. */
 int watch_output_turn(struct watch_output *output);
 
-/* Returns true if something could not be written. */
-bool watch_output_failed(const struct watch_output *output);
+/* Writes what is in memory to the files, whole records or rows alone. */
+void watch_output_flush(struct watch_output *output);
 
 /* Closes the files. Returns false with errno if something was not written. */
 bool watch_output_close(struct watch_output *output);

@@ -23,6 +23,14 @@ struct queue {
     u64 pointer;  /* scratch memory for a pointer that becomes a number */
     u64 changing; /* the task that changes the parameters, or 0 */
     u32 seq, lost;
+    u32 own;      /* the waiting packets, without those that were returned, after the last step */
+    u32 dropped;  /* the departures of the change in progress */
+    u32 is_calculating, is_resetting;
+    u64 returned_first;                  /* the returned packets that were summed up last: the first one, */
+    u32 returned_packets, returned_sum;  /* their number and the sum of their lengths */
+    u32 waiting_memory; /* of the packets, while the queue is resumed */
+    u32 ifindex, handle, parent, netns;
+    char device[16];
     u32 held, steps; /* the records in `records`, and how many of them are steps */
     u16 number;
     u8 kind;
@@ -31,12 +39,15 @@ struct queue {
     bool is_gone;   /* destroyed, and `lost` was not written */
     bool is_round;  /* fq_pie's timer runs, and calculated nothing yet */
     bool is_enqueue, is_dequeue; /* a beginning was seen */
-    u32 limit, mtu, memory, overmemory; /* of the last WATCH_BASE */
+    bool is_told;   /* WATCH_CHANGE was written before the departures of the change in progress */
+    u32 limit, params_limit, mtu, memory, overmemory; /* of the last record that has them */
     struct watch_stats stats;
     /* the enqueue in progress, before it */
     u32 qlen, backlog, draws, flow, decided_backlog;
-    u16 network;
+    u32 returned, returned_bytes;
+    u16 protocol, network;
     u8 room, early;
+    bool has_header;
     u32 readings;          /* the dequeue in progress */
     u64 stack;             /* an address of the stack at the beginning of the enqueue or dequeue in progress */
     u64 least_word, least_reading; /* the distance on the stack of its calls from there; 0 before the first one */

@@ -1,5 +1,5 @@
-/* The records that pie_watch.bpf.c writes to the ring buffer and that pie-watch reads from it, or from a compact copy. A record has at most 152 bytes.
- * An item of the ring has one record, or several ones of which each takes 152 bytes.
+/* The records that pie_watch.bpf.c writes to the ring buffer and that pie-watch reads from it, or from a compact copy. A record has at most 160 bytes.
+ * An item of the ring has one record, or several ones of which each takes 160 bytes.
  * Times of the controller are in ticks of 64 ns, probabilities in units of 2^-56, as in the kernel's struct pie_vars.
  *
  * Every step of a queue has a number, from 0 without a gap. A record has the values after its step; the values before it are those of the record before. */
@@ -43,6 +43,7 @@ enum {
     WATCH_RANDOM = 24,   /* enqueue: two bits, the number of random words that were drawn */
     WATCH_READINGS = 7,  /* dequeue: three bits, the number of readings of the clock */
     WATCH_HAS_CLOCK = 8, /* dequeue: the record has `at`, since the rate estimator is on */
+    WATCH_DROP = 16,     /* dequeue: a change of the limit dropped the packet */
     WATCH_ECN = 1,       /* whole: the parameters that are switches */
     WATCH_BYTEMODE = 2,
     WATCH_DQ_RATE = 4
@@ -89,6 +90,9 @@ struct watch_queue {
     char device[16];
 };
 
+/* The packets that the device returned, or at which the parent peeked, are counted by the queue again: `returned` is their number, and `returned_bytes`
+ * the sum of their lengths. */
+
 struct watch_base {
     struct watch_head head;
     struct watch_stats stats;
@@ -109,7 +113,13 @@ struct watch_whole {
     u32 limit, mtu;
     u32 qlen, backlog;
     struct watch_stats stats;
-    u32 dropped_packets, dropped_bytes; /* change */
+    u32 dropped_packets; /* change */
+    union {
+        u32 dropped_bytes; /* change */
+        u32 kept_memory;   /* resume: fq_pie's memory that is not of its packets; a purge keeps it */
+    };
+    u32 returned_bytes;
+    u16 returned, dropped_returned; /* change: the returned packets among the dropped ones */
 };
 
 struct watch_flow {
@@ -135,9 +145,11 @@ struct watch_enqueue {
     u32 decided_backlog; /* the argument of pie_drop_early */
     u32 hash, truesize, priority;
     u32 memory;
-    u16 protocol, network; /* the first two bytes of the network header, 0 if the packet cannot be marked; both in network byte order */
+    u16 protocol, network; /* the protocol behind VLAN tags; the first two bytes of the network header, 0 if it was not read; in network byte order */
     u64 enqueued;
     u64 random;
+    u32 returned_bytes;
+    u16 returned, spare;
 };
 
 struct watch_dequeue {
@@ -147,18 +159,21 @@ struct watch_dequeue {
     u32 decided_backlog, qlen, backlog;
     u32 memory;
     u64 enqueued;
+    u32 returned_bytes;
+    u16 returned, spare;
     u64 at[3]; /* ns */
 };
 
 struct watch_calc {
     struct watch_head head;
     struct watch_vars vars;
-    u32 decided_backlog, qlen, backlog, spare;
+    u32 decided_backlog, qlen, backlog, returned_bytes;
+    u16 returned, spare[3];
 };
 
-#define WATCH_MOST 152
+#define WATCH_MOST 160
 _Static_assert(sizeof(struct watch_enqueue) == WATCH_MOST && sizeof(struct watch_whole) == WATCH_MOST,
-               "a record has at most 152 bytes");
+               "a record has at most 160 bytes");
 _Static_assert(sizeof(struct watch_head) == 24 && sizeof(struct watch_vars) == 64, "the records have no gaps");
 
 #endif

@@ -1,23 +1,30 @@
 /* A part of pie_watch.bpf.c: writes a queue that worked before, or whose steps were lost, as it is before its next step. */
-#define PEEKED 0x10000u /* beside the number of a queue: its packets were dequeued */
-#define FLOWS_SHIFT 17  /* beside the number of a queue: its list of flows, plus 1; 0 for pie */
-
 struct walk {
     u64 next, end; /* the next packet or flow, and the end of the list */
     u64 flows;
-    u32 seq, flow, which, is_full;
+    u32 place, seq, flow, number, list, is_peeked;
+    u32 memory; /* of the packets */
+    u32 is_full;
 };
 
+/* The lists of struct watch_flow. */
+enum { NO_LIST, NEW_FLOWS, OLD_FLOWS };
+
+static __always_inline struct walk walk_of(const struct queue *queue, u64 next, u64 end) {
+    return (struct walk){.next = next, .end = end, .flows = queue->flows, .place = queue->place, .seq = queue->seq - 1, .number = queue->number};
+}
+
 static __always_inline void head_of_walk(struct watch_head *head, const struct walk *walk, enum watch_type type) {
-    struct queue queue = {.number = walk->which};
+    struct queue queue = {.number = walk->number};
     fill_head(head, &queue, type, walk->seq, NOW);
     head->flow = walk->flow;
 }
 
 /* Writes a packet of a list. Returns 1 at its end. */
 static long write_waiting(u32 number, struct walk *walk) {
-    u64 skb = walk->next, cb = skb + OFFSET(sk_buff, cb), own = cb + OFFSET(qdisc_skb_cb, data);
+    u64 skb = walk->next;
     struct watch_wait *record;
+    u64 cb[6];
     if (skb == 0 || skb == walk->end)
         return 1;
     record = bpf_ringbuf_reserve(&ring, sizeof *record, 0);
@@ -26,28 +33,36 @@ static long write_waiting(u32 number, struct walk *walk) {
         return 1;
     }
     head_of_walk(&record->head, walk, WATCH_WAIT);
+    READ(cb, skb, sk_buff, cb);
     READ(record->size, skb, sk_buff, len);
-    READ(record->pkt_len, cb, qdisc_skb_cb, pkt_len);
-    READ(record->enqueued, own, pie_skb_cb, enqueue_time);
-    READ(record->memory, own, pie_skb_cb, mem_usage);
-    record->is_peeked = (walk->which & PEEKED) != 0;
+    record->pkt_len = *(u32 *)((char *)cb + OFFSET(qdisc_skb_cb, pkt_len));
+    record->enqueued = *(u64 *)((char *)cb + OFFSET(qdisc_skb_cb, data) + OFFSET(pie_skb_cb, enqueue_time));
+    record->memory = *(u32 *)((char *)cb + OFFSET(qdisc_skb_cb, data) + OFFSET(pie_skb_cb, mem_usage));
+    record->is_peeked = walk->is_peeked;
+    walk->memory += record->memory;
     write(record);
     READ(walk->next, skb, sk_buff, next);
     return 0;
 }
 
-/* Writes the packets of a list. Returns 1 if the ring is full, and 0 otherwise. */
-__noinline int write_packets(u64 next, u64 end, u32 seq, u32 flow, u32 which) {
-    struct walk walk = {.next = next, .end = end, .seq = seq, .flow = flow, .which = which};
+/* Writes the packets of a list of a queue, whose memory is added to `waiting_memory` unless they were returned. Returns 1 if the ring is full, and 0
+ * otherwise. */
+__noinline int write_packets(u32 place, u64 next, u64 end, u32 flow, u32 is_peeked) {
+    struct queue *queue = &queues[place % WATCH_PLACES];
+    struct walk walk = walk_of(queue, next, end);
+    walk.flow = flow;
+    walk.is_peeked = is_peeked;
     bpf_loop(MOST_WAITING, write_waiting, &walk, 0);
+    if (!is_peeked)
+        queue->waiting_memory += walk.memory;
     return walk.is_full;
 }
 
 /* (This function and write_flows are verified also if the kernel has no types of fq_pie: `has_fq_pie` is a constant for the verifier.) */
 
 /* Writes a flow of fq_pie and its packets. Returns 1 if the ring is full, and 0 otherwise. */
-__noinline int write_flow(u64 flow, u32 number, u32 seq, u32 which) {
-    struct walk walk = {.flow = number, .seq = seq, .which = which};
+__noinline int write_flow(u32 place, u64 flow, u32 number, u32 list) {
+    struct queue *queue = &queues[place % WATCH_PLACES];
     struct watch_flow *record;
     u64 packets = 0;
     if (!has_fq_pie)
@@ -55,15 +70,16 @@ __noinline int write_flow(u64 flow, u32 number, u32 seq, u32 which) {
     record = bpf_ringbuf_reserve(&ring, sizeof *record, 0);
     if (record == NULL)
         return 1;
-    head_of_walk(&record->head, &walk, WATCH_FLOW);
+    fill_head(&record->head, queue, WATCH_FLOW, queue->seq - 1, NOW);
+    record->head.flow = number;
     READ(record->vars, flow, fq_pie_flow, vars);
     READ(record->deficit, flow, fq_pie_flow, deficit);
     READ(record->backlog, flow, fq_pie_flow, backlog);
     READ(record->qlen, flow, fq_pie_flow, qlen);
-    record->list = (which >> FLOWS_SHIFT) - 1;
+    record->list = list;
     write(record);
     READ(packets, flow, fq_pie_flow, head);
-    return write_packets(packets, 0, seq, number, which);
+    return packets != 0 ? write_packets(place, packets, 0, number, 0) : 0;
 }
 
 /* Writes the next flow of a list. */
@@ -71,7 +87,7 @@ static long write_listed(u32 number, struct walk *walk) {
     u64 flow = walk->next - OFFSET(fq_pie_flow, flowchain);
     if (walk->next == walk->end)
         return 1;
-    if (write_flow(flow, (flow - walk->flows) / bpf_core_type_size(struct fq_pie_flow), walk->seq, walk->which) != 0) {
+    if (write_flow(walk->place, flow, (flow - walk->flows) / bpf_core_type_size(struct fq_pie_flow), walk->list) != 0) {
         walk->is_full = 1;
         return 1;
     }
@@ -89,7 +105,7 @@ static long write_unlisted(u32 number, struct walk *walk) {
     READ(vars, flow, fq_pie_flow, vars);
     if (vars.dq_tstamp == ~0ull && (vars.qdelay | vars.qdelay_old | vars.prob | vars.accu_prob | vars.backlog_old) == 0)
         return 0;
-    if (write_flow(flow, number, walk->seq, walk->which) != 0) {
+    if (write_flow(walk->place, flow, number, NO_LIST) != 0) {
         walk->is_full = 1;
         return 1;
     }
@@ -97,61 +113,82 @@ static long write_unlisted(u32 number, struct walk *walk) {
 }
 
 /* Writes the flows of a list, the first of which is `next`; or the flows of no list, `end` in number. Returns 1 if the ring is full, and 0 otherwise. */
-__noinline int write_flows(u64 next, u64 end, u64 flows, u32 seq, u32 which) {
-    struct walk walk = {.next = next, .end = end, .flows = flows, .seq = seq, .which = which};
+__noinline int write_flows(u32 place, u64 next, u64 end, u32 list) {
+    struct queue *queue = &queues[place % WATCH_PLACES];
+    struct walk walk = walk_of(queue, next, end);
     if (!has_fq_pie)
         return 0;
-    if (which >> FLOWS_SHIFT == 1)
+    walk.list = list;
+    if (list == NO_LIST)
         bpf_loop(end < MOST_FLOWS ? (u32)end : MOST_FLOWS, write_unlisted, &walk, 0);
     else
         bpf_loop(MOST_FLOWS, write_listed, &walk, 0);
     return walk.is_full;
 }
 
+/* Writes the packets that were returned to a queue. Returns 1 if the ring is full, and 0 otherwise. */
+__noinline int write_returned(u32 place) {
+    struct queue *queue = &queues[place % WATCH_PLACES];
+    u64 next = 0;
+    int is_full;
+    READ(next, queue->sch, Qdisc, gso_skb.next);
+    is_full = write_packets(place, next, queue->sch + OFFSET(Qdisc, gso_skb), WATCH_FLOW_NONE, 1);
+    READ(next, queue->sch, Qdisc, skb_bad_txq.next);
+    return is_full | write_packets(place, next, queue->sch + OFFSET(Qdisc, skb_bad_txq), WATCH_FLOW_NONE, 1);
+}
+
+/* Returns true if the ring has a place for a queue with this number of packets and flows. */
+static __always_inline bool has_place(u32 waiting, u32 flows) {
+    u64 needed = ((u64)waiting + 2 * (u64)flows + 8) * (WATCH_MOST + 8), size = bpf_ringbuf_query(&ring, BPF_RB_RING_SIZE);
+    if (size < needed)
+        ring_needed = needed;
+    return size >= needed + bpf_ringbuf_query(&ring, BPF_RB_AVAIL_DATA);
+}
+
+/* Returns true if the queue's rate estimator is on, but the programs that read the clock are not attached. */
+static __always_inline bool lacks_clock(struct queue *queue) {
+    u8 rate = 0;
+    READ(rate, queue->key, pie_params, dq_rate_estimator);
+    if (rate == 0 || has_clock)
+        return false;
+    needs_clock = true;
+    return true;
+}
+
 /* Writes the queue at a place as it is before its next step: WATCH_RESUME, its flows and its packets, if the ring has a place for them. Until then,
  * steps are lost. The caller has the queue's lock. */
 __noinline int resume(u32 at) {
     struct queue *queue = &queues[at % WATCH_PLACES];
-    u64 own = queue->sch + OFFSET(Qdisc, privdata), next = 0, needed;
-    u32 flows = 0, waiting = 0, seq = queue->seq, which = queue->number, is_full;
+    u64 own = queue->sch + OFFSET(Qdisc, privdata), next = 0;
+    u32 flows = 0, waiting = 0, is_full;
     flush(queue->place);
     if (is_fq_pie(queue))
         READ(flows, own, fq_pie_sched_data, flows_cnt);
     READ(waiting, queue->sch, Qdisc, q.qlen);
-    needed = ((u64)waiting + 2 * (u64)flows + 8) * (WATCH_MOST + 8);
-    if (bpf_ringbuf_query(&ring, BPF_RB_RING_SIZE) < needed + bpf_ringbuf_query(&ring, BPF_RB_AVAIL_DATA))
+    if (lacks_clock(queue) || !has_place(waiting, flows))
         return 0;
-    if (!queue->is_named && !write_name(queue))
+    if (!write_lost(queue))
         return 0;
-    queue->is_named = true;
-    if (queue->lost != 0) {
-        struct watch_base *lost = bpf_ringbuf_reserve(&ring, sizeof *lost, 0);
-        if (lost == NULL)
-            return 0;
-        fill_base(lost, queue, WATCH_LOST, queue->lost);
-        write(lost);
-        queue->lost = 0;
-    }
     struct watch_whole *record = bpf_ringbuf_reserve(&ring, sizeof *record, 0);
     if (record == NULL)
         return 0;
-    queue->seq = seq + 1;
-    fill_head(&record->head, queue, WATCH_RESUME, seq, NOW);
+    fill_head(&record->head, queue, WATCH_RESUME, queue->seq++, NOW);
     read_whole(record, queue);
-    write(record);
     queue->segment = segment;
-    READ(next, queue->sch, Qdisc, gso_skb.next);
-    is_full = write_packets(next, queue->sch + OFFSET(Qdisc, gso_skb), seq, WATCH_FLOW_NONE, which | PEEKED);
+    queue->waiting_memory = 0;
+    is_full = write_returned(queue->place);
     if (is_fq_pie(queue)) {
         READ(next, own, fq_pie_sched_data, new_flows.next);
-        is_full |= write_flows(next, own + OFFSET(fq_pie_sched_data, new_flows), queue->flows, seq, which | 2 << FLOWS_SHIFT);
+        is_full |= write_flows(queue->place, next, own + OFFSET(fq_pie_sched_data, new_flows), NEW_FLOWS);
         READ(next, own, fq_pie_sched_data, old_flows.next);
-        is_full |= write_flows(next, own + OFFSET(fq_pie_sched_data, old_flows), queue->flows, seq, which | 3 << FLOWS_SHIFT);
-        is_full |= write_flows(0, flows, queue->flows, seq, which | 1 << FLOWS_SHIFT);
+        is_full |= write_flows(queue->place, next, own + OFFSET(fq_pie_sched_data, old_flows), OLD_FLOWS);
+        is_full |= write_flows(queue->place, 0, flows, NO_LIST);
+        record->kept_memory = queue->memory - queue->waiting_memory;
     } else {
         READ(next, queue->sch, Qdisc, q.head);
-        is_full |= write_packets(next, 0, seq, WATCH_FLOW_NONE, which);
+        is_full |= write_packets(queue->place, next, 0, WATCH_FLOW_NONE, 0);
     }
+    write(record);
     queue->is_broken = is_full != 0;
     return 0;
 }

@@ -19,7 +19,7 @@ static const char columns[] =
     "qid,kind,type,seq,ns,cpu,flow,backlog,size,pktlen,mtu,qlen0,qlen1,bl0,bl1,limit,ret,proto,l3,room,early,nrnd,rnd,enq,nt,t0,t1,t2,hash,prio,truesize,x0,x1,"
     "x2,b_qdelay,b_qdelay_old,b_burst_time,b_dq_tstamp,b_prob,b_accu_prob,b_dq_count,b_avg_dq_rate,b_backlog_old,a_qdelay,a_qdelay_old,a_burst_time,"
     "a_dq_tstamp,a_prob,a_accu_prob,a_dq_count,a_avg_dq_rate,a_backlog_old,target,tupdate,plimit,alpha,beta,ecn,bytemode,dqrate,packets_in,dropped,overlimit,"
-    "ecn_mark,maxq\n";
+    "ecn_mark,maxq,rq,rqb,drop,moved\n";
 
 /* A row. Fields that a type of row lacks are 0. */
 struct row {
@@ -38,6 +38,7 @@ struct row {
     u64 target;
     u32 tupdate, params_limit, alpha, beta, ecn, bytemode, dq_rate;
     struct watch_stats stats;
+    u32 returned, returned_bytes, is_drop, dropped_returned;
 };
 
 /* ---- writing */
@@ -114,6 +115,7 @@ static void write_row(struct watch_text *text, const struct text_queue *queue, c
     to = put_number(to, row->target);
     to = put_numbers(to, (u32[]){row->tupdate, row->params_limit, row->alpha, row->beta, row->ecn, row->bytemode, row->dq_rate}, 7);
     to = put_numbers(to, (u32[]){row->stats.packets_in, row->stats.dropped, row->stats.overlimit, row->stats.ecn_mark, row->stats.maxq}, 5);
+    to = put_numbers(to, (u32[]){row->returned, row->returned_bytes, row->is_drop, row->dropped_returned}, 4);
     to[-1] = '\n';
     fwrite(line, 1, (size_t)(to - line), text->out);
     text->bytes += (u64)(to - line);
@@ -205,8 +207,13 @@ static bool add_whole(struct watch_text *text, struct text_queue *queue, const s
                                         [WATCH_DESTROY] = "destroy"};
     struct row row = {.type = names[record->head.type], .head = &record->head, .seq = record->head.seq, .early = 255};
     struct watch_base *base = &queue->base;
-    row.backlog = record->dropped_bytes;
-    row.size = record->dropped_packets;
+    if (record->head.type == WATCH_CHANGE) {
+        row.backlog = record->dropped_bytes;
+        row.size = record->dropped_packets;
+        row.dropped_returned = record->dropped_returned;
+    }
+    row.returned = record->returned;
+    row.returned_bytes = record->returned_bytes;
     row.qlen = record->qlen;
     row.backlog_after = record->backlog;
     row.mtu = base->mtu = record->mtu;
@@ -228,6 +235,11 @@ static bool add_whole(struct watch_text *text, struct text_queue *queue, const s
         row.truesize = record->fq.memory_limit;
         base->memory = record->fq.memory;
         base->overmemory = record->fq.overmemory;
+        if (record->head.type == WATCH_RESUME) {
+            row.at[0] = (u64)record->fq.overmemory + 1;
+            row.at[1] = (u64)record->fq.cursor + 1;
+            row.at[2] = record->kept_memory;
+        }
         if (record->head.type == WATCH_INIT || record->head.type == WATCH_RESUME)
             return begin_flows(text, queue, &row, record->fq.flows);
         if (record->head.type == WATCH_RESET)
@@ -261,6 +273,8 @@ static bool add_enqueue(struct watch_text *text, struct text_queue *queue, const
     row.random = record->random;
     row.enqueued = record->enqueued;
     row.ns = record->enqueued << 6; /* if the head has none */
+    row.returned = record->returned;
+    row.returned_bytes = record->returned_bytes;
     row.hash = record->hash;
     row.priority = record->priority;
     row.truesize = record->truesize;
@@ -296,6 +310,9 @@ static bool add_dequeue(struct watch_text *text, struct text_queue *queue, const
     row.qlen = record->qlen;
     row.backlog_after = record->backlog;
     row.enqueued = record->enqueued;
+    row.returned = record->returned;
+    row.returned_bytes = record->returned_bytes;
+    row.is_drop = (record->head.bits & WATCH_DROP) != 0;
     row.ns = record->vars.dq_tstamp << 6;
     if (queue->kind == WATCH_FQ_PIE)
         row.x[1] = queue->base.memory = record->memory;
@@ -317,6 +334,8 @@ static bool add_calc(struct watch_text *text, struct text_queue *queue, const st
     row.backlog = record->decided_backlog;
     row.qlen = record->qlen;
     row.backlog_after = record->backlog;
+    row.returned = record->returned;
+    row.returned_bytes = record->returned_bytes;
     row.before = *vars;
     row.after = *vars = record->vars;
     write_row(text, queue, &row);
@@ -347,11 +366,6 @@ static void add_wait(struct watch_text *text, struct text_queue *queue, const st
     write_row(text, queue, &row);
 }
 
-static void add_lost(struct watch_text *text, struct text_queue *queue, const struct watch_base *record) {
-    fprintf(text->out, "lost,%u,%s\n", record->lost, queue->name);
-    text->lost += record->lost;
-    queue->seq += record->lost;
-}
 
 /* Compares the number of a step with the one that follows, and counts numbers that are missing. */
 static void count_step(struct watch_text *text, struct text_queue *queue, u32 seq) {
@@ -360,7 +374,7 @@ static void count_step(struct watch_text *text, struct text_queue *queue, u32 se
     text->steps++;
 }
 
-bool watch_text_add(struct watch_text *text, const void *record) {
+bool watch_text_count(struct watch_text *text, const void *record) {
     const struct watch_head *head = record;
     struct text_queue *queue = head->queue < text->count ? &text->queues[head->queue] : NULL;
     if (head->type == WATCH_QUEUE)
@@ -368,16 +382,29 @@ bool watch_text_add(struct watch_text *text, const void *record) {
     if (queue == NULL || !queue->is_there)
         return false;
     if (head->type == WATCH_LOST) {
-        add_lost(text, queue, record);
-        return true;
+        text->lost += ((const struct watch_base *)record)->lost;
+        queue->seq += ((const struct watch_base *)record)->lost;
+    } else if (head->type != WATCH_BASE && head->type != WATCH_FLOW && head->type != WATCH_WAIT) {
+        count_step(text, queue, head->seq);
     }
-    if (head->type == WATCH_BASE) {
+    return true;
+}
+
+bool watch_text_add(struct watch_text *text, const void *record) {
+    const struct watch_head *head = record;
+    struct text_queue *queue;
+    if (!watch_text_count(text, record))
+        return false;
+    queue = &text->queues[head->queue];
+    switch (head->type) {
+    case WATCH_QUEUE:
+        return true;
+    case WATCH_LOST:
+        fprintf(text->out, "lost,%u,%s\n", ((const struct watch_base *)record)->lost, queue->name);
+        return true;
+    case WATCH_BASE:
         queue->base = *(const struct watch_base *)record;
         return true;
-    }
-    if (head->type != WATCH_FLOW && head->type != WATCH_WAIT)
-        count_step(text, queue, head->seq);
-    switch (head->type) {
     case WATCH_ENQUEUE:
         return add_enqueue(text, queue, record);
     case WATCH_DEQUEUE:

@@ -23,7 +23,11 @@ size_t watch_bytes(const struct watch_head *head);
 /* Begins a text in `out`: writes the names of the columns. A struct watch_text of zeros has no queues and steps. */
 void watch_text_head(struct watch_text *text, FILE *out);
 
-/* Writes the rows of a record. Returns false if the record contradicts the records before it, or memory is exhausted. */
+/* Counts the step of a record, without rows. A struct watch_text without a file has only counted records. Returns false if the record contradicts the records
+ * before it, or memory is exhausted. */
+bool watch_text_count(struct watch_text *text, const void *record);
+
+/* Counts the step of a record, and writes its rows. Returns false if the record contradicts the records before it, or memory is exhausted. */
 bool watch_text_add(struct watch_text *text, const void *record);
 
 /* Returns the name of a queue in the text, or NULL. */

@@ -126,9 +126,8 @@ class Queue:
         self.compare(row, x0=self.memory, x1=(self.memory + row.truesize * is_queued) % 2**32)
         self.memory = row.x1
         minor = row.prio % 65536
-        if row.filter == 0:
-            is_named = row.prio - minor == self.handle and 0 < minor <= self.flows
-            self.compare(row, flow=minor - 1 if is_named else row.hash * self.flows // 2**32)
+        is_named = row.prio - minor == self.handle and 0 < minor <= self.flows
+        self.compare(row, flow=minor - 1 if is_named else row.hash * self.flows // 2**32)
 
     def add_deq(self, row):
         packets = self.packets.get(row.flow)

@@ -128,14 +128,6 @@ struct timer_list {
     unsigned long expires;
 };
 
-struct tcf_proto {
-    u32 prio;
-};
-
-struct tcf_result {
-    unsigned long class;
-    u32 classid;
-};
 
 struct fq_pie_flow {
     struct pie_vars vars;
@@ -146,7 +138,6 @@ struct fq_pie_flow {
 };
 
 struct fq_pie_sched_data {
-    struct tcf_proto *filter_list;
     struct fq_pie_flow *flows;
     struct list_head old_flows, new_flows;
     struct pie_params p_params;

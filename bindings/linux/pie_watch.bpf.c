@@ -28,9 +28,9 @@ const volatile u32 wanted_part; /* about one of this many queues is wanted, sele
 const volatile bool has_fq_pie; /* the module sch_fq_pie is loaded */
 const volatile u32 handled = 3; /* a bit for each kind of queues that these programs record. Other programs record fq_pie if its module was loaded later */
 
-/* The program in user space changes `is_on` while the programs are attached. `has_clock`, `has_classes`: the programs that read the clock, and the results of
- * filters, are attached. Until then, a queue that needs them is not recorded, and sets `needs_clock` or `needs_classes`. */
-bool is_on, has_clock, has_classes, needs_clock, needs_classes;
+/* The program in user space changes `is_on` while the programs are attached. `has_clock`: the programs that read the clock are attached. Until then, a queue
+ * that needs them is not recorded, and sets `needs_clock`. */
+bool is_on, has_clock, needs_clock;
 u32 queues_seen;   /* the number of the next queue */
 u32 queues_missed; /* no place in the map */
 u32 steps_missed;  /* an end of an enqueue without its beginning */
@@ -535,52 +535,18 @@ static __always_inline void begin_enqueue(struct queue *queue, struct sk_buff *s
     queue->flow = WATCH_FLOW_NONE;
     queue->network = 0;
     queue->room = 0;
-    queue->has_header = queue->is_filtered = false;
+    queue->has_header = false;
     queue->is_enqueue = true;
     if (kind == WATCH_PIE ? PIE_OF(sch)->params.ecn && may_pick(&PIE_OF(sch)->vars) : FQ_PIE_OF(sch)->p_params.ecn)
         read_header(queue, skb);
 }
 
-/* The last result of a filter on a processor: the packet and its class. */
-struct class {
-    u64 skb;
-    u32 classid, spare;
-};
-
-struct {
-    __uint(type, BPF_MAP_TYPE_ARRAY);
-    __uint(max_entries, 1); /* the number of processors */
-    __type(key, u32);
-    __type(value, struct class);
-} classes SEC(".maps");
-
-static __always_inline struct class *class_here(void) {
-    u32 cpu = bpf_get_smp_processor_id();
-    return bpf_map_lookup_elem(&classes, &cpu);
-}
-
-/* Finds the flow that fq_pie chose for a packet, as fq_pie_classify does. Without pie_drop_early, a filter's choice is known from the filter's result alone. */
-static __always_inline void find_flow(struct queue *queue, struct sk_buff *skb, struct Qdisc *sch) {
+/* Returns the flow that fq_pie chose for a packet, as fq_pie_classify does. (fq_pie has no classes, so that tc attaches no filters.) */
+static __always_inline u32 chosen_flow(struct sk_buff *skb, struct Qdisc *sch) {
     u32 minor = skb->priority & 0xffff, flows = FQ_PIE_OF(sch)->flows_cnt;
-    struct class *class;
-    if ((skb->priority & 0xffff0000) == sch->handle && minor > 0 && minor <= flows) {
-        queue->flow = minor - 1;
-        return;
-    }
-    queue->is_filtered = number_of(queue, FQ_PIE_OF(sch)->filter_list) != 0;
-    if (queue->flow != WATCH_FLOW_NONE)
-        return;
-    if (!queue->is_filtered) {
-        queue->flow = (u32)((u64)skb->hash * flows >> 32);
-        return;
-    }
-    class = class_here();
-    if (has_classes && class != NULL && class->skb == (u64)skb && (class->classid & 0xffff) > 0 && (class->classid & 0xffff) <= flows) {
-        queue->flow = (class->classid & 0xffff) - 1;
-    } else { /* this step cannot be recorded */
-        needs_classes = true;
-        queue->is_broken = true;
-    }
+    if ((skb->priority & 0xffff0000) == sch->handle && minor > 0 && minor <= flows)
+        return minor - 1;
+    return (u32)((u64)skb->hash * flows >> 32);
 }
 
 /* Returns the bits of counters that the enqueue increased, or -1 if one changed otherwise. */
@@ -604,8 +570,6 @@ static __always_inline void end_enqueue(struct queue *queue, struct sk_buff *skb
         return;
     }
     queue->is_enqueue = false;
-    if (ret >> 16 != 0) /* filters dropped or took the packet, which did not reach the queue */
-        return;
     if (kind == WATCH_PIE) {
         copy_stats(&stats, &PIE_OF(sch)->stats);
     } else {
@@ -630,8 +594,8 @@ static __always_inline void end_enqueue(struct queue *queue, struct sk_buff *skb
     own = own_words(queue);
     if (own > 1) /* this step cannot be recorded */
         queue->is_broken = true;
-    if (kind == WATCH_FQ_PIE)
-        find_flow(queue, skb, sch);
+    if (kind == WATCH_FQ_PIE && queue->flow == WATCH_FLOW_NONE) /* the limit came before pie_drop_early */
+        queue->flow = chosen_flow(skb, sch);
     if (ret != 0 && !queue->has_header)
         read_header(queue, skb);
     queue->own = sch->q.qlen - queue->returned;
@@ -674,7 +638,7 @@ static __always_inline void end_enqueue(struct queue *queue, struct sk_buff *skb
     record->returned_bytes = queue->returned_bytes;
     record->spare = 0;
     record->enqueued = counts & WATCH_COUNT_IN ? ((struct pie_skb_cb *)cb->data)->enqueue_time : 0;
-    bits = (queue->room ? WATCH_ROOM : 0) | queue->early << 1 | (queue->is_filtered ? WATCH_FILTER : 0);
+    bits = (queue->room ? WATCH_ROOM : 0) | queue->early << 1;
     record->random = own != 0 ? queue->values[0] : 0;
     bits |= own << 3;
     record->head.bits = bits;
@@ -987,17 +951,6 @@ int BPF_PROG(drop_early_ends, struct Qdisc *sch, struct pie_params *params, stru
     queue->flow = flow_of(queue, vars);
     queue->decided_backlog = backlog;
     queue->early = (u8)result != 0; /* (a function that returns `bool` sets the lowest byte) */
-    return 0;
-}
-
-/* Keeps the result of a filter for find_flow. */
-SEC("fexit/tcf_classify")
-int BPF_PROG(class_is_known, struct sk_buff *skb, const void *block, const struct tcf_proto *filter, struct tcf_result *result) {
-    struct class *class = class_here();
-    if (class == NULL)
-        return 0;
-    class->skb = (u64)skb;
-    bpf_probe_read_kernel(&class->classid, sizeof class->classid, (void *)result + OFFSET(tcf_result, classid));
     return 0;
 }
 

@@ -194,19 +194,15 @@ static int note_libbpf(enum libbpf_print_level level, const char *format, va_lis
     return is_verbose ? vfprintf(stderr, format, arguments) : 0;
 }
 
-/* The programs that only fq_pie needs, those that only the rate estimator needs, that only filters of fq_pie need, and that serve pie and fq_pie. */
+/* The programs that only fq_pie needs, those that only the rate estimator needs, and those that serve pie and fq_pie. */
 static bool is_of_fq_pie(const struct bpf_program *program) {
     const char *name = bpf_program__name(program);
-    return strncmp(name, "fq_pie", 6) == 0 || strcmp(name, "drop_early_ends") == 0 || strcmp(name, "class_is_known") == 0;
+    return strncmp(name, "fq_pie", 6) == 0 || strcmp(name, "drop_early_ends") == 0;
 }
 
 static bool is_of_clock(const struct bpf_program *program) {
     const char *name = bpf_program__name(program);
     return strncmp(name, "clock", 5) == 0 || strcmp(name, "dequeue_begins") == 0;
-}
-
-static bool is_of_filters(const struct bpf_program *program) {
-    return strcmp(bpf_program__name(program), "class_is_known") == 0;
 }
 
 static bool is_of_both(const struct bpf_program *program) {
@@ -234,7 +230,7 @@ static void attach_all(struct recording *recording, struct pie_watch_bpf *bpf, b
 }
 
 static bool is_always_attached(const struct bpf_program *program) {
-    return !is_of_clock(program) && !is_of_filters(program);
+    return !is_of_clock(program);
 }
 
 /* Attaches the programs that read the clock for the rate estimator. They run at each reading of the clock in the kernel. */
@@ -245,14 +241,6 @@ static void attach_clock(struct recording *recording) {
     if (recording->later != NULL)
         attach_all(recording, recording->later, is_of_clock);
     recording->bpf->bss->has_clock = true;
-}
-
-/* Attaches the program that reads the results of filters for fq_pie. It runs at each classification in the kernel. */
-static void attach_filters(struct recording *recording) {
-    if (recording->bpf->bss->has_classes)
-        return;
-    attach_all(recording, recording->later != NULL ? recording->later : recording->bpf, is_of_filters);
-    recording->bpf->bss->has_classes = true;
 }
 
 static struct pie_watch_bpf *open_programs(const struct options *options, bool has_fq_pie) {
@@ -272,7 +260,6 @@ static struct pie_watch_bpf *open_programs(const struct options *options, bool h
     bpf->rodata->has_fq_pie = has_fq_pie;
     bpf_map__set_max_entries(bpf->maps.words, (u32)processors);
     bpf_map__set_max_entries(bpf->maps.readings, (u32)processors);
-    bpf_map__set_max_entries(bpf->maps.classes, (u32)processors);
     bpf_map__set_max_entries(bpf->maps.ring, options->ring << 20);
     return bpf;
 }
@@ -318,7 +305,6 @@ static void load_later(struct recording *recording) {
     bpf_map__reuse_fd(bpf->maps.ring, bpf_map__fd(first->maps.ring));
     bpf_map__reuse_fd(bpf->maps.words, bpf_map__fd(first->maps.words));
     bpf_map__reuse_fd(bpf->maps.readings, bpf_map__fd(first->maps.readings));
-    bpf_map__reuse_fd(bpf->maps.classes, bpf_map__fd(first->maps.classes));
     bpf_map__reuse_fd(bpf->maps.bss, bpf_map__fd(first->maps.bss));
     load_programs(bpf);
     recording->later = bpf;
@@ -393,8 +379,6 @@ static void follow(struct recording *recording) {
     unsigned needed = recording->bpf->bss->ring_needed;
     if (recording->bpf->bss->needs_clock)
         attach_clock(recording);
-    if (recording->bpf->bss->needs_classes)
-        attach_filters(recording);
     if (needed != 0 && !recording->has_ring_message)
         fprintf(stderr, PROGRAM ": a queue is too long for the ring, so that its steps are lost; --ring %u or more\n", ring_of(needed));
     recording->has_ring_message |= needed != 0;

@@ -1,8 +1,8 @@
 #!/usr/bin/env bash
 # Boots a kernel of Debian under qemu with two processors, and records situations that are rare or hard to record (situations_init.sh): packets behind VLAN
-# tags, packets that the device returns or the parent peeks at, refused commands and changes that drop packets, priorities and filters that choose a flow of
-# fq_pie, a link that goes down and up, modules that are loaded later, a device that comes again, a ring that is too small, a full disk and a killed
-# reader. pie must find each text clean. columns.py compares the columns that the recorder alone determines. It takes three minutes of a processor.
+# tags, packets that the device returns or the parent peeks at, refused commands and changes that drop packets, priorities that name a flow of fq_pie, a
+# link that goes down and up, modules that are loaded later, a device that comes again, a ring that is too small, a full disk and a killed reader. pie must
+# find each text clean. columns.py compares the columns that follow from other rows. It takes two minutes of a processor.
 #
 # PIE, ROOT and HEADERS are those of boot.sh. WATCH is another pie-watch to record with
 # needs: program, a request
@@ -23,7 +23,7 @@ done
 fill_watch
 [ -z "${WATCH-}" ] || cp "$WATCH" "$work/root/bin/pie-watch"
 cc -O1 -o "$work/root/bin/device_options" bindings/linux/device_options.c
-fill_root bindings/linux/situations_init.sh veth dummy sch_htb sch_tbf sch_netem sch_pie sch_fq_pie cls_u32 e1000 pktgen
+fill_root bindings/linux/situations_init.sh veth dummy sch_htb sch_tbf sch_netem sch_pie sch_fq_pie e1000 pktgen
 truncate -s 1G "$work/disk"
 # shellcheck disable=SC2086
 LIMIT=${LIMIT:-1500} boot "net.ifnames=0 no_timer_check nowatchdog rcupdate.rcu_cpu_stall_suppress=1" -m 1024 -smp 2 -accel tcg,thread=single \

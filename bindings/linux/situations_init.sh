@@ -4,7 +4,7 @@
 . /net.sh
 . /watch.sh
 begins
-loads veth dummy sch_htb sch_tbf sch_netem cls_u32 e1000 pktgen
+loads veth dummy sch_htb sch_tbf sch_netem e1000 pktgen
 finds_disk
 connects 1
 for at in a:a0 r:ra r:rb b:b0; do
@@ -41,9 +41,11 @@ removes() {
 
 # says TEXT: waits until pie-watch says this text
 says() {
-    for turn in 1 2 3 4 5 6 7 8 9 10 11 12 13 14 15 16 17 18 19 20; do
+    turn=0
+    while [ $turn -lt 3000 ] && $box kill -0 $watch 2> /dev/null; do
         $box grep -q "$1" /tmp/all.said && return
-        $box sleep 3
+        $box sleep 0.2
+        turn=$((turn + 1))
     done
     echo "FAILED: pie-watch does not say $1"
     $box cat /tmp/all.said
@@ -135,13 +137,6 @@ situation fq_priority
 queues fq_pie limit 60 flows 32 ecn
 words="'skb_priority 131079'" sends 3000 600 4000
 removes
-situation fq_filter
-queues fq_pie limit 60 flows 32 ecn
-tc filter add dev rb parent 2: protocol ip prio 1 u32 match ip sport 1000 0xfff0 flowid 2:9
-tc filter add dev rb parent 2: protocol ip prio 2 u32 match ip sport 1008 0xfff0 action drop
-tc filter add dev rb parent 2: protocol ip prio 3 u32 match ip sport 1000 0xff80 flowid 2:3
-sends 4000 600 4000
-removes
 situation fq_flap
 queues fq_pie limit 300 flows 32 ecn
 sends 2000 600 4000
@@ -189,15 +184,17 @@ done
 ends 0
 
 # a ring that is too small for the resumed queue
-queues pie limit 20000
+queues pie limit 20000 target 100s
 tc class change dev rb parent 1: classid 1:1 htb rate 8kbit
-sends 8000 60 100000 &
-$box sleep 3
+sends 100000 60 3000 &
+sent=$!
+$box sleep 4
 watches small --ring 1 -o /tmp/steps/small.csv rb
-sends 100 60 1000
+$box sleep 2
 ends 2
+$in_queue $box sh -c 'echo stop > /proc/net/pktgen/pgctrl'
 removes
-wait
+wait $sent
 
 # no queue, and a time
 $in_queue /bin/pie-watch --duration 2 -o /tmp/steps/none.csv ra 2> /tmp/none.said || echo "FAILED: pie-watch --duration"
@@ -209,7 +206,12 @@ $box mount -t tmpfs -o size=300k none /tmp/full
 watches full -o /tmp/full/full.csv rb
 queues pie ecn
 sends 3000 600 4000
-until ! $box kill -0 $watch 2> /dev/null; do $box sleep 0.2; done
+turn=0
+while [ $turn -lt 3000 ] && $box kill -0 $watch 2> /dev/null; do
+    $box sleep 0.2
+    turn=$((turn + 1))
+done
+[ $turn -lt 3000 ] || echo "FAILED: pie-watch records on a full disk"
 $box sed "s/^/TOLD full: /" /tmp/full.said
 $box cp /tmp/full/full.csv.partial /tmp/steps/full.csv || echo "FAILED: no file on the full disk"
 watches killed -o /tmp/steps/killed.csv rb

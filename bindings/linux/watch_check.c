@@ -87,7 +87,7 @@ static const struct field kernel_fields[] = {
     {"sk_buff", "next", 8, -1},         {"sk_buff", "cb", 48, -1},        {"sk_buff", "len", 4, -1},     {"sk_buff", "priority", 4, -1},
     {"sk_buff", "hash", 4, -1},         {"sk_buff", "protocol", 2, -1},   {"sk_buff", "network_header", 2, -1}, {"sk_buff", "tail", 4, -1},
     {"sk_buff", "head", 8, -1},         {"sk_buff", "data", 8, -1},       {"sk_buff", "data_len", 4, -1},  {"sk_buff", "mac_len", 2, -1},
-    {"sk_buff_head", "next", 8, -1},    {"tcf_result", "classid", 4, -1}, {"sk_buff", "truesize", 4, -1},   {"net_device", "mtu", 4, -1},  {"net_device", "hard_header_len", 2, -1},
+    {"sk_buff_head", "next", 8, -1},    {"sk_buff", "truesize", 4, -1},   {"net_device", "mtu", 4, -1},  {"net_device", "hard_header_len", 2, -1},
     {"net_device", "ifindex", 4, -1},
 };
 
@@ -104,7 +104,7 @@ static const struct field pie_fields[] = {PIE_FIELDS, {"pie_sched_data", "vars",
 
 static const struct field fq_pie_fields[] = {
     PIE_FIELDS,
-    {"fq_pie_sched_data", "filter_list", 8, -1},  {"fq_pie_sched_data", "flows", 8, -1},        {"fq_pie_sched_data", "p_params", 32, -1},    {"fq_pie_sched_data", "stats", 20, -1},
+    {"fq_pie_sched_data", "flows", 8, -1},        {"fq_pie_sched_data", "p_params", 32, -1},    {"fq_pie_sched_data", "stats", 20, -1},
     {"fq_pie_sched_data", "old_flows", 16, -1},   {"fq_pie_sched_data", "new_flows", 16, -1},   {"fq_pie_sched_data", "ecn_prob", 4, -1},
     {"fq_pie_sched_data", "flows_cnt", 4, -1},    {"fq_pie_sched_data", "flows_cursor", 4, -1}, {"fq_pie_sched_data", "quantum", 4, -1},
     {"fq_pie_sched_data", "memory_limit", 4, -1}, {"fq_pie_sched_data", "memory_usage", 4, -1}, {"fq_pie_sched_data", "overmemory", 4, -1},

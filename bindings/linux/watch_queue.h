@@ -47,7 +47,7 @@ struct queue {
     u32 returned, returned_bytes;
     u16 protocol, network;
     u8 room, early;
-    bool has_header, is_filtered;
+    bool has_header;
     u32 readings;          /* the dequeue in progress */
     u64 stack;             /* an address of the stack at the beginning of the enqueue or dequeue in progress */
     u64 least_word, least_reading; /* the distance on the stack of its calls from there; 0 before the first one */

@@ -19,7 +19,7 @@ static const char columns[] =
     "qid,kind,type,seq,ns,cpu,flow,backlog,size,pktlen,mtu,qlen0,qlen1,bl0,bl1,limit,ret,proto,l3,room,early,nrnd,rnd,enq,nt,t0,t1,t2,hash,prio,truesize,x0,x1,"
     "x2,b_qdelay,b_qdelay_old,b_burst_time,b_dq_tstamp,b_prob,b_accu_prob,b_dq_count,b_avg_dq_rate,b_backlog_old,a_qdelay,a_qdelay_old,a_burst_time,"
     "a_dq_tstamp,a_prob,a_accu_prob,a_dq_count,a_avg_dq_rate,a_backlog_old,target,tupdate,plimit,alpha,beta,ecn,bytemode,dqrate,packets_in,dropped,overlimit,"
-    "ecn_mark,maxq,rq,rqb,drop,filter,moved\n";
+    "ecn_mark,maxq,rq,rqb,drop,moved\n";
 
 /* A row. Fields that a type of row lacks are 0. */
 struct row {
@@ -38,7 +38,7 @@ struct row {
     u64 target;
     u32 tupdate, params_limit, alpha, beta, ecn, bytemode, dq_rate;
     struct watch_stats stats;
-    u32 returned, returned_bytes, is_drop, is_filtered, dropped_returned;
+    u32 returned, returned_bytes, is_drop, dropped_returned;
 };
 
 /* ---- writing */
@@ -115,7 +115,7 @@ static void write_row(struct watch_text *text, const struct text_queue *queue, c
     to = put_number(to, row->target);
     to = put_numbers(to, (u32[]){row->tupdate, row->params_limit, row->alpha, row->beta, row->ecn, row->bytemode, row->dq_rate}, 7);
     to = put_numbers(to, (u32[]){row->stats.packets_in, row->stats.dropped, row->stats.overlimit, row->stats.ecn_mark, row->stats.maxq}, 5);
-    to = put_numbers(to, (u32[]){row->returned, row->returned_bytes, row->is_drop, row->is_filtered, row->dropped_returned}, 5);
+    to = put_numbers(to, (u32[]){row->returned, row->returned_bytes, row->is_drop, row->dropped_returned}, 4);
     to[-1] = '\n';
     fwrite(line, 1, (size_t)(to - line), text->out);
     text->bytes += (u64)(to - line);
@@ -275,7 +275,6 @@ static bool add_enqueue(struct watch_text *text, struct text_queue *queue, const
     row.ns = record->enqueued << 6; /* if the head has none */
     row.returned = record->returned;
     row.returned_bytes = record->returned_bytes;
-    row.is_filtered = (head->bits & WATCH_FILTER) != 0;
     row.hash = record->hash;
     row.priority = record->priority;
     row.truesize = record->truesize;

@@ -194,7 +194,7 @@ def hold_ranges(rng):
         text = advice(f"{rate}bit", f"{trips[0]}ns-{trips[1]}ns", f"{flows[0]}-{flows[1]}")
         (found, words), inside, short = printed(text), [], False
         for trip, number in places(rng, rate, [it / 1e9 for it in trips], flows):
-            if trips[0] <= trip * 1e9 <= trips[1]:
+            if trips[0] <= round(trip * 1e9, 3) <= trips[1]:
                 exact = bode(rate, trip, number)
                 short = short or rate / number * (trip + TARGET / 1e9) < 2 * PACKET_BITS
                 inside += [exact] if exact else []
@@ -322,10 +322,10 @@ def hold_words():
 def main():
     rng = random.Random(1)
     hold_refusals()
-    hold_words()
-    hold_lines(rng)
     hold_margins(rng)
     hold_ranges(rng)
+    hold_words()
+    hold_lines(rng)
     hold_cells()
     finish()
 

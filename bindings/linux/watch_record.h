@@ -41,7 +41,6 @@ enum {
     WATCH_ROOM = 1,      /* enqueue: the packet may be marked, and its network header lies in its first part */
     WATCH_EARLY = 6,     /* enqueue: two bits, the return value of pie_drop_early or WATCH_EARLY_NONE */
     WATCH_RANDOM = 24,   /* enqueue: two bits, the number of random words that were drawn */
-    WATCH_FILTER = 32,   /* enqueue: filters chose the flow */
     WATCH_READINGS = 7,  /* dequeue: three bits, the number of readings of the clock */
     WATCH_HAS_CLOCK = 8, /* dequeue: the record has `at`, since the rate estimator is on */
     WATCH_DROP = 16,     /* dequeue: a change of the limit dropped the packet */

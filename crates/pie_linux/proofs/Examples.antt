@@ -1,18 +1,18 @@
 -- Examples of the definitions: steps that were recorded on Debian 12's kernel 6.1, unmodified. Each theorem computes.
 use Rattle.std.proofs.Common.{◌≡◌, ℕ, ◌-◌, ◌^◌, refl}
-use Rattle.std.specs.Prelude.{◌+◌, ◌*◌, ◌/◌, Bool, true, false, Some, None}
+use Rattle.std.specs.Prelude.{◌+◌, ◌*◌, ◌/◌, Bool, true, false}
 use Rattle.pie_linux.specs.declared.params.LinuxParams.{LinuxParams}
 use Rattle.pie_linux.specs.declared.params.MarkLimit.{MarkLimit}
 use Rattle.pie_linux.specs.declared.params.MarkLimit.TheVariants.{Tenth, Percent}
 use Rattle.pie_linux.specs.declared.state.LinuxState.{LinuxState}
 use Rattle.pie_linux.specs.declared.arrival.LinuxArrival.{LinuxArrival}
 use Rattle.pie_linux.specs.declared.departure.LinuxDeparture.{LinuxDeparture}
-use Rattle.pie_linux.specs.Enqueue.{accu_after, early_cause, enqueue_cause, enqueued, is_markable, is_tag, marked_up_to}
+use Rattle.pie_linux.specs.Enqueue.{accu_after, early_cause, enqueue_cause, enqueued, is_markable, marked_up_to}
 use Rattle.pie_linux.specs.Numbers.{difference_64, full_burst, long_delay, one, scaled, ticks}
-use Rattle.pie_linux.specs.Queue.{flow_backlog, flow_of, is_over_memory, named_flow, next_cursor, own_excess, round_of}
+use Rattle.pie_linux.specs.Queue.{flow_backlog, flow_of, is_over_memory, next_cursor, round_of}
 use Rattle.pie_linux.specs.declared.cause.LinuxCause.TheVariants.{SumAbove, WordBelow}
 use Rattle.pie_linux.specs.declared.cause.Picked.TheVariants.{HighProbability, Marked}
-use Rattle.pie_linux.specs.Departure.{average, departed, elapsed, readings}
+use Rattle.pie_linux.specs.Departure.{average, departed, elapsed}
 use Rattle.pie_linux.specs.Update.{capped, decays, divisor_at, gain_of, next_prob, overflows, raised, raw_step, step_of, stepped, updated}
 
 abbrev params : ℕ → ℕ → ℕ → ℕ → Bool → Bool → Bool → MarkLimit → LinuxParams
@@ -166,25 +166,3 @@ flows = (refl, refl, refl, refl, refl, refl, refl, refl)
 
 averages : (average 0 80 ≡ 80) × (average 15 80 ≡ 24)
 averages = (refl, refl)
-
--- a priority of handle 2: with its class 7 names flow 6; class 0, one above the number of flows, and another handle name none
-named : (named_flow 0x20007 0x20000 64 ≡ Some 6) × (named_flow 0x20040 0x20000 64 ≡ Some 63) × (named_flow 0x20000 0x20000 64 ≡ None)
-    × (named_flow 0x20041 0x20000 64 ≡ None) × (named_flow 0x30007 0x20000 64 ≡ None) × (named_flow 0 0 64 ≡ None)
-named = (refl, refl, refl, refl, refl, refl)
-
--- a limit of 10 with 12 waiting packets: 3 returned ones go first, and then 2 of the queue; 20 returned ones keep the others
-dropped : (own_excess 12 0 10 ≡ 2) × (own_excess 12 3 10 ≡ 2) × (own_excess 12 20 10 ≡ 2) × (own_excess 4 20 10 ≡ 0) × (own_excess 5 3 10 ≡ 0)
-dropped = (refl, refl, refl, refl, refl)
-
--- VLAN tags
-tags : (is_tag 0x8100 ≡ true) × (is_tag 0x88a8 ≡ true) × (is_tag 0x0800 ≡ false)
-tags = (refl, refl, refl)
-
--- readings of the clock: none without the estimator; a short queue; a measurement begins; it ends and the next one begins; it ends
-clocks : (readings (params 234375 1000 2 20 false false false Tenth) (state 0 0 0 0 0 0 (2 ^ 64 - 1) 0 0) (departure 20000 1000 0 7 8 9) ≡ 0)
-    × (readings (params 234375 1000 2 20 false false true Tenth) (state 0 0 0 0 0 0 (2 ^ 64 - 1) 0 0) (departure 16383 1000 0 7 0 0) ≡ 1)
-    × (readings (params 234375 1000 2 20 false false true Tenth) (state 0 0 0 0 0 0 (2 ^ 64 - 1) 0 0) (departure 16384 1000 0 7 8 0) ≡ 2)
-    × (readings (params 234375 1000 2 20 false false true Tenth) (state 0 0 0 5 0 0 16000 0 0) (departure 16384 384 0 7 8 0) ≡ 2)
-    × (readings (params 234375 1000 2 20 false false true Tenth) (state 0 0 0 5 0 0 16000 0 0) (departure 16383 384 0 7 0 0) ≡ 1)
-    × (readings (params 234375 1000 2 20 false false true Tenth) (state 0 0 0 7 0 0 16000 0 0) (departure 16384 384 0 7 0 0) ≡ 1)
-clocks = (refl, refl, refl, refl, refl, refl)

@@ -37,16 +37,17 @@ fn is_within(selection: &Selection, moment: u64) -> bool
 }
 
 /// Ends a page, and returns the first error of the explanations, of the text after the last one, and of the writer.
-fn finish<W: Write>(
+fn finish<W: Write, P: Report>(
     outcome: Result<StepsExplained, StepsFault>,
     ended: Result<(), AllocError>,
     selection: &Selection,
+    report: &P,
     page: &mut Page,
     writer: &mut W,
 ) -> Result<StepsExplained, StepsFault>
-    ensures { (whole : List Explained → List ℕ → Type 0) (before : Option (List ℕ))
-        → OnOk outcome (OnOk ended (WritesReport whole selection.now before (append_known (W.contents writer.old) page.old)))
-        → OnOk result (WritesReport whole selection.now before (W.contents writer.new)) }
+    ensures { (before : Option (List ℕ))
+        → OnOk outcome (OnOk ended (WritesReport (P.whole report.now) selection.now before (append_known (W.contents writer.old) page.old)))
+        → OnOk result (WritesReport (P.whole report.now) selection.now before (W.contents writer.new)) }
 {
     let written = page.finish(writer);
     match (outcome, ended, written) {
@@ -171,7 +172,7 @@ fn write_report<R: Read + Drop, W: Write, P: Report>(
 {
     let outcome = report_steps(steps, selection, report, state, page, writer);
     let ended = report.end(state, page);
-    finish(outcome, ended, selection, page, writer)
+    finish(outcome, ended, selection, report, page, writer)
 }
 
 /// Writes a report about the selected events of a text of recorded steps, up to the first fault and the first step that
@@ -292,5 +293,8 @@ pub fn explain<R: Read + Drop, W: Write>(
         Err(why) => return Err(why),
     };
     let outcome = explain_steps(&mut steps, &selection, &mut page, output);
-    finish(outcome, Ok(()), &selection, &mut page, output)
+    match (outcome, page.finish(output)) {
+        (Ok(_), Err(why)) => Err(StepsFault::Trace(why)),
+        _ => outcome,
+    }
 }

@@ -6,7 +6,7 @@
 #
 # ROOT      has kernel/vmlinuz and kernel/modules, as packages.sh unpacks them; /var/cache/juniperbowls/debian-bpf by default
 # PIE       the program that audits, crates/pie/out/pie by default
-# needs: program
+# needs: program, a request
 #
 # usage: [PIE=program] [SEED=1] [KEEP=folder for all files] bindings/bpf/boot.sh [ROOT]
 set -eu

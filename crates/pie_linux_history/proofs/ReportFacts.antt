@@ -72,6 +72,20 @@ reports-ended {so_far} {selection} {before} {page} {page_then} whole out some gr
   appends-more before out page page_then some.1.text grows.more some.1.written grows.grown,
 )
 
+-- the page was written out: the output has the same bytes
+appends-kept : (before out later : Option (List ℕ)) (text : List ℕ) → Appends before out text → Appends out later [] → Appends before later text
+appends-kept None out later text h moved = tt
+appends-kept (Some xs) None later text h moved = absurd h
+appends-kept (Some xs) (Some ys) None text h moved = absurd moved
+appends-kept (Some xs) (Some ys) (Some zs) text h moved = rw (moved, append-nil ys, h) refl
+
+pub reports-kept : {shows : List Explained → Type 0} {so_far : List Explained → List ℕ → Type 0} {selection : Selection} {before out later : Option (List ℕ)}
+    → ReportsSome shows so_far selection before out → Appends out later [] → ReportsSome shows so_far selection before later
+reports-kept {before} {out} {later} some moved = (
+  some.0,
+  record { shown = some.1.shown; text = some.1.text; says = some.1.says; written = appends-kept before out later some.1.text some.1.written moved },
+)
+
 -- a result has what follows from what it has
 pub on-ok : {A E : Type 0} {S T : Type 0} (result : Result A E) → (S → T) → OnOk result S → OnOk result T
 on-ok (Ok value) follows has = follows has

@@ -1,11 +1,13 @@
 #!/usr/bin/env python3
-"""Runs each command of README.md, docs/LIBRARY.md and the pages of bindings/ and examples/ in a fresh copy of the repository, and
-follows each link of every page.
+"""Runs each command of README.md, of the pages for users in docs/ and of the pages of bindings/ and examples/ in a fresh copy of the
+repository, and follows each link of every page.
 
 An indented block is one bash script. It starts at the top of the copy, with the files that earlier blocks of its
 page left. If a block begins with `$ `, each line with `$ ` is a script of its own, and the lines below it are its
 expected output. A block that begins with a comment of a file's name, such as /* queue.c */, is that file. Text in
 fences is not run.
+
+If a page speaks of files that its reader has, PREPARED has the script that makes them.
 
 The copy contains the built program and library, the files that make builds over them in bindings/dpdk and
 bindings/ns3, and stand-ins for `rt` and the gate, which the gate tries anyway: `rt try` and `rt run` run the built
@@ -29,7 +31,21 @@ from checks import NAME, ROOT, check, finish  # noqa: E402
 BUILT = ["crates/pie/out/pie", "crates/pie_c/out/libpie_c.a", "crates/pie_link_c/out/libpie_link_c.a"]
 # folders in which make takes long: built once here for their check.sh (with the same lock) and for the copies
 MADE = ["bindings/dpdk", "bindings/ns3"]
-RUN = ["README.md", "docs/LIBRARY.md", "bindings/**/*.md", "examples/**/*.md"]
+RUN = ["README.md", *(f"docs/{name}.md" for name in ("FORMATS", "LIBRARY", "OPERATING", "PARAMETERS")), "bindings/**/*.md", "examples/**/*.md"]
+# the histories of a page's reader: one that differs, one that is cut off, a day, and an archive from which a segment is missing and in which the
+# state of another one is changed
+PREPARED = {"docs/OPERATING.md": r"""
+mkdir histories archive
+for name in link001 link042 link077; do cp examples/overload.history "histories/$name.history"; done
+sed -i '2s/enqueue$/early/' histories/link042.history
+sed -i '$s/,not$//' histories/link077.history
+begin=$(date -d 2026-11-24T19:59:59.5Z +%s%N)
+sed "1c open3,1,rate,derandomized,capped,unscaled,rolling,0,1000,1000,1000000\nclock,0,$begin" examples/overload.trace | pie run > day.history
+python3 bench/trace.py 12000 1 mixed | pie run > month.history
+pie cut --every 1000 month.history | (cd archive && csplit -z -s -n 4 -f month. - '/^resume,/' '{*}')
+rm archive/month.0006
+awk -F, -v OFS=, 'NR == 1 { $NF++ } 1' archive/month.0011 > changed && mv changed archive/month.0011
+"""}
 LINKED = [*RUN, "*.md", "docs/*.md", "bench/*.md"]
 LINK = re.compile(r"\]\(([^)\s]+)\)")
 # a stand-in for rt, in the folder of a crate whose program or library was built
@@ -115,7 +131,7 @@ def fresh(copy, page, real):
     # Debian's modules are those of its own Python
     if not (tools / "python3").exists() and not has_numpy("python3") and has_numpy("/usr/bin/python3"):
         (tools / "python3").symlink_to("/usr/bin/python3")
-    words["PATH"] = f"{tools}:{copy}/crates/pie/out:{words['PATH']}"
+    words["PATH"] = f"{tools}:{copy}/crates/pie/out:{copy}/report:{words['PATH']}"
     return words
 
 
@@ -183,6 +199,8 @@ def main():
                 continue
             copy = Path(work) / "repository"
             environment = fresh(copy, page, real)
+            if script := PREPARED.get(str(page.relative_to(ROOT))):
+                subprocess.run(["bash", "-eo", "pipefail", "-c", script], cwd=copy, env=environment, check=True)
             run_page(page, copy, environment)
             shutil.rmtree(copy)
     finish()

@@ -13,6 +13,7 @@ import math
 import re
 import sys
 import textwrap
+from collections import Counter
 from pathlib import Path
 from statistics import fmean, median, stdev
 from types import SimpleNamespace
@@ -27,7 +28,7 @@ from scenarios import FIVE, SAME_BLOCKS, SCENARIOS, TWICE, queues_of  # noqa: E4
 
 # numbers of the sources that are settings of a scenario, a test, or RFC 8033: decimal numbers, and numbers with a unit
 SETTINGS = {"0.5", "0.85", "1.85", "1.5", "3.37", "4.4", "6.1", "12.5", "17.5", *(f"{it} ms" for it in (5, 10, 12.5, 15, 17.5, 20, 30, 40, 100, 200, 500)),
-            *(f"{it} s" for it in (1.5, 2, 4, 8, 10, 14, 40, 60)), *(f"{it} Mbit/s" for it in (0.5, 2, 10, 12)), *(f"{it} bytes" for it in (64, 1500, 1514, 16384)),
+            *(f"{it} s" for it in (1.5, 2, 4, 8, 10, 14, 40, 60)), *(f"{it} Mbit/s" for it in (0.5, 2, 10, 12)), *(f"{it} bytes" for it in (64, 1500, 1514, 16384, 262144)),
             "4 µs", "200 packets", *(f"{it} %" for it in (1, 5, 10, 80, 84, 90, 100))}
 UNITS = {"goodput": "Mbit/s"}
 DIGITS = {"goodput": 2, "jain": 2, "early": 0, "tail": 0, "marks": 0, "lost": 0, "probes": 0}
@@ -92,8 +93,8 @@ class Runs:
         return [float(row[field]) for row in self.common(scenario, queue, part, blocks).values() if row[field]]
 
 
-# scenarios whose table has runs of a version of its own, and those with the same traffic
-LIMITS = {"limits": "four", "farlimits": "far", "twolimits": "two", "slowlimits": "slow"}
+# scenarios of PLAN.md's section Limits, which have runs of a version of their own, and those with the same traffic
+LIMITS = {"limits": "four", "burstlimits": "burst", "farlimits": "far", "gigabitlimits": "gigabit", "twolimits": "two", "slowlimits": "slow"}
 STORED = read("bench/uml/results.csv")
 ROWS = [row for row in STORED if row["scenario"] not in LIMITS]
 RUNS = Runs(ROWS)
@@ -222,8 +223,18 @@ def margin_of(scenario, one, other, field, part, theirs):
     return wait_margin() if is_fixed else wait_share(scenario) * fmean(theirs)
 
 
-@functools.cache
+PRINTED = {}        # the comparisons that the pages print
+IS_PRINTING = []    # the sources that are being evaluated
+
+
 def test(scenario, one, other, field, part="after", other_scenario=None):
+    if IS_PRINTING:
+        PRINTED[scenario, field, RUNS.part(scenario, part), one, other, other_scenario] = part
+    return judged(scenario, one, other, field, part, other_scenario)
+
+
+@functools.cache
+def judged(scenario, one, other, field, part, other_scenario):
     ours, theirs = difference_of(scenario, one, other, field, part, other_scenario)
     return compare_pairs(ours, theirs, margin_of(scenario, one, other, field, part, theirs)) if len(ours) > 1 else None
 
@@ -262,6 +273,7 @@ def difference(scenario, one, other, field, part="after", other_scenario=None, d
 
 def change(scenario, one, other, part="whole"):
     """Returns the paired difference of the goodput in per cent of the other queue's."""
+    test(scenario, one, other, "goodput", part)
     ours, theirs = difference_of(scenario, one, other, "goodput", part)
     return f"{shown(100 * (fmean(ours) / fmean(theirs) - 1), digits=1)} %"
 
@@ -271,33 +283,130 @@ def add(scenario, queue, *fields, part="after"):
     return shown(sum(fmean(RUNS.common_values(scenario, queue, field, part)) for field in fields), "early")
 
 
-def limits_text():
-    """Returns the sentence about limits between 10 and 200 ms."""
-    if not LIMIT_ROWS:
-        return "Limits between 10 and 200 ms were not run, and no limit below 200 ms above 10 Mbit/s."
-    def most(part):
-        goodputs = [fmean(LIMIT_RUNS.common_values("limits", queue, "goodput", part)) for queue in ("limit30", "limit50", "limit100", "limit200")]
-        return max(goodput - goodputs[-1] for goodput in goodputs), max(abs(goodput - goodputs[-1]) for goodput in goodputs)
+# The criterion of PLAN.md: the shorter limits of each question, with the queue that has each in each scenario. The first one is in force
+RULE = {"200 ms": "limit200", "100 ms": "limit100", "50 ms": "limit50", "25 ms": "limit25"}
+CANDIDATES = {
+    "the rule": {name: dict.fromkeys(("limits", "burstlimits", "farlimits", "gigabitlimits"), queue) for name, queue in RULE.items()},
+    "the least limit": {"48448 bytes": {"twolimits": "limit200", "slowlimits": "limit775"}, "25000 bytes": {"twolimits": "limit100", "slowlimits": "limit400"},
+                        "12500 bytes": {"twolimits": "limit50", "slowlimits": "limit200"}, "6250 bytes": {"twolimits": "limit25", "slowlimits": "limit100"}}}
+LIMIT_MEASURES = [("goodput", "whole"), ("wait", "start"), ("wait99", "start"), ("wait", "after"), ("wait99", "after")]
+LIMIT_MARGINS = {"goodput": (0.01, 0), "bursts": (0.01, 0), "wait": (0.1, 1), "wait99": (0.1, 2)}     # a share, and the least margin in ms
+LIMIT_WORDS = {"goodput": "goodput", "bursts": "goodput of the bursts", "wait": "mean wait", "wait99": "99th percentile"}
 
-    return (f"Limits of 30 to 100 ms change the later goodput by at most {shown(most('after')[1], digits=3)} Mbit/s. In the start they carry up to "
-            f"{shown(most('start')[0], digits=3)} Mbit/s more, with shorter waits and tail drops ([table](#limits)).")
+
+def present_limit(name):
+    """Returns the queue with the limit in force: the first of the scenario's question."""
+    return next(it[name] for question in CANDIDATES.values() for it in question.values() if name in it)
+
+
+def limit_queues(name):
+    """Returns the limits of the plan that have runs in a scenario."""
+    return [queue for queue in SCENARIOS[name]["queues"] if LIMIT_RUNS.rows.get((name, queue))]
+
+
+def limit_measures(name):
+    """Returns the measures of a scenario: one that is not divided has no later part."""
+    divided = len(LIMIT_RUNS.parts(name)) > 1
+    return [it for it in LIMIT_MEASURES if divided or it[1] != "after"] + [("bursts", "whole")] * (name == "burstlimits")
+
+
+def limit_values(name, queue, field, part):
+    if field == "bursts":
+        return {block: float(row["groups"].split("/")[1]) for block, row in LIMIT_RUNS.common(name, queue, part).items()}
+    return {block: float(row[field]) for block, row in LIMIT_RUNS.common(name, queue, part).items()}
+
+
+@functools.cache
+def limit_test(name, queue, field, part):
+    """Compares a limit with the one in force. Returns the difference, its interval, the verdict and the margin."""
+    present = present_limit(name)
+    ours, theirs = (list(limit_values(name, it, field, part).values()) for it in (queue, present))
+    share_of, least_margin = LIMIT_MARGINS[field]
+    margin = max(share_of * fmean(theirs), least_margin)
+    difference, least, most, verdict, _ = compare_pairs(ours, theirs, margin)
+    is_good = (difference > 0) == (field in ("goodput", "bursts"))
+    verdict = ("better" if is_good else "worse") if verdict == "different" else verdict
+    return difference, least, most, verdict, margin
+
+
+def limit_faults(limits):
+    """Returns the intervals that reach beyond the margin to the worse side, in words, and the number of scenarios whose 99th percentile of the waits in
+    the start is `better`, for the queue of each scenario."""
+    faults, shorter = [], 0
+    for name, queue in limits.items():
+        for field, part in limit_measures(name):
+            _, least, most, verdict, margin = limit_test(name, queue, field, part)
+            if least < -margin if field in ("goodput", "bursts") else most > margin:
+                when = "" if part == "whole" else " in the start" if part == "start" else " later"
+                faults.append(f"{LIMIT_WORDS[field]}{when} of `{LIMITS[name]}` `{verdict}`")
+        shorter += limit_test(name, queue, "wait99", "start")[3] == "better"
+    return faults, shorter
+
+
+def not_run_limits(question):
+    """Returns the scenarios of a question without runs of each limit."""
+    return sorted({name for limits in CANDIDATES[question].values() for name, queue in limits.items() if queue not in limit_queues(name)})
+
+
+def chosen_limit(question):
+    """Returns the limit that the criterion gives, and for each shorter one what it lacks, in words. The present limit stays if a scenario was not run."""
+    (present, _), *others = CANDIDATES[question].items()
+    if not_run_limits(question):
+        return present, []
+    chosen, lacks = present, []
+    for limit, queues in others:
+        faults, shorter = limit_faults(queues)
+        if not faults and 2 * shorter >= len(queues):
+            chosen = limit if chosen == present else chosen
+            continue
+        few = [f"a shorter 99th percentile in {shorter} of {len(queues)} starts only"] if 2 * shorter < len(queues) else []
+        lacks.append(f"{limit} ({', '.join([*faults, *few])})")
+    return chosen, lacks
+
+
+def limits_text():
+    """Returns the outcome of the criterion of PLAN.md, in words."""
+    parts = []
+    for question, limits in CANDIDATES.items():
+        present, (chosen, _) = next(iter(limits)), chosen_limit(question)
+        if lacking := not_run_limits(question):
+            parts.append(f"for {question} not all runs of {', '.join(f'`{LIMITS[name]}`' for name in lacking)} exist, so {present} stay")
+        else:
+            parts.append(f"for {question} it gives {chosen}{'' if chosen == present else f', not {present}'}")
+    return f"By the [criterion](../bench/uml/PLAN.md#limits) of the [runs](#limits), {'; '.join(parts)}."
+
+
+# versions that no commit of this repository contains
+LOST = {"7a0deebb"}
 
 
 def limits_section():
-    """Returns the section of PIE here with other limits, whose runs have one version; nothing if there are none."""
-    if not LIMIT_ROWS:
-        return ""
-    lines = []
-    for name, base in LIMITS.items():
-        for queue in SCENARIOS[name]["queues"]:
-            if LIMIT_RUNS.blocks(name, queue):
-                cells = [value(name, queue, field, part, digits=digits, runs=LIMIT_RUNS) for part in ("start", "after")
-                         for field, digits in (("goodput", 3), ("probe", 1), ("early", 0), ("tail", 0))]
-                lines.append([f"`{base}`", queue.removeprefix("limit"), str(len(LIMIT_RUNS.common_blocks(name))), *cells])
-    heads = [f"{head}, {part}" for part in ("start", "later") for head in ("goodput", "wait", "early drops", "tail drops")]
-    made = ", ".join(f"{name} ({version})" for name, version in zip(("network.py", "traffic.c", "examples/link", "dist"), version_of(LIMIT_ROWS, 4)))
-    return ("## Limits\n\nPIE here with other limits in ms, in the blocks of the scenario that is named. All of these runs have one version: "
-            f"{made}.\n\n" + table(["traffic of", "limit", "blocks", *heads], lines))
+    """Returns the section of PIE here with other limits. The runs of a scenario have one version."""
+    lines, made = [], []
+    for name in (name for name in LIMITS if limit_queues(name)):
+        present = present_limit(name)
+        for queue in limit_queues(name):
+            cells = []
+            for field, part in [*LIMIT_MEASURES, ("bursts", "whole")]:
+                if (field, part) not in limit_measures(name):
+                    cells.append("")
+                    continue
+                digits = (1 if name == "gigabitlimits" else 3) if field in ("goodput", "bursts") else 1
+                text = shown(fmean(limit_values(name, queue, field, part).values()), digits=digits)
+                cells.append(text if queue == present else f"{text}: {plus_minus(limit_test(name, queue, field, part), field, digits)}")
+            drops = [value(name, queue, "tail", part, runs=LIMIT_RUNS) for part in ("start", "after")[:len(split_of(LIMIT_RUNS, name))]]
+            lines.append([f"`{LIMITS[name]}`", queue.removeprefix("limit"), str(len(LIMIT_RUNS.common_blocks(name))), *cells, "/".join(drops)])
+        versions_of = version_of([row for row in LIMIT_ROWS if row["scenario"] == name], 4)
+        made.append(f"`{LIMITS[name]}`: " + ", ".join(
+            f"{file} {version}{' (in no commit)' * (version in LOST)}" for file, version in zip(("network.py", "traffic.c", "examples/link", "dist"), versions_of)))
+    heads = ["traffic of", "limit", "blocks", "goodput", "mean wait, start", "99th percentile, start", "mean wait, later", "99th percentile, later",
+             "goodput of the bursts", "tail drops, start/later"]
+    lacks = [f"{question}: {'; '.join(found)}" for question in CANDIDATES if (found := chosen_limit(question)[1])]
+    margins = ", ".join(f"{100 * share_of:.0f} % of the {LIMIT_WORDS[field]}{f' and at least {least} ms' * bool(least)}"
+                        for field, (share_of, least) in LIMIT_MARGINS.items() if field != "bursts")
+    return ("## Limits\n\nPIE here with other limits in ms. The [plan](../bench/uml/PLAN.md#limits) has verdicts, margins and criterion: "
+            f"{margins}. Waits are those of packets. After a colon is the difference to the present limit. The runs of a scenario have one version "
+            f"({'; '.join(made)}).\n\n" + table(heads, lines) + (f"\n\nWhat the shorter limits lack: {'. '.join(lacks)}." if lacks else ""))
 
 
 def verdict_sentence(scenario):
@@ -352,24 +461,39 @@ def version_of(rows, count):
     return found.pop()
 
 
+def key_of(row):
+    return row["scenario"], row["queue"], row["block"]
+
+
 def versions():
     """Returns the number of runs, and the version of network.py and traffic.c that made them, in words. The table of limits may have another."""
     network, traffic = version_of(ROWS, 2)
     made = {(row["scenario"], row["queue"], row["block"]) for row in ROWS}
-    but = ", without those of [Limits](../../docs/RESULTS.md#limits)," if LIMIT_ROWS else ""
-    return f"All {len(made)} runs{but} have one version of network.py ({network}) and traffic.c ({traffic})."
+    others = Counter(tuple(row["version"].split(".")[2:4]) for row in {key_of(row): row for row in ROWS}.values())
+    several = len(queues := {(row["scenario"], row["queue"]) for row in ROWS}) - len(
+        [it for it in queues if len({row["version"] for row in ROWS if (row["scenario"], row["queue"]) == it}) == 1])
+    pairs = ", ".join(f"{link}/{dist} {count}" for (link, dist), count in others.most_common())
+    return (f"All {len(made)} runs, without those of [Limits](../../docs/RESULTS.md#limits), have one version of network.py ({network}) and traffic.c "
+            f"({traffic}). **They mix {len(others)} versions of examples/link and dist/** ({pairs} runs); {several} of {len(queues)} queues of a scenario have "
+            "runs of several versions.")
+
+
+def mixed_versions():
+    """Returns the number of versions of the link and of dist/ that the runs mix, in words."""
+    found = {tuple(row["version"].split(".")[2:4]) for row in ROWS}
+    return (f"The runs without those of [Limits](#limits) mix {len(found)} versions of the link and of dist/ "
+            "([which](../bench/uml/README.md#how-it-was-measured)).")
 
 
 def not_run():
     """Names the scenarios that have no stored run."""
-    found = [f"{it['words']} (`{name}`)" for name, it in SCENARIOS.items()
-             if not (was_run(name) or any(row["scenario"] == name for row in LIMIT_ROWS))]
+    found = [f"{it['words']} (`{name}`)" for name, it in SCENARIOS.items() if not was_run(name) and name not in LIMITS]
     return f"The following scenarios are defined, but have no stored run: {'; '.join(found)}." if found else ""
 
 
-def split_parts(scenario):
+def split_of(runs, scenario):
     """Returns the parts without the whole."""
-    parts = RUNS.parts(scenario)
+    parts = runs.parts(scenario)
     whole = (min(begin for begin, _ in parts), max(to for _, to in parts))
     return [it for it in parts if it != whole or len(parts) == 1]
 
@@ -379,7 +503,7 @@ def pairs_of(one="stamp", other="pie"):
     for name in SCENARIOS:
         if RUNS.rows.get((name, one)) and RUNS.rows.get((name, other)):
             yield name, "goodput", "whole", RUNS.part(name, "whole")
-            for part in split_parts(name):
+            for part in split_of(RUNS, name):
                 yield name, "probe", f"{part[0]:g}-{part[1]:g}", part
 
 
@@ -522,17 +646,41 @@ def repeats_count():
             f"that the verdicts alone say little.")
 
 
+MEASURES = {"goodput": "goodput in Mbit/s", "probe": "wait in ms", "wait": "packets' wait in ms", "wait99": "99th percentile of packets' waits in ms",
+            "bursts": "goodput of the bursts in Mbit/s", "link_mbit": "rate of the link in Mbit/s", "wait_mean_ms": "packets' wait in ms"}
+
+
 @functools.cache
 def comparisons():
-    """Returns the rows of docs/comparisons.csv: PIE here beside Linux's, tail drop beside pfifo, and both PIEs beside themselves."""
+    """Returns the rows of docs/comparisons.csv: each comparison that a page prints or counts."""
+    for source in SOURCES.values():
+        page(source)
+    for pair in PAIRS:
+        for name, field, part, bounds in pairs_of(*pair):
+            PRINTED.setdefault((name, field, bounds, *pair, None), part)
     lines = [["scenario", "from", "to", "measure", "queue", "beside", "blocks", "difference", "least", "most", "margin", "verdict"]]
-    for one, other in PAIRS:
-        for name, field, part, bounds in pairs_of(one, other):
-            found, theirs = test(name, one, other, field, part), difference_of(name, one, other, field, part)[1]
-            if found:
-                lines.append([name, *bounds, field, one, other, len(theirs), *found[:3], margin_of(name, one, other, field, part, theirs), found[3]])
-    measures = {"goodput": "goodput in Mbit/s", "probe": "wait in ms"}
-    return "".join(",".join(measures.get(it, it) if isinstance(it, str) else f"{it:g}" if isinstance(it, int) or it == int(it) and abs(it) < 1e6
+    for (name, field, bounds, one, other, other_name), part in PRINTED.items():
+        found, theirs = judged(name, one, other, field, part, other_name), difference_of(name, one, other, field, part, other_name)[1]
+        if found:
+            beside_it = f"{other} of {other_name}" if other_name else other
+            lines.append([name, *bounds, field, one, beside_it, len(theirs), *found[:3], margin_of(name, one, other, field, part, theirs), found[3]])
+    for name, part, most, least, found, margin, blocks in extremes():
+        lines.append([name, *RUNS.part(name, part), "goodput", most, least, blocks, *found[:3], margin, found[3]])
+    for name in LIMITS:
+        for queue in (it for it in limit_queues(name) if it != present_limit(name)):
+            for field, part in limit_measures(name):
+                found = limit_test(name, queue, field, part)
+                blocks = len(limit_values(name, queue, field, part))
+                lines.append([name, *LIMIT_RUNS.part(name, part), field, queue, present_limit(name), blocks, *found[:3], found[4], found[3]])
+    for mbit, flows, ecn in sorted({(row["mbit"], row["flows"], row["ecn"]) for row in NS3}, key=lambda it: (int(it[0]), int(it[1]), it[2])):
+        for queue in NS3_OTHERS:
+            for field in ("link_mbit", "wait_mean_ms"):
+                if compared := ns3_compare(mbit, flows, ecn, queue, field):
+                    one, other, found = compared
+                    margin = (NS3_MARGIN if field == "link_mbit" else wait_share()) * fmean(other)
+                    lines.append([f"ns-3 {mbit} Mbit/s {flows} flows{' ECN' * (ecn == '1')}", 10, 60, field, "recorded-stamp", queue,
+                                  min(len(one), len(other)), *found[:3], margin, found[3]])
+    return "".join(",".join(MEASURES.get(it, it) if isinstance(it, str) else f"{it:g}" if isinstance(it, int) or it == int(it) and abs(it) < 1e6
                             else shown(it, "", 4) for it in line) + "\n" for line in lines)
 
 
@@ -555,8 +703,8 @@ def control_table():
 
 @functools.cache
 def extremes():
-    """Returns for each scenario the verdict of its reference queues with the greatest and the least mean goodput, if they differ by more than those of
-    `four`, so that they give the margin."""
+    """Returns for each scenario the comparison of its reference queues with the greatest and the least mean goodput, if they differ by more than those
+    of `four`, so that they give the margin; with the margin and the number of blocks."""
     found, queues = [], references("stamp", "pie")
     for name, field, part, _ in pairs_of("stamp", "pie"):
         is_own = field == "goodput" and reference_scenario(name, "stamp", "pie") == name
@@ -564,13 +712,14 @@ def extremes():
             means = means_of(name, queues, "goodput", part)
             most, least = queues[means.index(max(means))], queues[means.index(min(means))]
             ours, theirs = difference_of(name, most, least, "goodput", part)
-            found.append((name, part, most, least, compare_pairs(ours, theirs, (max(means) - min(means)) / 2)[3]))
+            margin = (max(means) - min(means)) / 2
+            found.append((name, part, most, least, compare_pairs(ours, theirs, margin), margin, len(ours)))
     return found
 
 
 def extremes_count():
     """Returns the number of parts in which the reference queues with the greatest and the least goodput are found to differ, in words."""
-    return f"{sum(it[-1] == 'different' for it in extremes())} of {len(extremes())}"
+    return f"{sum(it[4][3] == 'different' for it in extremes())} of {len(extremes())}"
 
 
 def base_text():
@@ -911,7 +1060,9 @@ def wrapped(block):
 @functools.cache
 def page(source="docs/RESULTS.in"):
     text = (ROOT / source).read_text()
+    IS_PRINTING.append(source)
     text = re.sub(r"\{\{(.*?)\}\}", lambda found: str(eval(found[1], globals())), text, flags=re.S)  # noqa: S307 (its own page)
+    IS_PRINTING.pop()
     return "\n\n".join(wrapped(block) for block in text.rstrip("\n").split("\n\n")) + "\n"
 
 

@@ -26,6 +26,8 @@ import shlex
 
 # the queues of RFC 7928's suite: this link's PIE, and the kernel's pie, fq_codel, cake and pfifo
 FIVE = "stamp,pie,fq_codel:4,cake:4,pfifo:4"
+# this link's PIE with the limits of PLAN.md
+LIMITS = "limit25,limit50,limit100,limit200"
 
 # name, section of RFC 7928, words, queues, blocks, options; the most important ones come first
 TABLE = [
@@ -40,11 +42,13 @@ TABLE = [
     ("far", "6", "4 CUBIC, 100 ms", f"{FIVE},half:12,wide:8", 12, "--flows 4:cubic:100ms"),
     ("udp", "5.3", "4 CUBIC, UDP of 12 Mbit/s", FIVE, 14, "--flows 4:cubic:20ms 1:udp=12mbit:20ms"),
     ("choices", "", "4 CUBIC", "half,rate,pie-rate", 4, ""),
-    ("limits", "", "4 CUBIC, other limits", "limit15,limit20,limit30,limit50,limit100,limit200", 8, ""),
-    ("farlimits", "", "4 CUBIC, 100 ms, other limits", "limit20,limit50,limit100,limit200", 8, "--flows 4:cubic:100ms"),
-    ("twolimits", "", "2 Mbit/s, 4 CUBIC, other limits", "limit50,limit100,limit200,limit1049", 8, "--rate 2mbit --limit 5s --seconds 25 --from 5"),
-    ("slowlimits", "", "0.5 Mbit/s, 4 CUBIC, other limits", "limit200,limit400,limit775,limit4194", 8,
-     "--rate 500kbit --limit 5s --seconds 40 --from 10"),
+    ("limits", "", "4 CUBIC, other limits", LIMITS, 12, "--limit 1s"),
+    ("farlimits", "", "4 CUBIC, 100 ms, other limits", LIMITS, 20, "--limit 1s --flows 4:cubic:100ms"),
+    ("burstlimits", "", "1 CUBIC, bursts of 40 packets, other limits", LIMITS, 12, "--limit 1s --flows 1:cubic:20ms 1:burst=40x1s:20ms"),
+    ("gigabitlimits", "", "1 Gbit/s, 16 CUBIC, other limits", LIMITS, 4,
+     "--rate 1gbit --limit 500ms --seconds 2 --from 0 --probe 10ms --flows 16:cubic:20ms"),
+    ("twolimits", "", "2 Mbit/s, 4 CUBIC, other limits", LIMITS, 12, "--rate 2mbit --limit 5s --seconds 25 --from 5"),
+    ("slowlimits", "", "0.5 Mbit/s, 4 CUBIC, other limits", f"{LIMITS},limit400,limit775", 12, "--rate 500kbit --limit 5s --seconds 40 --from 10"),
     ("hundred", "8", "100 CUBIC", FIVE, 16, "--flows 100:cubic:20ms"),
     ("step", "8.2.6", "10, 2 and 10 Mbit/s, 4 CUBIC", f"{FIVE},rate:4,pie-rate:4", 10, "--rate 10mbit,8s:2mbit,18s:10mbit --seconds 32 --from 0"),
     ("probe20", "", "4 CUBIC, a probe each 20 ms", "stamp,fq_codel:4", 37, "--probe 20ms"),
@@ -82,7 +86,7 @@ TABLE = [
 # queues that run each block twice
 TWICE = ["stamp", "pie"]
 # scenarios that get the blocks of another
-SAME_BLOCKS = {"choices": "four", "limits": "four", "farlimits": "far", "twolimits": "two", "slowlimits": "slow", "probe20": "four", "probe200": "four",
+SAME_BLOCKS = {"choices": "four", "limits": "four", "farlimits": "far", "burstlimits": "burst", "gigabitlimits": "gigabit", "twolimits": "two", "slowlimits": "slow", "probe20": "four", "probe200": "four",
                "hundred20": "hundred", "hundred200": "hundred", "bucket": "two"}
 
 

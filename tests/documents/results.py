@@ -57,11 +57,22 @@ for name, it in results.SCENARIOS.items():
         found = float(cell.split("/")[0]) if cell else None
         check((wanted is None) == (found is None) and (wanted is None or abs(wanted - found) <= (0.0051 if wanted < 100 else 0.051)),
               f"{name}: the goodput of {queue} is {found} on the page, and {wanted} in the common blocks")
-for line in page.splitlines():
+for line in re.sub(r"^## Limits.*?(?=^## )", "", page, flags=re.M | re.S).splitlines():     # (its margins are flat, and stated once)
     if "±" in line:
         check(len(re.findall(r" same \([\d.]+ %\)", line)) == len(re.findall(r" same\b", line)), f"a difference is `same` without its margin: {line}")
 check(len(re.findall(r", `same` \(margin", " ".join(page.split()))) == len(re.findall(r"\) (?:ms|Mbit/s), `same`", " ".join(page.split()))),
       "a sentence has a difference that is `same` without its margin")
+
+
+# each printed difference is a row of comparisons.csv
+listed = [(float(row["difference"]), row["verdict"]) for row in results.read("docs/comparisons.csv")]
+VERDICT = "(same|different|open|better|worse)"
+printed = [found for source in results.SOURCES for found in re.findall(rf"(-?[\d.]+)(?:±[\d.]+ | \([^()]* to [^()]*\) (?:ms|Mbit/s), `){VERDICT}\b",
+                                                                         " ".join((ROOT / source).read_text().split()))]
+check(len(printed) > 120, f"only {len(printed)} comparisons were found on the pages")
+for text, verdict in printed:
+    half = 0.51 * 10 ** -len(text.partition(".")[2])
+    check(any(abs(float(text) - number) <= half and verdict == it for number, it in listed), f"comparisons.csv has no difference {text} that is {verdict}")
 
 
 for name, one, other, field, part, it in results.equal_queues():

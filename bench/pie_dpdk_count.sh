@@ -2,10 +2,12 @@
 # Counts the instructions of a packet that is enqueued and dequeued in bursts of 32, by valgrind: through DPDK's rte_pie,
 # alone and with events or sums in C for this purpose alone (bindings/dpdk/peer.h), which must be those of the stage; through
 # the stage of bindings/dpdk without and with marks, with its flight recorder, and with records of intervals.
-# Each burst comes 10 us after the one before, so nothing is dropped. Prints a table. It needs libdpdk
-# (bindings/dpdk/install.sh) and the libraries, which bindings/c/library.py builds.
+# Each burst comes 10 us after the one before. The probability is 0, so that no header is read but for a record, then 1, 10
+# and 50 per cent: then the stage draws random words, reads headers if it marks, and marks ECN-capable packets below 10 per cent.
+# Writes bench/dpdk_counts.csv, from which tests/documents/performance.py computes the table of docs/PERFORMANCE.md. It needs
+# libdpdk (bindings/dpdk/install.sh) and the libraries, which bindings/c/library.py builds.
 #
-# usage: bench/pie_dpdk_count.sh
+# usage: bench/pie_dpdk_count.sh [FILE]      FILE: instead of bench/dpdk_counts.csv
 set -eu
 cd "$(dirname "$0")/.."
 if ! command -v valgrind > /dev/null; then
@@ -14,13 +16,18 @@ if ! command -v valgrind > /dev/null; then
 fi
 work=$(mktemp -d)
 trap 'rm -rf "$work"' EXIT
+out=$(realpath "${1:-bench/dpdk_counts.csv}")
 make -s -C bindings/dpdk out/stage_measure
-echo "| through | instructions of a packet |"
-echo "|---|---|"
+echo "through,percent,arrived,dropped,instructions" > "$work/rows"
 eal=(--no-huge -m 128 --no-pci --no-shconf --no-telemetry --log-level=lib.eal:error --lcores 0@0)
 bindings/dpdk/out/stage_measure "${eal[@]}" -- check > "$work/said" || { cat "$work/said"; exit 1; }
 for kind in rte_pie kept added dropping stage flight summed; do
-    valgrind --tool=callgrind --callgrind-out-file=/dev/null --toggle-collect=counted bindings/dpdk/out/stage_measure "${eal[@]}" \
-        -- count $kind > "$work/packets" 2> "$work/said"
-    awk -v kind=$kind 'NR == FNR {packets = $1; next} /Collected/ {printf "| %s | %.1f |\n", kind, $NF / packets}' "$work/packets" "$work/said"
+    for percent in 0 1 10 50; do
+        [ $percent = 0 ] || [[ $kind =~ ^(rte_pie|kept|dropping|stage|flight)$ ]] || continue
+        valgrind --tool=callgrind --callgrind-out-file=/dev/null --toggle-collect=counted bindings/dpdk/out/stage_measure "${eal[@]}" \
+            -- count $kind $percent > "$work/packets" 2> "$work/said"
+        awk -v kind=$kind -v percent=$percent 'NR == FNR {arrived = $1; dropped = $3; next}
+            /Collected/ {print kind "," percent "," arrived "," dropped "," $NF}' "$work/packets" "$work/said" >> "$work/rows"
+    done
 done
+mv "$work/rows" "$out"

@@ -4,9 +4,14 @@ each side, and their ratios, as rows of a table. The best of times is the least,
 single name it prints the least, the median and the greatest value.
 
 usage: bench/ratios.py LINES NAME/OTHER.. NAME..     a pair of checksums has to be the same in all runs, else exit status 1
+If PIE_ROWS in the environment names a file, as bench/times.csv, it receives each line with the commit, the machine, the compiler and the load; then
+tests/documents/performance.py compares the tables of docs/PERFORMANCE.md with it. Rows of the same name from an earlier commit are dropped.
 """
+import csv
 import os
+import re
 import statistics
+import subprocess
 import sys
 
 values, units = {}, {}
@@ -14,6 +19,29 @@ for line in open(sys.argv[1]):
     name, value, unit = line.split()
     values.setdefault(name, []).append(int(value) if unit == "sum" else float(value))
     units[name] = unit
+FIELDS = ["name", "run", "value", "unit", "commit", "machine", "compiler", "load"]
+
+
+def store(path):
+    """Writes the values to the file of rows, in place of those with the same names."""
+    said = lambda *words: subprocess.run(words, capture_output=True, text=True, check=False).stdout.strip()  # noqa: E731
+    model = re.search(r"model name\s*: (.*)", open("/proc/cpuinfo").read())
+    about = {"commit": said("git", "rev-parse", "--short=8", "HEAD"), "machine": model[1] if model else os.uname().machine,
+             "compiler": said(os.environ.get("CC", "cc"), "-dumpfullversion"), "load": open("/proc/loadavg").read().split()[0]}
+    kept = []
+    if os.path.exists(path):
+        with open(path, newline="") as file:
+            kept = [row for row in csv.DictReader(file) if row["name"] not in values]
+    rows = [{"name": name, "run": run, "value": f"{value:.12g}", "unit": units[name], **about}
+            for name, them in values.items() for run, value in enumerate(them, 1)]
+    with open(path, "w", newline="") as file:
+        out = csv.DictWriter(file, FIELDS, lineterminator="\n")
+        out.writeheader()
+        out.writerows(kept + rows)
+
+
+if os.environ.get("PIE_ROWS"):
+    store(os.environ["PIE_ROWS"])
 pairs = [pair.split("/") for pair in sys.argv[2:] if "/" in pair]
 alone = [name for name in sys.argv[2:] if "/" not in name]
 load = " ".join(open("/proc/loadavg").read().split()[:2])

@@ -14,9 +14,10 @@
  *   enqueues, dequeues and sends, and 512 packets are always queued. If there are several, the main lcore
  *   dequeues and sends, and the others receive and enqueue. Prints lines `name value unit` for
  *   bench/pie_dpdk.sh; `lost` is the share of the recorded stage's events that its history lacks.
- * usage: stage_measure [EAL options] -- count rte_pie|kept|added|dropping|stage|flight|summed
- *   Enqueues and dequeues 1000 bursts of 32 packets, in a function `counted`, for
- *   bench/pie_dpdk_count.sh. Prints the number of packets.
+ * usage: stage_measure [EAL options] -- count rte_pie|kept|added|dropping|stage|flight|summed [PERCENT]
+ *   Enqueues 1000 bursts of 32 packets, and dequeues each, in a function `counted`, for
+ *   bench/pie_dpdk_count.sh. With PERCENT, the probability is this one, no burst allowance is left, and 256 packets are
+ *   always queued. Prints the number of packets that arrived, and of those that were dropped.
  * usage: stage_measure [EAL options] -- check
  *   Compares the events and sums of rte_pie (peer.h) with those of the stage, after the same bursts.
  *   The status is 1 if they differ. */
@@ -395,14 +396,27 @@ static int measure_rate(double seconds, int runs, const char *flight) {
     return 0;
 }
 
-/* Enqueues and dequeues a burst at a given TSC. */
+/* Enqueues a burst at a given TSC, and dequeues as many packets as were queued. */
 __attribute__((noinline)) static uint32_t counted(enum which which, struct rte_mbuf **mbufs, uint64_t now) {
-    enqueue(which, mbufs, BURST, now);
-    return dequeue(which, mbufs, BURST, now);
+    return dequeue(which, mbufs, enqueue(which, mbufs, BURST, now), now);
 }
 
-/* Makes 1000 bursts of one kind, one each 10 us from a TSC on, while `standing` bursts are queued. Returns the number of packets. */
-static uint64_t make_bursts(enum which which, uint64_t now, int standing) {
+/* Sets the probability of a queue whose delay is at the target, and which has no burst allowance left. */
+static void set_probability(enum which which, double share) {
+    if (is_peer(which)) {
+        peer.pie.drop_prob = share;
+        peer.pie.burst_allowance = 0;
+        peer.pie.qdelay_old = (uint64_t)peer.config.qdelay_ref;
+    } else {
+        stage->pie.prob = (uint64_t)(share * 1e12);
+        stage->pie.burst = 0;
+        stage->pie.old_delay = stage->pie.params.target;
+    }
+}
+
+/* Makes 1000 bursts of one kind, one each 10 us from a TSC on, while `standing` bursts are queued, at a probability if it is not 0. Returns the number
+ * of packets that departed. No update is due meanwhile. */
+static uint64_t make_bursts(enum which which, uint64_t now, int standing, double share) {
     struct rte_mbuf *mbufs[BURST];
     uint64_t packets = 0;
     rte_mempool_obj_iter(pool, fill, NULL);
@@ -415,6 +429,8 @@ static uint64_t make_bursts(enum which which, uint64_t now, int standing) {
             enqueue(which, mbufs, BURST, now);
             continue;
         }
+        if (share > 0)
+            set_probability(which, share);
         uint32_t count = counted(which, mbufs, now);
         rte_pktmbuf_free_bulk(mbufs, count);
         packets += count;
@@ -424,16 +440,16 @@ static uint64_t make_bursts(enum which which, uint64_t now, int standing) {
     return packets;
 }
 
-/* Counts the packets of one kind. The status is 1 if one was dropped. */
-static int count_calls(const char *name) {
+/* Counts the packets of one kind at a probability. The status is 1 if one was dropped at 0. */
+static int count_calls(const char *name, double share) {
     enum which which = PEER;
     while (which < SUMMED && strcmp(names[which], name) != 0)
         which++;
     open_queue(which);
-    uint64_t packets = make_bursts(which, rte_rdtsc(), 0);
-    printf("%" PRIu64 " packets\n", packets);
+    uint64_t dropped = 1000 * BURST - make_bursts(which, rte_rdtsc(), share > 0 ? 8 : 0, share);
+    printf("%d packets, %" PRIu64 " dropped\n", 1000 * BURST, dropped);
     close_queue(which);
-    return packets != 1000 * BURST;
+    return share == 0 && dropped != 0;
 }
 
 /* Returns true if the peer's events are the last ones of the stage's flight recorder, and its sums those of the stage's interval. */
@@ -463,7 +479,7 @@ static int check_least(void) {
         if (i == 1)
             pie_open_period(&stage->periods->current, 1000000000, 0);
         uint64_t now = rte_rdtsc();
-        bool is_same = make_bursts(kinds[i][0], now, 2) == make_bursts(kinds[i][1], now, 2) && same_records(kinds[i][0]);
+        bool is_same = make_bursts(kinds[i][0], now, 2, 0) == make_bursts(kinds[i][1], now, 2, 0) && same_records(kinds[i][0]);
         printf("%s: the records are %s\n", names[kinds[i][1]], is_same ? "the stage's" : "others");
         status |= !is_same;
         close_queue(kinds[i][0]);
@@ -486,12 +502,12 @@ int main(int count, char **words) {
         status = measure_slow(words[2]);
     else if (count >= 2 && count <= 5 && strcmp(words[1], "rate") == 0)
         status = measure_rate(count > 2 ? atof(words[2]) : 1, count > 3 ? atoi(words[3]) : 5, count > 4 ? words[4] : NULL);
-    else if (count == 3 && strcmp(words[1], "count") == 0)
-        status = count_calls(words[2]);
+    else if ((count == 3 || count == 4) && strcmp(words[1], "count") == 0)
+        status = count_calls(words[2], count == 4 ? atof(words[3]) / 100 : 0);
     else if (count == 2 && strcmp(words[1], "check") == 0)
         status = check_least();
     else
-        fprintf(stderr, "usage: stage_measure [EAL options] -- slow FOLDER | rate [SECONDS [RUNS [FILE]]] | count KIND | check\n");
+        fprintf(stderr, "usage: stage_measure [EAL options] -- slow FOLDER | rate [SECONDS [RUNS [FILE]]] | count KIND [PERCENT] | check\n");
     rte_eal_cleanup();
     return status;
 }

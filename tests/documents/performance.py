@@ -2,10 +2,17 @@
 """Compares each ratio in the tables of docs/PERFORMANCE.md with the two figures before it in its row. The page says that a ratio compares the
 medians, and the ratio in brackets the least figures. A ratio must lie between the least and the greatest quotient that the rounded figures allow.
 A section in which ratios are medians of those of the runs says so, and is left out.
-usage: tests/documents/performance.py
+
+Times: if bench/times.csv has rows (PIE_ROWS of bench/ratios.py), the tables of TIMES are those of its rows; until then the page says that there are none.
+
+The table of a packet's instructions through DPDK is that of bench/dpdk_counts.csv, and the counts of the library for C are those of
+bench/pie_c_count.txt.
+usage: tests/documents/performance.py [--write]     --write: writes the table of DPDK
 needs: nothing"""
+import csv
 import os
 import re
+import statistics
 import sys
 
 sys.path.insert(0, f"{os.path.dirname(os.path.abspath(__file__))}/../shared")
@@ -42,7 +49,79 @@ def ratios_of(section):
                     yield from ((line, *part) for part in zip(*(it.groups() for it in found)) if all(part))
 
 
+KINDS = {"rte_pie": "rte_pie", "kept": "rte_pie and events in C", "added": "rte_pie and sums in C", "dropping": "the stage without marks", "stage": "the stage",
+         "flight": "the stage and its flight recorder", "summed": "the stage and records of intervals"}
+TABLE = re.compile(r"(?<=<!-- by tests/documents/performance.py -->\n).*?(?=<!-- to here -->)", re.S)
+
+
+def dpdk_table():
+    """Returns the instructions of an arriving packet by probability, and in brackets the share of packets that were dropped."""
+    with open(ROOT / "bench/dpdk_counts.csv", newline="") as file:
+        rows = {(row["through"], row["percent"]): row for row in csv.DictReader(file)}
+    percents = sorted({percent for _, percent in rows}, key=int)
+    lines = ["| through | " + " | ".join(f"{percent} %" for percent in percents) + " |", "|---" * (1 + len(percents)) + "|"]
+    for kind, words in KINDS.items():
+        cells = []
+        for percent in percents:
+            row = rows.get((kind, percent))
+            cell = f"{int(row['instructions']) / int(row['arrived']):.0f}" if row else ""
+            cells.append(cell + (f" ({100 * int(row['dropped']) / int(row['arrived']):.1f})" if row and row["dropped"] != "0" else ""))
+        lines.append(f"| {words} | {' | '.join(cells)} |")
+    return "\n".join(lines) + "\n"
+
+
+# the head of a table, and the names of its rows in bench/times.csv
+TIMES = {
+    "| per event | here | C, decided only | ratio |": [(name, "c_book_decided") for name in (
+        "book_decided", "book_recorded_bounded", "book_recorded_rolling", "c_book_recorded_bounded", "c_book_recorded_rolling")],
+    "| measured; compared with | library | the other | ratio |": [
+        ("arrive_library", "arrive_c"), ("arrive_library", "arrive_c_checked"), ("depart_library", "depart_c"), ("depart_library", "depart_c_checked"),
+        ("update_library", "update_c"), ("stream_library", "stream_none"), ("stream_library", "stream_c"), ("stream_library", "stream_dpdk")]}
+NOT_STORED = "The single runs of the times on this page are not stored."
+
+
+def time_cells(rows, here, other):
+    """Returns the cells of a row: the median in ns of each side with its least value, and their ratios."""
+    ours, theirs = (sorted(float(row["value"]) for row in rows if row["name"] == name) for name in (here, other))
+    cells = [f"{statistics.median(them):.1f} ns ({them[0]:.1f})" for them in (ours, theirs)]
+    return [*cells, f"{statistics.median(ours) / statistics.median(theirs):.2f} ({ours[0] / theirs[0]:.2f})"]
+
+
+def check_times(page):
+    sample = [{"name": name, "value": value} for name, values in {"a": "234", "b": "468"}.items() for value in values]
+    check(time_cells(sample, "a", "b") == ["3.0 ns (2.0)", "6.0 ns (4.0)", "0.50 (0.50)"], "the cells of a sample are wrong")
+    stored = ROOT / "bench/times.csv"
+    check((NOT_STORED in " ".join(page.split())) != stored.exists(), f"{PAGE} says: {NOT_STORED} And bench/times.csv is {'' if stored.exists() else 'not '}there")
+    lines = page.splitlines()
+    for head, pairs in TIMES.items():
+        check(head in lines, f"{PAGE} has no table {head}")
+        if stored.exists():
+            with open(stored, newline="") as file:
+                rows = list(csv.DictReader(file))
+            for line, (here, other) in zip(lines[lines.index(head) + 2:], pairs):
+                wanted = time_cells(rows, here, other)
+                check([cell.strip() for cell in line.split("|")[2:5]] == wanted, f"{PAGE}: bench/times.csv gives {wanted}: {line}")
+
+
+# the sentences about counts of the library for C, with the names of bench/pie_c_count.txt
+COUNTED = ["{update} for an update, {write_event} for the text of a record; at a link {link_arrive} for an arrival and {link_depart} for a departure",
+           "An update takes {update_too_soon} of its {update} instructions to check the state"]
+
+
+def check_counts(page):
+    check(TABLE.findall(page) == [dpdk_table()], f"{PAGE}: the table of DPDK is not that of bench/dpdk_counts.csv; --write writes it")
+    counts = dict(line.split() for line in (ROOT / "bench/pie_c_count.txt").read_text().splitlines())
+    for sentence in COUNTED:
+        check(sentence.format(**counts) in " ".join(page.split()), f"{PAGE} does not say: {sentence.format(**counts)}")
+
+
 def main():
+    page = (ROOT / PAGE).read_text()
+    if "--write" in sys.argv:
+        (ROOT / PAGE).write_text(TABLE.sub(lambda _: dpdk_table(), page))
+        return
+    check_counts(page)
+    check_times(page)
     sections = [it for it in re.split(r"^##+ ", (ROOT / PAGE).read_text(), flags=re.M) if "Ratios are medians" not in it]
     tried = 0
     for row, ratio, here, other in (it for section in sections for it in ratios_of(section)):

@@ -1,5 +1,5 @@
 #!/usr/bin/env python3
-"""Checks the size and the form of the pages: all pages together have fewer than 46,000 words, not counting the bars and marks of tables; a line of
+"""Checks the size and the form of the pages: all pages together have fewer words than MOST_WORDS, not counting the bars and marks of tables; a line of
 prose has at most 100 characters (tables, fences, pictures and indented lines may be longer); and no page contains a sentence of another page.
 
 usage: tests/documents/words.py [--all]      --all: prints the number of words of each page

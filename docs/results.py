@@ -228,6 +228,7 @@ IS_PRINTING = []    # the sources that are being evaluated
 
 
 def test(scenario, one, other, field, part="after", other_scenario=None):
+    """Compares two queues, and notes the comparison if a page prints it."""
     if IS_PRINTING:
         PRINTED[scenario, field, RUNS.part(scenario, part), one, other, other_scenario] = part
     return judged(scenario, one, other, field, part, other_scenario)
@@ -235,6 +236,7 @@ def test(scenario, one, other, field, part="after", other_scenario=None):
 
 @functools.cache
 def judged(scenario, one, other, field, part, other_scenario):
+    """Returns the difference, its interval and the verdict, or nothing if there is only one block."""
     ours, theirs = difference_of(scenario, one, other, field, part, other_scenario)
     return compare_pairs(ours, theirs, margin_of(scenario, one, other, field, part, theirs)) if len(ours) > 1 else None
 
@@ -306,11 +308,12 @@ def limit_queues(name):
 
 def limit_measures(name):
     """Returns the measures of a scenario: one that is not divided has no later part."""
-    divided = len(LIMIT_RUNS.parts(name)) > 1
+    divided = beside.options(SCENARIOS[name]["options"]).beginning > 0
     return [it for it in LIMIT_MEASURES if divided or it[1] != "after"] + [("bursts", "whole")] * (name == "burstlimits")
 
 
 def limit_values(name, queue, field, part):
+    """Returns the values of a measure by block."""
     if field == "bursts":
         return {block: float(row["groups"].split("/")[1]) for block, row in LIMIT_RUNS.common(name, queue, part).items()}
     return {block: float(row[field]) for block, row in LIMIT_RUNS.common(name, queue, part).items()}

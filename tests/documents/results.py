@@ -94,6 +94,25 @@ far = sum(goodput >= results.NEAR_GOODPUT for _, goodput, _ in results.starts())
 check(25 * far <= len(results.starts()), f"the goodput of {far} of {len(results.starts())} starts differs at both bottlenecks")
 inside = [it[-1][1] <= 0 <= it[-1][2] for it in results.equal_queues(*results.PAIRS[2:])]
 check(sum(inside) >= 0.84 * len(inside), f"of {len(inside)} intervals of 90 per cent for no difference only {sum(inside)} contain 0")
+# the criterion of PLAN.md, over made results of each comparison: the longest limit that is nowhere worse, and shorter in half of the starts
+results.not_run_limits = lambda question: []
+
+
+def chosen(made, question="the rule"):
+    """Returns the limit that the criterion chooses if comparisons are `same`, except those of `made`: by scenario, queue, measure and part."""
+    same, better, wide = (0, -1, 1, "same", 2), (-9, -10, -8, "better", 2), (0, -3, 3, "open", 2)
+    results.limit_test = lambda *it: {"better": better, "open": wide}.get(made.get(it), same)
+    return results.chosen_limit(question)[0]
+
+
+starts = {(name, queue, "wait99", "start"): "better" for name in ("limits", "farlimits") for queue in ("limit100", "limit50")}
+check(chosen({}) == "200 ms" and chosen({}, "the least limit") == "48448 bytes", "a limit is chosen that shortens nothing")
+check(chosen(starts) == "100 ms", "the longest limit that meets the criterion is not chosen")
+check(chosen({**starts, ("farlimits", "limit100", "goodput", "whole"): "open"}) == "50 ms", "a limit is chosen whose goodput may be worse")
+check(chosen({**starts, ("burstlimits", "limit100", "wait", "after"): "open", ("limits", "limit50", "wait", "start"): "open"}) == "200 ms",
+      "a limit is chosen whose wait may be worse")
+check(chosen({key: verdict for key, verdict in starts.items() if key[0] == "limits"}) == "200 ms", "a limit is chosen that shortens one start of four")
+
 # a table has runs of one version
 for rows, count in ((results.ROWS, 2), (results.LIMIT_ROWS or results.ROWS[:1], 4)):
     try:

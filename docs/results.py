@@ -367,6 +367,15 @@ def chosen_limit(question):
     return chosen, lacks
 
 
+def shorter_limits(queue="limit100"):
+    """Names the scenarios of the rule in which a shorter limit shortens the waits in the start, and those in which it changes the goodput, in words."""
+    names = [name for name in CANDIDATES["the rule"]["200 ms"] if queue in limit_queues(name)]
+    shorter = [f"`{LIMITS[name]}`" for name in names if limit_test(name, queue, "wait99", "start")[3] == "better"]
+    goodputs = [f"`{limit_test(name, queue, 'goodput', 'whole')[3]}` in `{LIMITS[name]}`" for name in names]
+    return (f"Compared with 200 ms, {queue.removeprefix('limit')} ms shortens the 99th percentile of the waits in the start of {' and '.join(shorter)}; the "
+            f"goodput is {', '.join(goodputs)} ([runs](#limits)).")
+
+
 def limits_text():
     """Returns the outcome of the criterion of PLAN.md, in words."""
     parts = []
@@ -376,7 +385,7 @@ def limits_text():
             parts.append(f"for {question} not all runs of {', '.join(f'`{LIMITS[name]}`' for name in lacking)} exist, so {present} stay")
         else:
             parts.append(f"for {question} it gives {chosen}{'' if chosen == present else f', not {present}'}")
-    return f"By the [criterion](../bench/uml/PLAN.md#limits) of the [runs](#limits), {'; '.join(parts)}."
+    return f"{shorter_limits()} By the [criterion](../bench/uml/PLAN.md#limits), {'; '.join(parts)}."
 
 
 # versions that no commit of this repository contains
@@ -385,7 +394,7 @@ LOST = {"7a0deebb"}
 
 def limits_section():
     """Returns the section of PIE here with other limits. The runs of a scenario have one version."""
-    lines, made = [], []
+    lines, lost_of = [], []
     for name in (name for name in LIMITS if limit_queues(name)):
         present = present_limit(name)
         for queue in limit_queues(name):
@@ -398,18 +407,18 @@ def limits_section():
                 text = shown(fmean(limit_values(name, queue, field, part).values()), digits=digits)
                 cells.append(text if queue == present else f"{text}: {plus_minus(limit_test(name, queue, field, part), field, digits)}")
             drops = [value(name, queue, "tail", part, runs=LIMIT_RUNS) for part in ("start", "after")[:len(split_of(LIMIT_RUNS, name))]]
-            lines.append([f"`{LIMITS[name]}`", queue.removeprefix("limit"), str(len(LIMIT_RUNS.common_blocks(name))), *cells, "/".join(drops)])
-        versions_of = version_of([row for row in LIMIT_ROWS if row["scenario"] == name], 4)
-        made.append(f"`{LIMITS[name]}`: " + ", ".join(
-            f"{file} {version}{' (in no commit)' * (version in LOST)}" for file, version in zip(("network.py", "traffic.c", "examples/link", "dist"), versions_of)))
-    heads = ["traffic of", "limit", "blocks", "goodput", "mean wait, start", "99th percentile, start", "mean wait, later", "99th percentile, later",
+            lines.append([f"`{LIMITS[name]}`", queue.removeprefix("limit"), f"{len(LIMIT_RUNS.common_blocks(name))}/{SCENARIOS[name]['queues'][queue]}",
+                          *cells, "/".join(drops)])
+        if LOST & set(version_of([row for row in LIMIT_ROWS if row["scenario"] == name], 4)):
+            lost_of.append(f"`{LIMITS[name]}`")
+    heads = ["traffic of", "limit", "blocks, run/planned", "goodput", "mean wait, start", "99th percentile, start", "mean wait, later", "99th percentile, later",
              "goodput of the bursts", "tail drops, start/later"]
     lacks = [f"{question}: {'; '.join(found)}" for question in CANDIDATES if (found := chosen_limit(question)[1])]
     margins = ", ".join(f"{100 * share_of:.0f} % of the {LIMIT_WORDS[field]}{f' and at least {least} ms' * bool(least)}"
                         for field, (share_of, least) in LIMIT_MARGINS.items() if field != "bursts")
     return ("## Limits\n\nPIE here with other limits in ms. The [plan](../bench/uml/PLAN.md#limits) has verdicts, margins and criterion: "
-            f"{margins}. Waits are those of packets. After a colon is the difference to the present limit. The runs of a scenario have one version "
-            f"({'; '.join(made)}).\n\n" + table(heads, lines) + (f"\n\nWhat the shorter limits lack: {'. '.join(lacks)}." if lacks else ""))
+            f"{margins}. Waits are those of packets. After a colon is the difference to the present limit. The runs of a scenario have one version (column `version` "
+            f"of results.csv){f'; the dist/ of {chr(32).join(lost_of)} is in no commit' * bool(lost_of)}.\n\n" + table(heads, lines) + (f"\n\nWhat the shorter limits lack: {'. '.join(lacks)}." if lacks else ""))
 
 
 def verdict_sentence(scenario):

@@ -218,7 +218,7 @@ fn put_joint<W: Write>(name: &str, joint: Option<Joint>, output: &mut W) -> io::
         None => Ok(()),
         Some(Joint::Follows) => writeln!(output, "{name}: follows"),
         Some(Joint::Gap { last, first }) => writeln!(output, "{name}: gap,{last},{first}"),
-        Some(Joint::Unlike { last }) => writeln!(output, "{name}: unlike,{last}"),
+        Some(Joint::Unlike { last, .. }) => writeln!(output, "{name}: unlike,{last}"),
     }
 }
 

@@ -73,7 +73,7 @@ fn put_joint<W: Write>(joint: Option<Joint>, output: &mut W) -> io::Result<()> {
         None => Ok(()),
         Some(Joint::Follows) => output.write_all(b",\"joint\":\"follows\""),
         Some(Joint::Gap { last, first }) => put_gap(last, first, output),
-        Some(Joint::Unlike { last }) => put_unlike(last, output),
+        Some(Joint::Unlike { last, .. }) => put_unlike(last, output),
     }
 }
 

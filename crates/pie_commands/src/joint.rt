@@ -2,7 +2,8 @@
 
 use crate::end::named_fault;
 use pie_audit::Finding;
-use pie_cut::{FieldDifference, Joined, Joint, UnlikeRecords};
+use pie_cut::{Joined, Joint, UnlikeRecords};
+use pie_diagnosis::{queued_field_name, resume_field_name};
 use std::fmt;
 use std::io::Write;
 use std::str::from_utf8;
@@ -34,35 +35,36 @@ impl fmt::Display for GapEvents {
     }
 }
 
-/// The field that differs between two records of a joint.
+/// The first field that differs between two records of a joint.
 #[derive(Clone, Copy)]
 struct UnlikeField<'a> {
     /// The number of the packet of records `queued`.
     packet: Option<u64>,
-    name: &'static str,
-    difference: FieldDifference<'a>,
+    /// The number of fields before it.
+    place: usize,
+    /// Its text in the record of the end.
+    before: &'a str,
+    /// Its text in the record of the beginning.
+    begun: &'a str,
+    /// True if one of the records has the field `decay`.
+    has_decay: bool,
 }
 
-/// Returns the text of the field of this name. A record without the field `decay` has the keyword of the mode at its place.
-fn text_of<'a>(name: &str, field: &'a [u8]) -> &'a str {
-    if name == "decay" && field != b"half".as_slice() {
+/// Returns the text of a field of this name. A record without the field `decay` has the keyword of the mode at its place.
+fn text_of<'a>(name: &str, field: &'a str) -> &'a str {
+    if name == "decay" && field != "half" {
         return "absent";
     }
-    match from_utf8(field) {
-        Ok("") => "empty",
-        Ok(text) => text,
-        Err(_) => "",
-    }
+    if field.is_empty() { "empty" } else { field }
 }
 
 impl fmt::Display for UnlikeField<'_> {
     fn fmt<W: fmt::Write>(&self, f: &mut fmt::Formatter<W>) -> fmt::Result {
-        let number = self.difference.place.saturating_add(1);
-        let name = self.name;
-        let (before, begun) = (
-            text_of(name, self.difference.before),
-            text_of(name, self.difference.begun),
-        );
+        let number = self.place.saturating_add(1);
+        let name = match self.packet {
+            None => resume_field_name(self.has_decay, self.place),
+            Some(_) => queued_field_name(self.place),
+        };
         match self.packet {
             None => write!(f, "at the joint: resume field {number} ({name})")?,
             Some(packet) => write!(
@@ -70,28 +72,60 @@ impl fmt::Display for UnlikeField<'_> {
                 "at the joint: queued field {number} ({name}) of packet {packet}"
             )?,
         }
+        let (before, begun) = (text_of(name, self.before), text_of(name, self.begun));
         write!(f, " is {begun}, the file before ends with {before}")
     }
 }
 
 /// Writes the line about the first field that differs between two records.
-fn report_unlike<E: Write>(errors: &mut E, name: &str, unlike: &UnlikeRecords) {
-    let Some(difference) = unlike.field() else {
+fn report_fields<'a, E: Write>(
+    errors: &mut E,
+    name: &str,
+    packet: Option<u64>,
+    before: &'a [u8],
+    begun: &'a [u8],
+) {
+    let (Ok(mut one), Ok(mut other)) = (from_utf8(before), from_utf8(begun)) else {
         return;
     };
-    if difference.place >= 64 {
-        return;
+    let has_decay = one.contains(",half,") || other.contains(",half,");
+    for place in 0..64 {
+        let (before, later_one) = one.split_once(',').unwrap_or((one.trim_end(), ""));
+        let (begun, later_other) = other.split_once(',').unwrap_or((other.trim_end(), ""));
+        if before != begun {
+            let field = UnlikeField {
+                packet,
+                place,
+                before,
+                begun,
+                has_decay,
+            };
+            named_fault(errors, name, field);
+            return;
+        }
+        one = later_one;
+        other = later_other;
     }
-    let packet = match unlike {
-        UnlikeRecords::Resume { .. } => None,
-        UnlikeRecords::Queued { packet, .. } => Some(*packet),
-    };
-    let field = UnlikeField {
-        packet,
-        name: unlike.field_name(difference.place),
-        difference,
-    };
-    named_fault(errors, name, field);
+}
+
+/// Writes the line about the records that differ at a joint.
+fn report_unlike<E: Write>(errors: &mut E, name: &str, unlike: &UnlikeRecords) {
+    match unlike {
+        UnlikeRecords::Resume { before, begun } => {
+            report_fields(errors, name, None, before.as_bytes(), begun.as_bytes())
+        }
+        UnlikeRecords::Queued {
+            packet,
+            before,
+            begun,
+        } => report_fields(
+            errors,
+            name,
+            Some(*packet),
+            before.as_bytes(),
+            begun.as_bytes(),
+        ),
+    }
 }
 
 /// Returns the number of the last event of a text, or of the event that differs.

@@ -1,9 +1,8 @@
 -- Worked selections, segments of a text and joints: each theorem computes.
-use Rattle.pie_cut.proofs.Names.{[], CoreView, EndView, Gap, None, Opening, Option, Position, Some, Span, Unlike, ap, arith, false, refl, true, ℕ, ◌≡◌}
+use Rattle.pie_cut.proofs.Names.{[], CoreSnapshot, CoreView, EndView, Gap, None, Opening, Option, Position, Some, Span, Unlike, Waiting, ap, arith, false, length, refl, slice_get, true, ℕ, ◌∷◌, ◌≡◌}
+use Rattle.pie_cut.specs.declared.snapshot_equality.UnlikeRecord.TheVariants.{Queued, Resume}
+use Rattle.pie_queue.specs.declared.packet.Packet.{Packet}
 use Rattle.pie_cut.specs.{Excerpt.is_past, Excerpt.is_reached, Joined.JoinsBy, Excerpt.segment, declared.joint_audit.Joint.TheVariants.Follows}
-use Rattle.pie_cut.specs.Unlike.{IsFirstDifference, field_name, field_of}
-use Rattle.pie_cut.specs.declared.unlike.UnlikeRecords.TheVariants.{Queued, Resume}
-use Rattle.std.proofs.Common.{codes}
 use Rattle.pie_record.specs.Field.{number}
 use Rattle.pie_units.specs.declared.{when.When.When, when.When.TheVariants.Moment, when.When.TheVariants.Unix}
 
@@ -56,36 +55,33 @@ segments = (refl, refl, refl)
 abbrev ended : Opening → CoreView → ℕ → EndView
 ended opening core count = record { opening = opening; core = record core { count = count } }
 
+-- this core, in which only this packet waits, since this moment
+abbrev queued : CoreView → Packet → ℕ → CoreView
+queued core packet since = record core { count = 100; waiting = record { packet = packet; since = since } ∷ [] }
+
+-- the moment of a packet
+abbrev since_of : Option Waiting → ℕ
+since_of None = 0
+since_of (Some waiting) = waiting.since
+
 -- after an end at event 100: a text that begins with exactly this end follows. A text that begins after event 103
--- misses three events, and one that begins after event 99 repeats one. A text with the same number and another
--- limit of packets is unlike
-joints : (opening : Opening) (core : CoreView)
+-- misses three events, and one that begins after event 99 repeats one. A text with the same number and no packet is
+-- unlike in its first record, and one whose packet arrived at another moment is unlike in the record of this packet
+joints : (opening : Opening) (core : CoreView) (packet : Packet)
     → JoinsBy (ended opening core 100) opening (record core { count = 100 }) Follows
     × JoinsBy (ended opening core 100) opening (record core { count = 103 }) (Gap 100 104)
     × JoinsBy (ended opening core 100) opening (record core { count = 99 }) (Gap 100 100)
-    × JoinsBy (ended opening (record core { capacity = 7 }) 100) opening (record core { capacity = 8; count = 100 }) (Unlike 100)
-joints opening core = (
+    × JoinsBy (ended opening (queued core packet 7) 100) opening (record core { count = 100; waiting = [] }) (Unlike 100 Resume)
+    × JoinsBy (ended opening (queued core packet 7) 100) opening (queued core packet 8) (Unlike 100 (Queued 0))
+joints opening core packet = (
   (refl, refl),
   (refl, refl, λ e. omega (arith, e)),
   (refl, refl, λ e. omega (arith, e)),
-  (refl, refl, λ opening core. omega (arith, ap (λ c. c.capacity) core)),
+  (refl, refl, λ same is. omega (arith, ap (λ (c : CoreView). length c.waiting) is), λ same is. omega (arith, ap (λ (s : CoreSnapshot). s.packets) is)),
+  (
+    refl,
+    refl,
+    λ same is. omega (arith, ap (λ (c : CoreView). since_of (slice_get c.waiting 0)) is),
+    (refl, refl, (refl, λ is. omega (arith, ap since_of is))),
+  ),
 )
-
--- ---- fields that differ at a joint
-
--- the fields of a record, from its kind on; none follows the last
-fields : (field_of 0 (codes "queued,7,1500\n") ≡ codes "queued") × (field_of 2 (codes "queued,7,1500\n") ≡ codes "1500")
-    × (field_of 3 (codes "queued,7,1500\n") ≡ codes "") × (field_of 1 (codes "resume,,5\n") ≡ codes "")
-fields = (refl, refl, refl, refl)
-
--- the first field that differs is the second of these
-difference : IsFirstDifference (codes "queued,7,1500\n") (codes "queued,8,40\n") (Some (1, codes "7", codes "8"))
-    → field_of 0 (codes "queued,7,1500\n") ≡ field_of 0 (codes "queued,8,40\n")
-difference is = is.3 0 (omega arith)
-
--- the numbers of fields on docs/FORMATS.md, less one: `prob` is field 35, or 36 behind a field `decay`
-names : (field_name (Resume [] [] false) 34 ≡ codes "prob") × (field_name (Resume [] [] true) 35 ≡ codes "prob")
-    × (field_name (Resume [] [] false) 6 ≡ codes "mode") × (field_name (Resume [] [] true) 6 ≡ codes "decay")
-    × (field_name (Resume [] [] false) 59 ≡ codes "waited") × (field_name (Resume [] [] true) 60 ≡ codes "waited")
-    × (field_name (Queued 1 [] []) 4 ≡ codes "since")
-names = (refl, refl, refl, refl, refl, refl, refl)

@@ -3,4 +3,3 @@ pub mod PartFacts
 pub mod TextFacts
 mod Examples
 pub mod JoinedFacts
-mod UnlikeFacts

@@ -24,4 +24,5 @@ mod walk;
 
 pub use cause::{Cause, find_cause};
 pub use message::write_cause;
+pub use table::{queued_field_name, resume_field_name};
 pub use text::TextKind;

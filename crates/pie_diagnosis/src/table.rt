@@ -273,6 +273,34 @@ impl Form {
     }
 }
 
+/// Returns the name of the field at `place` of a `resume` record, as on docs/FORMATS.md. Some of these records have the
+/// field `decay`. The field at place 0 is the kind.
+pub fn resume_field_name(has_decay: bool, place: usize) -> &'static str {
+    let count = if has_decay { 61 } else { 60 };
+    name_in(Place::First(TextKind::History), count, place)
+}
+
+/// Returns the name of the field at `place` of a `queued` record.
+pub fn queued_field_name(place: usize) -> &'static str {
+    name_in(Place::Preamble, 5, place)
+}
+
+/// Returns the name of the field at `place` of a record with `count` fields. An empty text if there is none.
+fn name_in(text: Place, count: usize, place: usize) -> &'static str {
+    for number in 0..FORMS.len() {
+        match FORMS[number].at(text) {
+            Some(shape) if shape.len() == count => {
+                return match shape.field(place) {
+                    Some(field) => field.name(),
+                    None => "",
+                };
+            }
+            _ => {}
+        }
+    }
+    ""
+}
+
 impl Shape {
     /// Returns the shape of records of a kind with these fields.
     fn new(kind: &'static [u8], parts: Parts) -> Shape {

@@ -31,3 +31,4 @@ pub use pie_book::Opening;
 pub use pie_record::{HistoryLines, Line, OpenFault, RecordFault, TraceFault, Version};
 pub use pie_text::write_history;
 pub use run::{RunEnd, run_trace, run_trace_within};
+pub use run_start::add_beginning;

@@ -1,4 +1,4 @@
-use Rattle.pie_trace.proofs.Names.{Beginning, append_known}
+use Rattle.pie_trace.proofs.Names.{Beginning}
 use Rattle.pie_trace.proofs.RunFacts.{text-started}
 use Rattle.pie_trace.proofs.run_start.begin_written.Goals as goal
 

@@ -1,6 +1,6 @@
 use Rattle.std.proofs.Common.{length, rules, sym, ◌<◌, ◌∙◌, ◌≡◌}
 use Rattle.pie_cut.proofs.JoinedFacts.{packets-more}
-use Rattle.pie_cut.proofs.snapshot_equality.unlike_packets.Goals as goal
+use Rattle.pie_cut.proofs.snapshot_equality.older_packets.Goals as goal
 
 pub loop-index-preserved : goal.loop-index-preserved
 loop-index-preserved c =

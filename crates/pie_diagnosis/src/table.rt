@@ -238,47 +238,28 @@ pub(crate) struct Shape {
 impl Form {
     /// Returns the shape of the form, if a record at this place can have it.
     pub(crate) fn at(self, place: Place) -> Option<Shape> {
-        match place {
-            Place::First(kind) => self.first(kind),
-            Place::Preamble => match self {
-                Form::Queued(parts) => Some(Shape::new(b"queued", parts)),
-                _ => None,
-            },
-            Place::Later(kind, version) => self.later(kind, version),
-        }
-    }
-
-    /// Returns the shape of a first record of a text of this kind.
-    fn first(self, text: TextKind) -> Option<Shape> {
-        match (self, text) {
-            (Form::First(kind, parts), _) => Some(Shape::new(kind.word(), parts)),
-            (Form::Resume(_), TextKind::WholeHistory) => None,
-            (Form::Resume(parts), _) => Some(Shape::new(b"resume", parts)),
-            _ => None,
-        }
-    }
-
-    /// Returns the shape of a later record of a text of this kind and version.
-    fn later(self, text: TextKind, version: Version) -> Option<Shape> {
-        let (kind, parts) = match (self, text, version) {
-            (Form::Trace(kind, parts), TextKind::Trace, _) => (kind, parts),
-            (Form::FromThree(kind, parts), _, Version::Three) => (kind, parts),
-            (_, TextKind::Trace, _) => return None,
-            (Form::History(kind, parts), _, _) => (kind, parts),
-            (Form::HistoryOfOne(kind, parts), _, Version::One) => (kind, parts),
-            (Form::HistoryFromTwo(kind, parts), _, Version::Two | Version::Three) => (kind, parts),
+        let (kind, parts): (&'static [u8], Parts) = match (self, place) {
+            (Form::Resume(_), Place::First(TextKind::WholeHistory)) => return None,
+            (Form::Resume(parts), Place::First(_)) => (b"resume", parts),
+            (Form::Queued(parts), Place::Preamble) => (b"queued", parts),
+            (Form::First(kind, parts), Place::First(_))
+            | (Form::Trace(kind, parts), Place::Later(TextKind::Trace, _))
+            | (Form::FromThree(kind, parts), Place::Later(_, Version::Three)) => (
+                kind.word(),
+                parts,
+            ),
+            (_, Place::Later(TextKind::Trace, _)) => return None,
+            (Form::History(kind, parts), Place::Later(_, _))
+            | (Form::HistoryOfOne(kind, parts), Place::Later(_, Version::One))
+            | (Form::HistoryFromTwo(kind, parts), Place::Later(_, Version::Two | Version::Three)) =>
+                (kind.word(), parts),
             _ => return None,
         };
-        Some(Shape::new(kind.word(), parts))
+        Some(Shape { kind, parts })
     }
 }
 
 impl Shape {
-    /// Returns the shape of records of a kind with these fields.
-    fn new(kind: &'static [u8], parts: Parts) -> Shape {
-        Shape { kind, parts }
-    }
-
     /// Returns the number of fields, the kind among them.
     pub(crate) fn len(self) -> usize {
         let mut count = 1;

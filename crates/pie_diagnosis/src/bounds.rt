@@ -3,7 +3,7 @@
 //! The bounds are in the order in which readers check them, so the first violated one is the cause of the fault.
 
 use crate::field::Allowed;
-use crate::table::Shape;
+use crate::table::{NINE, Shape};
 use crate::walk::Problem;
 use pie_record::Record;
 use pie_record::field::{has_word, is_kind, long_number_at};
@@ -11,18 +11,6 @@ use pie_record::words::Kind;
 
 /// The greatest moment, in nanoseconds.
 const MAX_MOMENT: u128 = (1 << 60) - 1;
-
-/// The ranges of the parameters before `dq_threshold`.
-const PARAMETERS: [(&str, u128, u128); 8] = [
-    ("target", 2, 10_000_000_000),
-    ("t_update", 1, 10_000_000_000),
-    ("max_burst", 0, 1_000_000_000_000),
-    ("alpha", 0, 1_000_000),
-    ("beta", 0, 1_000_000),
-    ("mean_pkt", 1, 65535),
-    ("limit_bytes", 1, 1 << 30),
-    ("mark_ecnth", 0, 1_000_000_000_000),
-];
 
 /// The statistics that count events, and the most that each of them is for one event.
 const COUNTS: [(&str, u128); 13] = [
@@ -132,11 +120,11 @@ impl<'a> Numbers<'a> {
 
     /// Checks the nine parameters.
     fn check_parameters(&mut self) {
-        for number in 0..PARAMETERS.len() {
-            let (name, least, most) = PARAMETERS[number];
-            self.range(name, least, most);
+        for number in 0..NINE.len() {
+            if let Some(allowed) = NINE[number].accepted() {
+                self.allow(NINE[number].name(), allowed);
+            }
         }
-        self.allow("dq_threshold", Allowed::Thresholds);
     }
 
     /// Checks an opening, which allows greater limits in version three.

@@ -15,7 +15,7 @@ const U16: u128 = 65535;
 
 const U32: u128 = 4_294_967_295;
 
-const U64: u128 = 18_446_744_073_709_551_615;
+pub(crate) const U64: u128 = 18_446_744_073_709_551_615;
 
 const U128: u128 = 340_282_366_920_938_463_463_374_607_431_768_211_455;
 
@@ -50,16 +50,16 @@ const CLOCK: [Field; 2] = [
     Field::Number("unix", U64),
 ];
 
-const NINE: [Field; 9] = [
-    Field::Number("target", U64),
-    Field::Number("t_update", U64),
-    Field::Number("max_burst", U64),
-    Field::Number("alpha", U64),
-    Field::Number("beta", U64),
-    Field::Number("mean_pkt", U64),
-    Field::Number("limit_bytes", U64),
-    Field::Number("mark_ecnth", U64),
-    Field::Number("dq_threshold", U64),
+pub(crate) const NINE: [Field; 9] = [
+    Field::Parameter("target", 2, 10_000_000_000),
+    Field::Parameter("t_update", 1, 10_000_000_000),
+    Field::Parameter("max_burst", 0, 1_000_000_000_000),
+    Field::Parameter("alpha", 0, 1_000_000),
+    Field::Parameter("beta", 0, 1_000_000),
+    Field::Parameter("mean_pkt", 1, 65535),
+    Field::Parameter("limit_bytes", 1, 1 << 30),
+    Field::Parameter("mark_ecnth", 0, 1_000_000_000_000),
+    Field::Threshold("dq_threshold"),
 ];
 
 const VERDICT: [Field; 1] = [Field::Keyword("verdict", Keywords::Verdict)];

@@ -43,17 +43,19 @@ def numbers(text):
 def table():
     """Returns the forms of table.rt: by place and kind, the list of their fields, each with its name and its content."""
     code = (CRATE / "table.rt").read_text()
-    constants = {name: numbers(value) for name, value in re.findall(r"^const (\w+): u128 = ([\d_]+);", code, re.M)}
+    constants = {name: numbers(value) for name, value in re.findall(r"^(?:pub\(crate\) )?const (\w+): u128 = ([\d_]+);", code, re.M)}
     fields, parts = {}, {}
 
     def field(text):
-        kind, name, content = re.fullmatch(r'Field::(\w+)\("(\w+)", ([\w:]+)\)', text).groups()
+        kind, name, content = re.fullmatch(r'Field::(\w+)\("(\w+)"(?:, ([^()]+))?\)', text).groups()
+        if kind in ("Parameter", "Threshold"):
+            return name, (kind, constants["U64"])
         return name, content.removeprefix("Keywords::") if kind == "Keyword" else (kind, constants.get(content) or int(content))
 
-    one = r'Field::\w+\("\w+", [\w:]+\)'
+    one = r'Field::\w+\("\w+"(?:, [^()]+)?\)'
     for name, value in re.findall(rf"^const (\w+): Field =\s+({one});", code, re.M):
         fields[name] = field(value)
-    for name, count, value in re.findall(r"^const (\w+): \[Field; (\d+)\] =\s+\[(.*?)\];", code, re.M | re.S):
+    for name, count, value in re.findall(r"^(?:pub\(crate\) )?const (\w+): \[Field; (\d+)\] =\s+\[(.*?)\];", code, re.M | re.S):
         parts[name] = [fields.get(it) or field(it) for it in re.findall(rf"{one}|\b[A-Z]+\b", value)]
         check(len(parts[name]) == int(count), f"{name} has {count} fields, and not", parts[name])
     forms = {}
@@ -197,7 +199,7 @@ def keyword_sets():
 
 def check_ranges(nine):
     code = (CRATE / "bounds.rt").read_text()
-    has = [(name, numbers(least), numbers(most)) for name, least, most in re.findall(r'^    \("(\w+)", ([^,]+), ([^,)]+)\),$', code.partition("PARAMETERS")[2].partition("];")[0], re.M)]
+    has = [(name, numbers(least), numbers(most)) for name, least, most in re.findall(r'Field::Parameter\("(\w+)", ([^,]+), ([^,)]+)\)', (CRATE / "table.rt").read_text())]
     wanted = []
     for row in rows("Records, numbers, words"):
         if len(row) == 4 and (found := re.match(r"(\d+) to ([\d^]+)", row[1])):

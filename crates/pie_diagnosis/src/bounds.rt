@@ -3,7 +3,7 @@
 //! The bounds are in the order in which readers check them, so the first violated one is the cause of the fault.
 
 use crate::field::Allowed;
-use crate::table::Shape;
+use crate::table::{NINE, Shape};
 use crate::walk::Problem;
 use pie_record::Record;
 use pie_record::field::{has_word, is_kind, long_number_at};
@@ -11,18 +11,6 @@ use pie_record::words::Kind;
 
 /// The greatest moment, in nanoseconds.
 const MAX_MOMENT: u128 = (1 << 60) - 1;
-
-/// The ranges of the parameters before `dq_threshold`.
-const PARAMETERS: [(&str, u128, u128); 8] = [
-    ("target", 2, 10_000_000_000),
-    ("t_update", 1, 10_000_000_000),
-    ("max_burst", 0, 1_000_000_000_000),
-    ("alpha", 0, 1_000_000),
-    ("beta", 0, 1_000_000),
-    ("mean_pkt", 1, 65535),
-    ("limit_bytes", 1, 1 << 30),
-    ("mark_ecnth", 0, 1_000_000_000_000),
-];
 
 /// The statistics that count events, and the most that each of them is for one event.
 const COUNTS: [(&str, u128); 13] = [
@@ -40,17 +28,6 @@ const COUNTS: [(&str, u128); 13] = [
     ("changes", 1),
     ("waited", 1 << 60),
 ];
-
-/// The values of an excerpt's opening that bound its state.
-#[derive(Clone, Copy)]
-struct Opened {
-    moment: u128,
-    packets: u128,
-    events: u128,
-    is_always_active: bool,
-    is_stamp: bool,
-    is_random: bool,
-}
 
 /// The numbers of a record by their names, and the first of them that is out of its bounds.
 #[derive(Clone, Copy)]
@@ -143,11 +120,11 @@ impl<'a> Numbers<'a> {
 
     /// Checks the nine parameters.
     fn check_parameters(&mut self) {
-        for number in 0..PARAMETERS.len() {
-            let (name, least, most) = PARAMETERS[number];
-            self.range(name, least, most);
+        for number in 0..NINE.len() {
+            if let Some(allowed) = NINE[number].accepted() {
+                self.allow(NINE[number].name(), allowed);
+            }
         }
-        self.allow("dq_threshold", Allowed::Thresholds);
     }
 
     /// Checks an opening, which allows greater limits in version three.
@@ -166,21 +143,14 @@ impl<'a> Numbers<'a> {
 
     /// Checks a `resume` record.
     pub(crate) fn check_resume(&mut self) {
-        let opened = Opened {
-            moment: self.number("moment"),
-            packets: self.number("packets"),
-            events: self.number("events"),
-            is_always_active: self.is("profile", b"1"),
-            is_stamp: self.is("delay", b"stamp"),
-            is_random: self.is("picking", b"random"),
-        };
+        let opened = *self;
         self.check_placed(opened);
         self.check_opening(true);
         self.go_to("dq_threshold");
         let in_force = self.from.saturating_add(1);
         self.go_to("count");
-        self.up_to("count", opened.events);
-        self.up_to("packets", opened.packets);
+        self.up_to("count", opened.number("events"));
+        self.up_to("packets", opened.number("packets"));
         self.up_to("bytes", 1 << 30);
         let state = self.from;
         self.from = in_force;
@@ -195,16 +165,16 @@ impl<'a> Numbers<'a> {
     }
 
     /// Checks the two fields that other fields of the record bound when it is read.
-    fn check_placed(&mut self, opened: Opened) {
-        let first = self.from;
+    fn check_placed(&mut self, opened: Numbers<'a>) {
+        let (first, least) = (self.from, opened.number("moment"));
         self.go_to("count");
         let count = self.number("count");
-        let is_early = self.number("moment") < opened.moment;
+        let is_early = self.number("moment") < least;
         if !self.is("set_by", b"") {
             self.up_to("set_by", count);
         }
-        if is_early && opened.moment <= MAX_MOMENT {
-            self.range("moment", opened.moment, MAX_MOMENT);
+        if is_early && least <= MAX_MOMENT {
+            self.range("moment", least, MAX_MOMENT);
         }
         self.from = first;
         if is_early {
@@ -213,7 +183,7 @@ impl<'a> Numbers<'a> {
     }
 
     /// Checks that a controller can have each number of the state.
-    fn check_registers(&mut self, opened: Opened, threshold: u128) {
+    fn check_registers(&mut self, opened: Numbers<'a>, threshold: u128) {
         let moment = self.number("moment");
         self.up_to("moment", MAX_MOMENT);
         self.up_to("prob", 1_000_000_000_000);
@@ -225,7 +195,7 @@ impl<'a> Numbers<'a> {
         self.up_to("start", moment);
         self.up_to("counted", threshold.saturating_sub(1));
         self.up_to("last_wait", 1 << 40);
-        if opened.is_always_active {
+        if opened.is("profile", b"1") {
             self.only("active", 1);
         }
     }
@@ -267,17 +237,17 @@ impl<'a> Numbers<'a> {
     }
 
     /// Checks the numbers that are 0 without an update or with these elements.
-    fn check_elements(&mut self, opened: Opened) {
+    fn check_elements(&mut self, opened: Numbers<'a>) {
         if self.number("updates") == 0 {
             self.only("prob", 0);
         }
-        if opened.is_stamp {
+        if opened.is("delay", b"stamp") {
             self.only("average", 0);
             self.only("measuring", 0);
         } else {
             self.only("last_wait", 0);
         }
-        if opened.is_random {
+        if opened.is("picking", b"random") {
             self.only("accu", 0);
         }
     }

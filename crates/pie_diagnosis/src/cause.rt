@@ -32,17 +32,6 @@ pub struct Cause {
     pub(crate) other: Option<TextKind>,
 }
 
-impl Cause {
-    /// Returns the cause in the record that begins in this line.
-    fn new(line: u64, problem: Problem, other: Option<TextKind>) -> Cause {
-        Cause {
-            line,
-            reason: Reason::Record(problem),
-            other,
-        }
-    }
-}
-
 /// Returns the number of the record that a fault names. `None` if the fault names none.
 fn record_of(why: TraceFault) -> Option<u64> {
     match why {
@@ -84,11 +73,16 @@ pub fn find_cause<R: Read + Drop>(
         return None;
     }
     let line = located.line?;
-    if number == 1 {
-        let problem = first_problem(alloc, kind, &first, &mut records)?;
-        return Some(Cause::new(line, problem, None));
-    }
-    later_cause(alloc, kind, number, line, &first, &mut records)
+    let (problem, other) = if number == 1 {
+        (first_problem(alloc, kind, &first, &mut records)?, None)
+    } else {
+        later_problem(alloc, kind, number, &first, &mut records)?
+    };
+    Some(Cause {
+        line,
+        reason: Reason::Record(problem),
+        other,
+    })
 }
 
 /// Reads the next record. Returns true if there was one.
@@ -122,15 +116,15 @@ fn first_problem<R: Read>(
     queue.problem_of_end(first, shape)
 }
 
-/// Returns the cause in the record with this number, which begins in this line. The first record was read.
-fn later_cause<R: Read>(
+/// Returns the problem of the record with this number, and the other kind of text in which it is correct. The first
+/// record was read.
+fn later_problem<R: Read>(
     alloc: Global,
     kind: TextKind,
     number: u64,
-    line: u64,
     first: &Record,
     records: &mut Records<R>,
-) -> Option<Cause> {
+) -> Option<(Problem, Option<TextKind>)> {
     let mut row = Record::new(alloc);
     let mut queue = Queue::after(first);
     for _ in 2..number {
@@ -144,14 +138,12 @@ fn later_cause<R: Read>(
     if !read_record(records, &mut row) {
         return None;
     }
-    let (problem, other) = if queue.is_open() {
-        (queue.problem_of_next(&row)?, None)
-    } else {
-        let version = text_version(first);
-        let problem = problem_of(Place::Later(kind, version), &row)?;
-        (problem, other_kind(kind, version, &row))
-    };
-    Some(Cause::new(line, problem, other))
+    if queue.is_open() {
+        return Some((queue.problem_of_next(&row)?, None));
+    }
+    let version = text_version(first);
+    let problem = problem_of(Place::Later(kind, version), &row)?;
+    Some((problem, other_kind(kind, version, &row)))
 }
 
 /// Returns the version of a text with this first record.

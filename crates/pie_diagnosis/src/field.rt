@@ -1,6 +1,7 @@
 //! The fields of records: their names and their contents.
 
 use crate::keywords::Keywords;
+use crate::table::U64;
 use crate::text::Place;
 use pie_record::Record;
 use pie_record::field::{has_word, long_number_at};
@@ -10,6 +11,10 @@ use pie_record::field::{has_word, long_number_at};
 pub(crate) enum Field {
     /// A number, at most this.
     Number(&'static str, u128),
+    /// A parameter: a number of 64 bits, which the rules accept from the least to the greatest.
+    Parameter(&'static str, u128, u128),
+    /// The parameter whose accepted numbers are powers of two.
+    Threshold(&'static str),
     /// A number, at most this, or nothing.
     NumberOrNothing(&'static str, u128),
     /// A number of 64 bits of an open cycle: 0 if the field that comes so many places before it is 0.
@@ -45,6 +50,8 @@ impl Field {
     pub(crate) fn name(self) -> &'static str {
         match self {
             Field::Number(name, _)
+            | Field::Parameter(name, _, _)
+            | Field::Threshold(name)
             | Field::NumberOrNothing(name, _)
             | Field::OfCycle(name, _)
             | Field::Keyword(name, _) => name,
@@ -55,14 +62,27 @@ impl Field {
     pub(crate) fn allowed(self, row: &Record, place: usize) -> Allowed {
         match self {
             Field::Number(_, most) => Allowed::Range { least: 0, most },
+            Field::Parameter(..) | Field::Threshold(_) => Allowed::Range {
+                least: 0,
+                most: U64,
+            },
             Field::NumberOrNothing(_, most) => Allowed::RangeOrNothing(most),
             Field::OfCycle(_, back) if has_word(row, place.saturating_sub(back), b"0") =>
                 Allowed::Range { least: 0, most: 0 },
             Field::OfCycle(_, _) => Allowed::Range {
                 least: 0,
-                most: u128::from(u64::MAX),
+                most: U64,
             },
             Field::Keyword(_, words) => Allowed::Keyword(words),
+        }
+    }
+
+    /// Returns the numbers that the rules accept, if the field is a parameter.
+    pub(crate) fn accepted(self) -> Option<Allowed> {
+        match self {
+            Field::Parameter(_, least, most) => Some(Allowed::Range { least, most }),
+            Field::Threshold(_) => Some(Allowed::Thresholds),
+            _ => None,
         }
     }
 }

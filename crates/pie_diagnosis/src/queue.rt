@@ -9,7 +9,7 @@ use pie_record::Record;
 use pie_record::field::has_word;
 
 /// The packets that a `resume` record announces, and the sums of the `queued` records that were read.
-#[derive(Clone, Copy)]
+#[derive(Clone, Copy, Default)]
 pub(crate) struct Queue {
     announced_packets: u128,
     announced_bytes: u128,
@@ -22,14 +22,7 @@ pub(crate) struct Queue {
 impl Queue {
     /// Returns the queue after the first record of a text. Only an excerpt announces packets.
     pub(crate) fn after(first: &Record) -> Queue {
-        let mut queue = Queue {
-            announced_packets: 0,
-            announced_bytes: 0,
-            moment: 0,
-            packets: 0,
-            bytes: 0,
-            newest: 0,
-        };
+        let mut queue = Queue::default();
         match shape_of(Place::First(TextKind::History), first) {
             Ok(shape) if has_word(first, 0, b"resume") => {
                 let mut numbers = Numbers::new(first, shape);

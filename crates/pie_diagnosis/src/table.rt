@@ -15,7 +15,7 @@ const U16: u128 = 65535;
 
 const U32: u128 = 4_294_967_295;
 
-const U64: u128 = 18_446_744_073_709_551_615;
+pub(crate) const U64: u128 = 18_446_744_073_709_551_615;
 
 const U128: u128 = 340_282_366_920_938_463_463_374_607_431_768_211_455;
 
@@ -50,16 +50,16 @@ const CLOCK: [Field; 2] = [
     Field::Number("unix", U64),
 ];
 
-const NINE: [Field; 9] = [
-    Field::Number("target", U64),
-    Field::Number("t_update", U64),
-    Field::Number("max_burst", U64),
-    Field::Number("alpha", U64),
-    Field::Number("beta", U64),
-    Field::Number("mean_pkt", U64),
-    Field::Number("limit_bytes", U64),
-    Field::Number("mark_ecnth", U64),
-    Field::Number("dq_threshold", U64),
+pub(crate) const NINE: [Field; 9] = [
+    Field::Parameter("target", 2, 10_000_000_000),
+    Field::Parameter("t_update", 1, 10_000_000_000),
+    Field::Parameter("max_burst", 0, 1_000_000_000_000),
+    Field::Parameter("alpha", 0, 1_000_000),
+    Field::Parameter("beta", 0, 1_000_000),
+    Field::Parameter("mean_pkt", 1, 65535),
+    Field::Parameter("limit_bytes", 1, 1 << 30),
+    Field::Parameter("mark_ecnth", 0, 1_000_000_000_000),
+    Field::Threshold("dq_threshold"),
 ];
 
 const VERDICT: [Field; 1] = [Field::Keyword("verdict", Keywords::Verdict)];
@@ -238,38 +238,24 @@ pub(crate) struct Shape {
 impl Form {
     /// Returns the shape of the form, if a record at this place can have it.
     pub(crate) fn at(self, place: Place) -> Option<Shape> {
-        match place {
-            Place::First(kind) => self.first(kind),
-            Place::Preamble => match self {
-                Form::Queued(parts) => Some(Shape::new(b"queued", parts)),
-                _ => None,
-            },
-            Place::Later(kind, version) => self.later(kind, version),
-        }
-    }
-
-    /// Returns the shape of a first record of a text of this kind.
-    fn first(self, text: TextKind) -> Option<Shape> {
-        match (self, text) {
-            (Form::First(kind, parts), _) => Some(Shape::new(kind.word(), parts)),
-            (Form::Resume(_), TextKind::WholeHistory) => None,
-            (Form::Resume(parts), _) => Some(Shape::new(b"resume", parts)),
-            _ => None,
-        }
-    }
-
-    /// Returns the shape of a later record of a text of this kind and version.
-    fn later(self, text: TextKind, version: Version) -> Option<Shape> {
-        let (kind, parts) = match (self, text, version) {
-            (Form::Trace(kind, parts), TextKind::Trace, _) => (kind, parts),
-            (Form::FromThree(kind, parts), _, Version::Three) => (kind, parts),
-            (_, TextKind::Trace, _) => return None,
-            (Form::History(kind, parts), _, _) => (kind, parts),
-            (Form::HistoryOfOne(kind, parts), _, Version::One) => (kind, parts),
-            (Form::HistoryFromTwo(kind, parts), _, Version::Two | Version::Three) => (kind, parts),
+        let (kind, parts): (&'static [u8], Parts) = match (self, place) {
+            (Form::Resume(_), Place::First(TextKind::WholeHistory)) => return None,
+            (Form::Resume(parts), Place::First(_)) => (b"resume", parts),
+            (Form::Queued(parts), Place::Preamble) => (b"queued", parts),
+            (Form::First(kind, parts), Place::First(_))
+            | (Form::Trace(kind, parts), Place::Later(TextKind::Trace, _))
+            | (Form::FromThree(kind, parts), Place::Later(_, Version::Three)) => (
+                kind.word(),
+                parts,
+            ),
+            (_, Place::Later(TextKind::Trace, _)) => return None,
+            (Form::History(kind, parts), Place::Later(_, _))
+            | (Form::HistoryOfOne(kind, parts), Place::Later(_, Version::One))
+            | (Form::HistoryFromTwo(kind, parts), Place::Later(_, Version::Two | Version::Three)) =>
+                (kind.word(), parts),
             _ => return None,
         };
-        Some(Shape::new(kind.word(), parts))
+        Some(Shape { kind, parts })
     }
 }
 
@@ -302,11 +288,6 @@ fn name_in(text: Place, count: usize, place: usize) -> &'static str {
 }
 
 impl Shape {
-    /// Returns the shape of records of a kind with these fields.
-    fn new(kind: &'static [u8], parts: Parts) -> Shape {
-        Shape { kind, parts }
-    }
-
     /// Returns the number of fields, the kind among them.
     pub(crate) fn len(self) -> usize {
         let mut count = 1;

@@ -2,8 +2,6 @@ pub mod Names
 pub mod Field
 pub mod Text
 pub mod PlainLine
-pub mod Input
-pub mod Plain
 pub mod Source
 pub mod Command
 pub mod FirstRecord
@@ -14,8 +12,6 @@ unfoldable pub use Names.*
 unfoldable pub use Field.*
 unfoldable pub use Text.*
 unfoldable pub use PlainLine.*
-unfoldable pub use Input.*
-unfoldable pub use Plain.*
 unfoldable pub use Command.*
 unfoldable pub use FirstRecord.*
 unfoldable pub use HistoryLines.*

@@ -23,7 +23,6 @@ mod history_reader;
 mod history_record;
 mod input;
 pub mod law;
-mod long;
 pub mod number;
 mod record;
 mod records;

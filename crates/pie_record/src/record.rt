@@ -101,10 +101,8 @@ fn leave_to_csv<R: Read>(
     if is_first {
         return Ok(Found::Odd);
     }
-    match input.put_feed_back(alloc) {
-        Ok(()) => Ok(Found::Odd),
-        Err(why) => Err(why),
-    }
+    input.put_feed_back(alloc)?;
+    Ok(Found::Odd)
 }
 
 /// Reads more bytes of a line, or finds that there are none.

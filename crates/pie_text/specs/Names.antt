@@ -7,7 +7,6 @@ pub use Rattle.pie_event.specs.Event.{fits, opening_refusal, AnswerFits, Command
 pub use Rattle.pie_event.specs.Cause.{answer_of}
 pub use Rattle.pie_event.specs.declared.command.Answer.TheVariants.{Done, Empty, Left, Updated}
 pub use Rattle.pie_event.specs.declared.{opening.Opening.Opening, verdict.Verdict.Verdict}
-pub use Rattle.pie_record.specs.Command.{activity, counted, flag, ten_registers}
 unfoldable pub use Rattle.pie_record.specs.Command.{answer_fields, folded_row, refused_row, shown_row, tallied_row}
 unfoldable pub use Rattle.pie_record.specs.Field.{clock_row}
 pub use Rattle.pie_record.specs.HistoryLines.{later_fault}
@@ -16,7 +15,7 @@ pub use Rattle.pie_record.specs.ReadBack.{EventFits, IsHistoryText}
 pub use Rattle.pie_record.specs.Text.{IsPlainWord, Row, rows_setup, text_of}
 unfoldable pub use Rattle.pie_record.specs.Text.{rows_text}
 pub use Rattle.pie_record.specs.Field.{delay_word, ecn_word, mode_word, picking_word, size_word, step_word, word_of_kind, word_of_answer}
-pub use Rattle.pie_record.specs.Write.{are_default, are_usual, choices_row, command_fields, decay_row, earlier_row, event_row, is_earlier, nine_of, version_three_row, written_rows}
+pub use Rattle.pie_record.specs.Write.{are_default, are_usual, choices_row, chosen_row, command_fields, decay_row, earlier_row, event_row, is_earlier, nine_of, version_three_row, written_rows}
 unfoldable pub use Rattle.pie_record.specs.Write.{opening_row}
 pub use Rattle.pie_record.specs.declared.{fault.TraceFault.TraceFault, history_record.Line.Line, version.Version.Version}
 pub use Rattle.pie_record.specs.declared.history_record.Line.TheVariants.{Valid}

@@ -10,25 +10,23 @@
 #![tactic(auto)]
 
 mod event;
-mod event_end;
 pub mod law;
 mod long_row;
 mod note;
 mod number_ranges;
 mod opening;
 mod page;
-mod params;
 mod row_buffer;
 mod words;
 mod write;
 
-pub use event::{put_arrival, put_empty, put_event, put_left, put_reset, put_update};
-pub use event_end::put_event_end;
+pub use event::{
+    put_arrival, put_empty, put_event, put_event_end, put_left, put_params, put_reset, put_update,
+};
 pub use long_row::{LongRow, push_numbers};
 pub use note::{put_clock, put_folded, put_lost, put_refused, put_shown, put_tallied};
-pub use opening::put_opening;
+pub use opening::{put_chosen, put_opening};
 pub use page::Page;
-pub use params::put_params;
 pub use row_buffer::RowBuffer;
 pub use words::{put_ecn, put_last, put_number};
 pub use write::write_history;

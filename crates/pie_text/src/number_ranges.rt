@@ -7,18 +7,18 @@ use pie_event::{Answer, Command, Event};
 use pie_params::Params;
 use pie_queue::Packet;
 
-/// A packet's numbers fit their types.
-fn packet_fits(packet: Packet)
-    ensures { PacketFits packet }
-{
-    let _ = (packet.tag, packet.size);
-}
-
 /// Parameters are in their ranges.
 pub(crate) fn params_fit(params: Params)
     ensures { ParamsFit params }
 {
     let _ = params.raw();
+}
+
+/// A packet's numbers fit their types.
+fn packet_fits(packet: Packet)
+    ensures { PacketFits packet }
+{
+    let _ = (packet.tag, packet.size);
 }
 
 /// A caller's number fits its type.
@@ -66,13 +66,7 @@ fn answer_fits(answer: Answer)
         Answer::Updated { delay, prob, burst } => {
             let _ = (delay, prob, burst);
         }
-        Answer::Enqueued
-        | Answer::Marked
-        | Answer::DroppedEarly
-        | Answer::DroppedBytes
-        | Answer::DroppedPackets
-        | Answer::Empty
-        | Answer::Done => {}
+        _ => {}
     }
 }
 

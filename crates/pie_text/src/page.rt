@@ -124,10 +124,8 @@ impl Page {
         ensures added { OnOk result (self.new ≡ self.old ++ (first.now ++ second.now)) }
         ensures memory { IfErr result (λ why. why ≡ TraceFault.Memory) }
     {
-        match self.text(first) {
-            Ok(()) => self.text(second),
-            Err(why) => Err(why),
-        }
+        self.text(first)?;
+        self.text(second)
     }
 
     /// Adds a line and its line feed.
@@ -135,10 +133,7 @@ impl Page {
         ensures added { OnOk result (self.new ≡ self.old ++ (line.now ++ 10 ∷ [])) }
         ensures memory { IfErr result (λ why. why ≡ TraceFault.Memory) }
     {
-        match self.text(line) {
-            Ok(()) => {}
-            Err(why) => return Err(why),
-        }
+        self.text(line)?;
         match self.bytes.push(b'\n') {
             Ok(()) => Ok(()),
             Err(_) => Err(TraceFault::Memory),
@@ -157,10 +152,8 @@ impl Page {
         if let Some(line) = fields.line() {
             return self.plain(line);
         }
-        match fields.text(self.alloc) {
-            Ok(text) => self.text(text.as_slice()),
-            Err(why) => Err(why),
-        }
+        let text = fields.text(self.alloc)?;
+        self.text(text.as_slice())
     }
 
     /// Returns the bytes of the page.

@@ -15,7 +15,7 @@ unfoldable pub use Rattle.pie_aqm.specs.History.{greatest, last_or, places}
 pub use Rattle.pie_event.specs.Cause.{answer_of}
 pub use Rattle.pie_event.specs.declared.command.Answer.{Answer}
 pub use Rattle.pie_event.specs.declared.command.Answer.TheVariants.{Done, Left, Updated}
-pub use Rattle.pie_explain.proofs.ReportFacts.{begun, extended, grows, said}
+pub use Rattle.pie_explain.proofs.ReportFacts.{begun, extended, grows, said, says-by}
 pub use Rattle.pie_explain.specs.Selection.{time_of}
 pub use Rattle.pie_explain.specs.declared.explanation.Explained.{Explained}
 pub use Rattle.pie_summary.specs.ByFlow.{HoldsFlows, flow_header}

@@ -1,5 +1,4 @@
-use Rattle.pie_summary.proofs.Names.{[], if◌then◌else◌, ◌++◌, ◌∙◌, ap, List, ℕ}
-use Rattle.pie_explain.proofs.ReportFacts.{says-by}
+use Rattle.pie_summary.proofs.Names.{[], if◌then◌else◌, ◌++◌, ◌∙◌, ap, says-by, List, ℕ}
 use Rattle.pie_summary.specs.Interval.{has_summary}
 use Rattle.pie_summary.specs.Summary.{IsDigest, IsWholeDigest, summary_text}
 use Rattle.pie_summary.proofs.summary.DigestReport.end.Goals as goal

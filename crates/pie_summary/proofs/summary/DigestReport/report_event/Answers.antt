@@ -1,5 +1,4 @@
-use Rattle.pie_summary.proofs.Names.{[], if◌then◌else◌, append_assoc, ◌++◌, ◌∷◌, ◌∙◌, ap, subst, ends_interval, extended, since, HoldsSums, List, Some, ℕ}
-use Rattle.pie_explain.proofs.ReportFacts.{says-by}
+use Rattle.pie_summary.proofs.Names.{[], if◌then◌else◌, append_assoc, ◌++◌, ◌∷◌, ◌∙◌, ap, subst, ends_interval, extended, says-by, since, HoldsSums, List, Some, ℕ}
 use Rattle.pie_summary.specs.Summary.{IsDigest, summary_text}
 use Rattle.pie_summary.proofs.IntervalFacts.{digest-push, keeps-push}
 use Rattle.pie_summary.proofs.summary.DigestReport.report_event.Goals as goal

@@ -132,7 +132,7 @@ def in_words(n):
     lines += [f"  {longer} of those that left, waited longer than the target,", f"    at the head of the queue for {millis(late)}"]
     if above < late // 2 or late < above // 2:
         lines += [f"    the delay differs from the waits: it was above the target for {millis(above)}, and waits for {millis(late)};"]
-        lines += ["    if the delay is estimated from the departure rate, open with time stamps, as pie params does"]
+        lines += ["    if the delay is estimated from the departure rate, measure it by time stamps instead"]
     burst = n["last_burst_allowance"]
     lines += [f"  after the last event the target was {millis(n['last_target'])}, and the burst allowance {millis(burst)}{':' if burst else ''}"]
     lines += ["    until it is used up, no packet is marked or dropped early"] if burst else []

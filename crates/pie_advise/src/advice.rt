@@ -70,7 +70,7 @@ pub fn opening_for_link(request: &Request) -> Result<Opening, BadParam>
 pub struct Advice {
     /// The parameters in the units of other queues.
     pub numbers: Numbers,
-    /// What to expect.
+    /// The expected behaviour of the queue.
     pub outlook: Outlook,
 }
 

@@ -120,7 +120,7 @@ impl Loop {
         narrowed(u128::from(angle) * u128::from(self.window) / 2_000_000)
     }
 
-    /// Returns the angle by which the phase lags.
+    /// Returns the phase lag.
     fn lag(self, frequency: u64) -> u64 {
         let angle_of_trip = self.trip_angle(frequency);
         let (real, imaginary) = controller(frequency);

@@ -16,7 +16,7 @@ pub(crate) struct FieldCause {
     pub(crate) name: &'static str,
     /// The content of the field.
     pub(crate) value: Quoted,
-    /// What is allowed there.
+    /// The allowed content.
     pub(crate) allowed: Allowed,
 }
 

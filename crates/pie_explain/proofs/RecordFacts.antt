@@ -1,21 +1,15 @@
 -- Facts about the output: records built from their fields, and reports.
 use Rattle.std.proofs.Common.{Bool, List, [], ap, append-nil, append_assoc, arith, codes, drop, length, length-append, refl, sym, ℕ, ◌++◌, ◌-◌, ◌∙◌, ◌∷◌, ◌≡◌}
 use Rattle.pie_explain.specs.declared.explanation.Explained.{Explained}
-use Rattle.pie_explain.specs.Record.{active_field, line_of, most_fields, onto, record_of}
+use Rattle.pie_explain.specs.Record.{active_field, explanation_text, most_fields}
+use Rattle.pie_text.specs.Plain.{onto}
 use Rattle.std.proofs.lemmas.List.{drop_at}
 use Rattle.std.specs.List.{flat_map}
 use Rattle.std.proofs.lemmas.List.Concat.{flat_map-append}
-use Rattle.pie_explain.specs.Output.{IsRecords, header, pages, explanation_texts, explanation_text}
+use Rattle.pie_explain.specs.Output.{IsRecords, header, pages, explanation_texts}
 use Rattle.pie_explain.specs.Report.{Grows}
 
 -- ==== A record is put together
-
--- fields before the last one, which ends the line
-pub line-onto : (fields : List (List ℕ)) (last : List ℕ) → line_of (fields ++ last ∷ []) ≡ onto fields (last ++ codes "\n")
-line-onto [] last = refl
-line-onto (f ∷ []) last = append_assoc f (codes ",") (last ++ codes "\n")
-line-onto (f ∷ (g ∷ fs)) last =
-    ap (λ (l : List ℕ). f ++ codes "," ++ l) (line-onto (g ∷ fs) last) ∙ append_assoc f (codes ",") (onto (g ∷ fs) (last ++ codes "\n"))
 
 -- fields before a text are those before its front, and then its rest
 pub onto-append : (fields : List (List ℕ)) (front rest : List ℕ) → onto fields front ++ rest ≡ onto fields (front ++ rest)
@@ -33,13 +27,13 @@ steady_last fields steady text n is long =
 -- a record, and the wall-clock time after it
 pub wall_line : (all : Explained) (wall old : List ℕ)
     → ((old ++ onto (most_fields all) (active_field all.after.active ++ codes ",")) ++ wall) ++ codes "\n"
-    ≡ old ++ line_of (record_of all ++ wall ∷ [])
+    ≡ old ++ onto (most_fields all) (active_field all.after.active ++ (codes "," ++ wall ++ codes "\n"))
 wall_line all wall old =
-    let most = most_fields all in
+    let fields = most_fields all in
     let active : List ℕ = active_field all.after.active in
-    append_assoc (old ++ onto most (active ++ codes ",")) wall (codes "\n") ∙ append_assoc old (onto most (active ++ codes ",")) (wall ++ codes "\n")
-    ∙ ap (λ (l : List ℕ). old ++ l) (onto-append most (active ++ codes ",") (wall ++ codes "\n")
-    ∙ ap (λ (l : List ℕ). onto most l) (append_assoc active (codes ",") (wall ++ codes "\n")) ∙ sym (line-onto (most ++ active ∷ []) wall))
+    append_assoc (old ++ onto fields (active ++ codes ",")) wall (codes "\n") ∙ append_assoc old (onto fields (active ++ codes ",")) (wall ++ codes "\n")
+    ∙ ap (λ (l : List ℕ). old ++ l) (onto-append fields (active ++ codes ",") (wall ++ codes "\n")
+    ∙ ap (λ (l : List ℕ). onto fields l) (append_assoc active (codes ",") (wall ++ codes "\n")))
 
 -- ==== Records one by one, as a report
 

@@ -28,7 +28,7 @@ extended_by (Err why) page kept now more same is = tt
 pub ended : (is : List ℕ → Type 0) (text page : List ℕ) → is text → Grows is text page page
 ended is text page says = record { more = []; grown = sym (append-nil page); says = rw append-nil says }
 
--- a report of whose text nothing is stated
+-- a report without a statement about its text
 pub said : (text : List ℕ) {page now : List ℕ} → Extends page now → Grows (λ text. ⊤) text page now
 said text extends = record { more = extends.more; grown = extends.grown; says = tt }
 
@@ -38,14 +38,21 @@ said_ok (Ok value) text page now extends = said text extends
 said_ok (Err why) text page now extends = tt
 
 -- a report with a header, whose text is stated if it is exact
-pub begun : (exact : Bool) (known page now header : List ℕ) → now ≡ page ++ (if exact then header else []) → header ≡ known
-    → Grows (Says exact known) [] page now
-begun true known page now header is same = record { more = header; grown = is; says = same }
-begun false known page now header is same = record { more = []; grown = is; says = tt }
+pub begun : (exact : Bool) (is : List ℕ → Type 0) (page now header : List ℕ) → now ≡ page ++ (if exact then header else []) → is header
+    → Grows (Says exact is) [] page now
+begun true is page now header written says = record { more = header; grown = written; says = says }
+begun false is page now header written says = record { more = []; grown = written; says = tt }
 
+-- the known text, with a piece more
 pub grows : (exact : Bool) (known later text page now piece : List ℕ) → Extends page now → (exact ≡ true → now ≡ page ++ piece)
-    → later ≡ known ++ piece → Says exact known text → Grows (Says exact later) text page now
+    → later ≡ known ++ piece → Says exact (λ text. text ≡ known) text → Grows (Says exact (λ text. text ≡ later)) text page now
 grows true known later text page now piece extends written grown says =
     record { more = piece; grown = written refl; says = rw (says, grown) refl }
 grows false known later text page now piece extends written grown says =
     record { more = extends.more; grown = extends.grown; says = tt }
+
+-- a text of which a relation holds if it is exact
+pub says-by : (exact : Bool) (is was : List ℕ → Type 0) (text page now : List ℕ) → Extends page now
+    → (exact ≡ true → was text → Grows is text page now) → Says exact was text → Grows (Says exact is) text page now
+says-by true is was text page now extends known says = let it = known refl says in record { more = it.more; grown = it.grown; says = it.says }
+says-by false is was text page now extends known says = record { more = extends.more; grown = extends.grown; says = tt }

@@ -74,7 +74,7 @@ abbrev pub IsExplaining : Selection → (List Explained → List ℕ → Type 0)
 IsExplaining selection tale shows start origin lines replay explained page before now = (start.events ≡ replay.before)
     × Explains start origin selection tale shows lines replay.auditor replay.set_by explained before (append_known now page)
 
--- more lines were explained: after whatever lines the state before them stood, the state is now that after these too
+-- more lines were explained: if the old state is that after some lines, the new one is that after them and these lines
 pub record ExplainsMore (selection : Selection) (tale : List Explained → List ℕ → Type 0) (showed shows : List Explained → Type 0)
     (was replay : Replay) (counted explained : ℕ) (old_page page : List ℕ) (old out : Option (List ℕ)) (more : List Line) : Type 0 where
   pub explains : (start : Start) (origin : Origin) (first : List Line) (before : Option (List ℕ))

@@ -1,5 +1,5 @@
 -- The CSV record of an explanation.
-use Rattle.std.specs.Prelude.{ℕ, Bool, true, false, List, [], ◌∷◌, ◌++◌, Option, Some, None, codes, option_map, if◌then◌else◌}
+use Rattle.std.specs.Prelude.{ℕ, Bool, true, false, List, [], ◌∷◌, ◌++◌, Option, Some, None, codes, option_map}
 use Rattle.std.specs.Fmt.{decimal}
 use Rattle.pie_queue.specs.declared.packet.Packet.{Packet}
 use Rattle.pie_event.specs.declared.cause.Cause.{Cause}
@@ -13,6 +13,7 @@ use Rattle.pie_event.specs.Event.{caller_moment, setter_number}
 use Rattle.pie_record.specs.declared.words.Kind.TheVariants as kind
 use Rattle.pie_record.specs.declared.words.AnswerKeyword.TheVariants as explanation_texts
 use Rattle.pie_record.specs.Field.{ecn_word, word_of_kind, word_of_answer}
+use Rattle.pie_text.specs.Plain.{onto}
 use Rattle.pie_units.specs.Time.{utc_text}
 use Rattle.pie_explain.specs.declared.explanation.Explained.{Explained}
 use Rattle.pie_explain.specs.declared.explanation.Explanation.{Explanation}
@@ -101,32 +102,22 @@ more_fields explanation =
     ecn_field (packet_of explanation.event) ∷ number_field (word_of explanation.event.command) ∷ number_field (wait_where explanation.event.answer explanation.waited)
     ∷ active_field explanation.before.active ∷ number_field (setter_number explanation.set_by) ∷ []
 
--- the twenty-seven fields, and all of them except the last, the controller's activity after the event
+-- the twenty-seven fields except the last, the controller's activity after the event
 abbrev pub most_fields : Explained → List (List ℕ)
 most_fields all =
     head_fields all.explanation ++ packet_fields (packet_of all.explanation.event) ++ condition_fields all.explanation ++ more_fields all.explanation
     ++ register_fields all.after all.delay
-
-abbrev pub record_of : Explained → List (List ℕ)
-record_of all = most_fields all ++ active_field all.after.active ∷ []
 
 -- the wall-clock time; empty if it is unknown
 abbrev pub wall_field : Option ℕ → List ℕ
 wall_field None = []
 wall_field (Some unix) = utc_text unix
 
--- the record, with the wall-clock time of the effective moment as a last field if `by_wall`
-abbrev pub record_by : Bool → Explained → List (List ℕ)
-record_by by_wall all =
-    if by_wall then record_of all ++ wall_field (time_of all.explanation.clock all.explanation.moment) ∷ [] else record_of all
+-- the end of a record: the wall-clock time of the effective moment as a last field if `by_wall`, and a line feed
+abbrev pub end_of : Bool → Explained → List ℕ
+end_of false all = codes "\n"
+end_of true all = codes "," ++ wall_field (time_of all.explanation.clock all.explanation.moment) ++ codes "\n"
 
--- these fields as a line of CSV: none of them has a comma, a quote or a line's end in it
-abbrev pub line_of : List (List ℕ) → List ℕ
-line_of [] = codes "\n"
-line_of (field ∷ []) = field ++ codes "\n"
-line_of (field ∷ (next ∷ fields)) = field ++ codes "," ++ line_of (next ∷ fields)
-
--- these fields, each with a comma after it, before the end of a line
-abbrev pub onto : List (List ℕ) → List ℕ → List ℕ
-onto [] end = end
-onto (field ∷ fields) end = field ++ (44 ∷ onto fields end)
+-- the record of an explanation: none of its fields has a comma, a quote or a line's end in it
+unfoldable pub explanation_text : Bool → Explained → List ℕ
+explanation_text by_wall all = onto (most_fields all) (active_field all.after.active ++ end_of by_wall all)

@@ -13,10 +13,10 @@ pub record Extends (page now : List ℕ) : Type 0 where
   pub more : List ℕ
   pub grown : now ≡ page ++ more
 
--- a text is the known one if it is `exact`; otherwise any
-abbrev pub Says : Bool → List ℕ → List ℕ → Type 0
-Says true known text = text ≡ known
-Says false known text = ⊤
+-- the relation `is` holds of a text if it is `exact`; otherwise the text is any
+abbrev pub Says : Bool → (List ℕ → Type 0) → List ℕ → Type 0
+Says true is text = is text
+Says false is text = ⊤
 
 -- a report received exactly these events, by the relations `shows` of its state and `whole` of its text, and wrote the text
 abbrev pub Receives : {State : Type 0} → (State → List Explained → Type 0) → (List Explained → List ℕ → Type 0) → List Explained → List ℕ → Type 0

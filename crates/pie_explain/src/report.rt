@@ -1,8 +1,7 @@
 //! The interface of reports about explained events.
-ghost use Rattle.std.specs.Prelude.{◌≡◌, ◌++◌, ◌∷◌, [], ℕ, List, IfOk, OnOk, codes, if◌then◌else◌};
+ghost use Rattle.std.specs.Prelude.{◌≡◌, ◌++◌, ◌∷◌, [], ℕ, List, IfOk, OnOk, if◌then◌else◌};
 ghost use Rattle.pie_explain.specs.declared.explanation.Explained.{Explained};
 ghost use Rattle.pie_explain.specs.Output.{header_of};
-ghost use Rattle.pie_explain.specs.Record.{line_of};
 ghost use Rattle.pie_explain.specs.Report.{Extends, Grows};
 
 use crate::explanation::Explained;
@@ -68,9 +67,7 @@ fn push_names(page: &mut Page, names: &str, end: &str) -> Written
 ///
 /// Returns `AllocError` if memory is short.
 pub fn push_header(page: &mut Page, names: &str, form: Form) -> Result<(), AllocError>
-    ensures { (fields : List (List ℕ)) → line_of fields ≡ names.now ++ codes "\n"
-        → line_of (fields ++ codes "wall" ∷ []) ≡ names.now ++ codes ",wall\n"
-        → OnOk result (page.new ≡ page.old ++ (if form.csv then header_of fields form.by_wall else [])) }
+    ensures { OnOk result (page.new ≡ page.old ++ (if form.csv then header_of names.now form.by_wall else [])) }
 {
     match (form.csv, form.by_wall) {
         (false, _) => Ok(()),
@@ -135,7 +132,7 @@ impl Report for EventRecords {
     }
 
     #[inline(always)]
-    #[tactic(auto, using(crate::proofs::RecordFacts::pages_reported), unfolding(crate::specs::Output::explanation_text))]
+    #[tactic(auto, using(crate::proofs::RecordFacts::pages_reported), unfolding(crate::specs::Record::explanation_text))]
     fn report_event(
         &self,
         state: &mut RecordWriter,

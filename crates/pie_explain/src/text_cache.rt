@@ -1,6 +1,7 @@
 //! The text of a controller's numbers, which often stay as they are from one event to the next: what did not change is not written a second time.
 ghost use Rattle.std.specs.Prelude.{◌≡◌, ◌≤◌, ◌-◌, [], drop, length};
-ghost use Rattle.pie_explain.specs.Record.{register_fields, onto, steady_fields};
+ghost use Rattle.pie_explain.specs.Record.{register_fields, steady_fields};
+ghost use Rattle.pie_text.specs.Plain.{onto};
 ghost use Rattle.std.specs.Prelude.{true};
 
 use pie_book::Registers;
@@ -56,7 +57,8 @@ pub(crate) struct Held {
 
 impl Model for Held {
     ghost use Rattle.std.specs.Prelude.{ℕ, ◌≡◌, ◌≤◌, ◌∷◌, List, [], length, decimal};
-    ghost use Rattle.pie_explain.specs.Record.{onto, steady_fields};
+    ghost use Rattle.pie_explain.specs.Record.{steady_fields};
+    ghost use Rattle.pie_text.specs.Plain.{onto};
 
     ghost Value = { List ℕ };
 

@@ -12,11 +12,10 @@ pub use Rattle.std.specs.Prelude.{Err, None, Ok, OnOk, Option, Result, Some, cod
 pub use Rattle.pie_aqm.proofs.Laws.{greatest-push, last_or-push}
 pub use Rattle.pie_aqm.specs.History.{Place}
 unfoldable pub use Rattle.pie_aqm.specs.History.{greatest, last_or, places}
-unfoldable pub use Rattle.pie_event.specs.Cause.{word_of_cause}
 pub use Rattle.pie_event.specs.Cause.{answer_of}
 pub use Rattle.pie_event.specs.declared.command.Answer.{Answer}
 pub use Rattle.pie_event.specs.declared.command.Answer.TheVariants.{Done, Left, Updated}
-pub use Rattle.pie_explain.proofs.ReportFacts.{begun, extended, grows, said}
+pub use Rattle.pie_explain.proofs.ReportFacts.{begun, extended, grows, said, says-by}
 pub use Rattle.pie_explain.specs.Selection.{time_of}
 pub use Rattle.pie_explain.specs.declared.explanation.Explained.{Explained}
 pub use Rattle.pie_summary.specs.ByFlow.{HoldsFlows, flow_header}

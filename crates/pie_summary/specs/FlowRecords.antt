@@ -24,10 +24,10 @@ abbrev pub mean_wait : FlowSums → ℕ
 mean_wait sums = kept (sums.waited / max sums.left 1)
 
 -- the names of the fields
-abbrev pub flow_names : List (List ℕ)
-flow_names = codes "first_moment" ∷ codes "last_moment" ∷ codes "flow" ∷ codes "arrivals" ∷ codes "arrived_bytes" ∷ codes "enqueue" ∷ codes "mark"
-    ∷ codes "early" ∷ codes "bytes" ∷ codes "packets" ∷ codes "left" ∷ codes "carried_bytes" ∷ codes "greatest_wait" ∷ codes "mean_wait"
-    ∷ codes "byte_microseconds" ∷ []
+abbrev pub flow_names : List ℕ
+flow_names =
+    codes "first_moment,last_moment,flow,arrivals,arrived_bytes,enqueue,mark,early,bytes,packets,left,carried_bytes,greatest_wait,mean_wait,"
+    ++ codes "byte_microseconds"
 
 abbrev pub flow_numbers : FlowSums → List ℕ
 flow_numbers sums = sums.arrivals ∷ sums.bytes ∷ sums.queued ∷ sums.marked ∷ sums.early ∷ sums.no_bytes ∷ sums.no_packets ∷ sums.left

@@ -2,7 +2,6 @@
 use Rattle.std.specs.Prelude.{ℕ, ◌-◌, ◌/◌, ◌==◌, if◌then◌else◌, Bool, true, false, List, [], ◌∷◌, ◌++◌, map, slice_index, take, codes}
 use Rattle.std.specs.Fmt.{decimal}
 use Rattle.std.specs.List.{sum}
-use Rattle.pie_event.specs.Cause.{cause_names, word_of_cause}
 use Rattle.pie_text.specs.Plain.{onto}
 use Rattle.pie_units.specs.Time.{utc_text}
 use Rattle.pie_summary.specs.declared.meter.Meter.{Meter}
@@ -12,16 +11,14 @@ use Rattle.pie_summary.specs.Ranges.{end_within, first_up_to}
 use Rattle.pie_summary.specs.Sums.{left_place, updated_place}
 
 -- the names of the fields, with the keywords of the causes between them
-abbrev pub field_names : List (List ℕ)
+abbrev pub field_names : List ℕ
 field_names =
-    (codes "events" ∷ codes "first_moment" ∷ codes "last_moment" ∷ codes "arrivals" ∷ codes "arrived_bytes"
-    ∷ codes "enqueue" ∷ codes "mark" ∷ codes "early" ∷ codes "bytes" ∷ codes "packets" ∷ [])
-    ++ map word_of_cause cause_names
-    ++ (codes "left" ∷ codes "greatest_wait" ∷ codes "mean_wait"
-    ∷ codes "updates" ∷ codes "greatest_delay" ∷ codes "last_delay" ∷ codes "greatest_probability" ∷ codes "last_probability"
-    ∷ codes "turned_on" ∷ codes "first_turned_on" ∷ codes "last_turned_on" ∷ codes "turned_off" ∷ codes "first_turned_off" ∷ codes "last_turned_off"
-    ∷ codes "wait_99" ∷ codes "carried_bytes" ∷ codes "last_target" ∷ codes "last_burst_allowance" ∷ codes "time_above_target"
-    ∷ codes "waited_above_target" ∷ codes "time_waited_above_target" ∷ [])
+    codes "events,first_moment,last_moment,arrivals,arrived_bytes,enqueue,mark,early,bytes,packets,"
+    ++ codes "no_room_in_bytes,no_room_in_packets,inactive,burst_allowed,low_delay,short_queue,no_probability,little_accumulated,"
+    ++ codes "picked_by_sum,picked_by_sum_not_capable,picked_by_sum_not_below,picked_by_word,picked_by_word_not_capable,"
+    ++ codes "picked_by_word_not_below,word_not_below,left,greatest_wait,mean_wait,updates,greatest_delay,last_delay,greatest_probability,"
+    ++ codes "last_probability,turned_on,first_turned_on,last_turned_on,turned_off,first_turned_off,last_turned_off,wait_99,carried_bytes,"
+    ++ codes "last_target,last_burst_allowance,time_above_target,waited_above_target,time_waited_above_target"
 
 -- the number of packets that left
 abbrev pub left_in : Meter → ℕ

@@ -1,7 +1,7 @@
 -- The output of summaries of the explained events as CSV records.
-use Rattle.std.specs.Prelude.{ℕ, ◌≡◌, Bool, ◌||◌, List, ◌++◌, Option}
+use Rattle.std.specs.Prelude.{ℕ, ◌≡◌, Bool, false, ◌||◌, List, [], ◌∷◌, ◌++◌, Option}
 use Rattle.std.specs.List.{flat_map}
-use Rattle.pie_aqm.specs.History.{places}
+use Rattle.pie_aqm.specs.History.{Place, places}
 use Rattle.pie_explain.specs.declared.explanation.Explained.{Explained}
 use Rattle.pie_explain.specs.declared.choice.EventChoice.TheVariants.{Lost, Marked}
 use Rattle.pie_explain.specs.Output.{header_of}
@@ -35,6 +35,25 @@ records_whole every by_wall all = records_so_far every by_wall all ++ at_last ev
 -- true if `--lost` or `--marked` chooses the event
 abbrev pub is_lost_or_marked : Explained → Bool
 is_lost_or_marked one = chooses Lost one.explanation.number one.explanation.event || chooses Marked one.explanation.number one.explanation.event
+
+-- a text about an event: empty unless the event lost or marked a packet
+abbrev pub IsAbout : Explained → List ℕ → Type 0
+IsAbout one text = is_lost_or_marked one ≡ false → text ≡ []
+
+-- the text at these events: the record of the interval before an event, if the event begins another, and then a text about the event
+abbrev pub IsDigestAt : Option ℕ → Bool → List (Place Explained) → List ℕ → Type 0
+IsDigestAt every by_wall [] text = text ≡ []
+IsDigestAt every by_wall (place ∷ places) text =
+    (about rest : List ℕ) × (text ≡ at_end every (summary_text_of by_wall) place ++ about ++ rest) × IsAbout place.event about × IsDigestAt every by_wall places rest
+
+-- a digest before its end: the header, and the text at each event
+abbrev pub IsDigest : Option ℕ → Bool → List Explained → List ℕ → Type 0
+IsDigest every by_wall all text = (rows : List ℕ) × (text ≡ header by_wall ++ rows) × IsDigestAt every by_wall (places all) rows
+
+-- a whole digest: with the record of the last interval
+abbrev pub IsWholeDigest : Option ℕ → Bool → List Explained → List ℕ → Type 0
+IsWholeDigest every by_wall all text =
+    (before : List ℕ) × (text ≡ before ++ at_last every (summary_text_of by_wall) all) × IsDigest every by_wall all before
 
 -- the state of an interval after these events: their numbers, and their waiting times
 pub record HoldsSums (interval : Interval) (all : List Explained) : Type 0 where

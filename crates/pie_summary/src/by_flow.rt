@@ -116,14 +116,15 @@ fn push_ended(page: &mut Page, by_flow: &ByFlow, ends: bool, span: &Span, flows:
 impl Report for ByFlow {
     type State = FlowInterval;
 
+    ghost use Rattle.std.specs.Prelude.{◌≡◌};
     ghost use Rattle.pie_explain.specs.Report.{Says};
     ghost use Rattle.pie_summary.specs.ByFlow.{flows_so_far, flows_whole, keeps_flows};
 
     ghost shows = { keeps_flows };
 
-    ghost so_far = { λ it all. Says it.form.csv (flows_so_far it all) };
+    ghost so_far = { λ it all. Says it.form.csv (λ text. text ≡ flows_so_far it all) };
 
-    ghost whole = { λ it all. Says it.form.csv (flows_whole it all) };
+    ghost whole = { λ it all. Says it.form.csv (λ text. text ≡ flows_whole it all) };
 
     #[inline(always)]
     fn is_by_kind(&self) -> bool {

@@ -5,9 +5,9 @@ ghost use Rattle.pie_explain.specs.Report.{Extends};
 use crate::interval::{Interval, has_summary, interval_of};
 use crate::meter::Meter;
 use crate::meter_input::{EARLY, LEFT, MARKED, NO_BYTES, NO_PACKETS, UPDATED};
-use crate::summary::{Layout, enter, push_ended};
+use crate::summary::{enter, push_ended};
 use crate::words::Written;
-use pie_explain::{Explained, Report};
+use pie_explain::{Explained, Form, Report};
 use pie_text::Page;
 use pie_units::Utc;
 use std::alloc::AllocError;
@@ -75,6 +75,12 @@ impl Display for ShareCell {
 }
 
 impl IntervalLines {
+    /// Returns the form: words.
+    fn form(self) -> Form {
+        let (csv, by_wall) = (false, self.by_wall);
+        Form { csv, by_wall }
+    }
+
     /// Writes the header, if a line after `lines` others has one.
     fn push_heading(self, text: &mut String, lines: u64) -> Written {
         if lines > 0 && !(self.style.repeats && lines % LINES == 0) {
@@ -171,7 +177,7 @@ impl Report for IntervalLines {
         page: &mut Page,
     ) -> Written {
         let number = interval_of(Some(self.every), explained.explanation.moment);
-        enter(page, Layout::Line(*self), interval, number)?;
+        enter(page, self.form(), Some(self), interval, number)?;
         interval.add(explained);
         Ok(())
     }
@@ -179,6 +185,6 @@ impl Report for IntervalLines {
     #[tactic(auto, using(pie_explain::proofs::ReportFacts::said_ok))]
     fn end(&self, interval: &Interval, page: &mut Page) -> Written {
         let ends = has_summary(Some(self.every), interval.number);
-        push_ended(page, Layout::Line(*self), interval, ends)
+        push_ended(page, self.form(), Some(self), interval, ends)
     }
 }

@@ -5,7 +5,8 @@
 //! `sums_of`, which is defined on the whole list of its events (`HoldsSums`). Each event has the same cost, and only the
 //! numbers are kept. `SummariesOnly` writes them as CSV, exactly `records_whole`, or in words. `IntervalLines` writes one
 //! line for each interval. `Digest` also explains each packet that was lost or marked, between the summaries, so one pass
-//! over a history gives both. `ByFlow` sums up each flow (`HoldsFlows`), as CSV exactly `flows_whole`, or in words.
+//! over a history gives both: as CSV, `IsWholeDigest` with any words. `ByFlow` sums up each flow (`HoldsFlows`), as CSV
+//! exactly `flows_whole`, or in words.
 #![tactic(auto)]
 
 mod aggregates;

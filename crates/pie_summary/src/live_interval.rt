@@ -167,7 +167,7 @@ impl LiveInterval {
     }
 
     /// Adds the header row of the records to an empty line.
-    #[tactic(auto, unfolding(crate::specs::Summary::header, pie_event::specs::Cause::word_of_cause))]
+    #[tactic(auto, unfolding(crate::specs::Summary::header))]
     pub fn put_header(&self, line: &mut LongRow)
         requires { line.old ≡ [] }
         ensures { line.new ≡ header (has_wall self.now) }

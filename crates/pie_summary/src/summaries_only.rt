@@ -1,7 +1,7 @@
 //! Summaries without packets.
 use crate::interval::{Interval, has_summary, interval_of};
 use crate::record::NAMES;
-use crate::summary::{enter, layout_of, push_ended};
+use crate::summary::{enter, push_ended};
 use crate::words::Written;
 use pie_explain::{Explained, Form, Report, push_header};
 use pie_text::Page;
@@ -19,14 +19,15 @@ pub struct SummariesOnly {
 impl Report for SummariesOnly {
     type State = Interval;
 
+    ghost use Rattle.std.specs.Prelude.{◌≡◌};
     ghost use Rattle.pie_explain.specs.Report.{Says};
     ghost use Rattle.pie_summary.specs.Summary.{keeps, records_so_far, records_whole};
 
     ghost shows = { λ it. keeps it.every };
 
-    ghost so_far = { λ it all. Says it.form.csv (records_so_far it.every it.form.by_wall all) };
+    ghost so_far = { λ it all. Says it.form.csv (λ text. text ≡ records_so_far it.every it.form.by_wall all) };
 
-    ghost whole = { λ it all. Says it.form.csv (records_whole it.every it.form.by_wall all) };
+    ghost whole = { λ it all. Says it.form.csv (λ text. text ≡ records_whole it.every it.form.by_wall all) };
 
     #[inline(always)]
     fn is_by_kind(&self) -> bool {
@@ -43,14 +44,14 @@ impl Report for SummariesOnly {
     #[inline(always)]
     fn report_event(&self, sums: &mut Interval, explained: &Explained, page: &mut Page) -> Written {
         let number = interval_of(self.every, explained.explanation.moment);
-        enter(page, layout_of(self.form), sums, number)?;
+        enter(page, self.form, None, sums, number)?;
         sums.add(explained);
         Ok(())
     }
 
     fn end(&self, state: &Interval, page: &mut Page) -> Written {
         let ends = has_summary(self.every, state.number);
-        push_ended(page, layout_of(self.form), state, ends)?;
+        push_ended(page, self.form, None, state, ends)?;
         Ok(())
     }
 }

@@ -1,11 +1,10 @@
 //! Summaries of the explained events, and between them the words for each packet that was lost or marked.
-ghost use Rattle.std.specs.Prelude.{◌≡◌, ◌++◌, [], ℕ, Bool, List, OnOk, Option, Some, true, if◌then◌else◌};
+ghost use Rattle.std.specs.Prelude.{◌≡◌, ◌++◌, [], ℕ, List, OnOk, Option, Some, true, if◌then◌else◌};
 ghost use Rattle.pie_explain.specs.declared.explanation.Explained.{Explained};
-ghost use Rattle.pie_explain.specs.Report.{Extends};
+ghost use Rattle.pie_explain.specs.Report.{Extends, Grows};
 ghost use Rattle.pie_summary.specs.Interval.{Keeps, ends_interval, since};
 ghost use Rattle.pie_summary.specs.Record.{record_of};
-ghost use Rattle.pie_summary.specs.Summary.{HoldsSums, is_lost_or_marked, summary_text};
-ghost use Rattle.pie_summary.specs.declared.summary.Layout.TheVariants.{Record};
+ghost use Rattle.pie_summary.specs.Summary.{HoldsSums, IsAbout, is_lost_or_marked, summary_text};
 
 use crate::interval::{Interval, Sums, ends_interval, has_summary, interval_of, starts_interval};
 use crate::interval_lines::IntervalLines;
@@ -31,28 +30,6 @@ pub struct Digest {
     pub every: Option<u64>,
 }
 
-/// The layout of a summary.
-#[derive(Clone, Copy)]
-pub(crate) enum Layout {
-    /// A CSV record, with a wall-clock time if this is true.
-    Record(bool),
-    /// Several lines of words, with wall-clock times if this is true.
-    Words(bool),
-    /// One line.
-    Line(IntervalLines),
-}
-
-/// Returns the layout of summaries in this form.
-pub(crate) fn layout_of(form: Form) -> Layout
-    ensures { form.csv ≡ true → result ≡ Record form.by_wall }
-{
-    if form.csv {
-        Layout::Record(form.by_wall)
-    } else {
-        Layout::Words(form.by_wall)
-    }
-}
-
 /// Writes these numbers in words onto the page.
 #[inline(never)]
 #[tactic(auto, using(pie_explain::proofs::ReportFacts::extended_by))]
@@ -74,27 +51,28 @@ fn push_as_record(page: &mut Page, by_wall: bool, meter: &Meter, most: u64) -> W
     page.push(line.as_bytes())
 }
 
-/// Writes the summary of an interval onto `page` if the interval `ends`.
+/// Writes the summary of an interval onto `page` if the interval `ends`: in words as one of `lines`, if there are some.
 #[tactic(auto, using(pie_explain::proofs::ReportFacts::extended_by, pie_explain::proofs::ReportFacts::unextended))]
 pub(crate) fn push_ended(
     page: &mut Page,
-    layout: Layout,
+    form: Form,
+    lines: Option<&IntervalLines>,
     interval: &Interval,
     ends: bool,
 ) -> Written
     ensures grown { OnOk result (Extends page.old page.new) }
-    ensures record { (by_wall : Bool) → layout ≡ Record by_wall → OnOk result (page.new ≡ page.old
-        ++ (if ends then summary_text by_wall interval.now.sums interval.now.waits.value else [])) }
+    ensures record { form.csv ≡ true → OnOk result (page.new ≡ page.old
+        ++ (if ends then summary_text form.by_wall interval.now.sums interval.now.waits.value else [])) }
 {
     if !ends {
         return Ok(());
     }
     let sums = &interval.sums;
     let most = sums.meter.wait_99(&interval.waits);
-    match layout {
-        Layout::Record(by_wall) => push_as_record(page, by_wall, &sums.meter, most),
-        Layout::Words(by_wall) => push_in_words(page, by_wall, sums, most),
-        Layout::Line(lines) => lines.push_line(page, interval.ended, &sums.meter, most),
+    match (form.csv, lines) {
+        (true, _) => push_as_record(page, form.by_wall, &sums.meter, most),
+        (false, None) => push_in_words(page, form.by_wall, sums, most),
+        (false, Some(lines)) => lines.push_line(page, interval.ended, &sums.meter, most),
     }
 }
 
@@ -104,13 +82,14 @@ pub(crate) fn push_ended(
 #[tactic(auto, using(pie_explain::proofs::ReportFacts::unextended, crate::proofs::IntervalFacts::not_begun, crate::proofs::IntervalFacts::since_same, crate::proofs::IntervalFacts::under_way))]
 pub(crate) fn enter(
     page: &mut Page,
-    layout: Layout,
+    form: Form,
+    lines: Option<&IntervalLines>,
     interval: &mut Interval,
     number: u64,
 ) -> Written
     ensures grown { OnOk result (Extends page.old page.new) }
-    ensures record { (by_wall : Bool) → layout ≡ Record by_wall → OnOk result (page.new ≡ page.old
-        ++ (if ends_interval interval.old.number number then summary_text by_wall interval.old.sums interval.old.waits.value else [])) }
+    ensures record { form.csv ≡ true → OnOk result (page.new ≡ page.old
+        ++ (if ends_interval interval.old.number number then summary_text form.by_wall interval.old.sums interval.old.waits.value else [])) }
     ensures number { OnOk result (interval.new.number ≡ Some number) }
     ensures holds { OnOk result ((shown : List Explained) (every : Option ℕ) → Keeps (HoldsSums interval.old) every interval.old.number shown
         → HoldsSums interval.new (since every (Some number) shown)) }
@@ -118,22 +97,28 @@ pub(crate) fn enter(
     if !starts_interval(interval.number, number) {
         return Ok(());
     }
-    begin_interval(page, layout, interval, number)
+    begin_interval(page, form, lines, interval, number)
 }
 
 /// Begins the interval with this number, as `enter` does, if it is under way or not.
 #[cold]
 #[inline(never)]
-fn begin_interval(page: &mut Page, layout: Layout, interval: &mut Interval, number: u64) -> Written
+fn begin_interval(
+    page: &mut Page,
+    form: Form,
+    lines: Option<&IntervalLines>,
+    interval: &mut Interval,
+    number: u64,
+) -> Written
     ensures grown { OnOk result (Extends page.old page.new) }
-    ensures record { (by_wall : Bool) → layout ≡ Record by_wall → OnOk result (page.new ≡ page.old
-        ++ (if ends_interval interval.old.number number then summary_text by_wall interval.old.sums interval.old.waits.value else [])) }
+    ensures record { form.csv ≡ true → OnOk result (page.new ≡ page.old
+        ++ (if ends_interval interval.old.number number then summary_text form.by_wall interval.old.sums interval.old.waits.value else [])) }
     ensures number { OnOk result (interval.new.number ≡ Some number) }
     ensures holds { OnOk result ((shown : List Explained) (every : Option ℕ) → Keeps (HoldsSums interval.old) every interval.old.number shown
         → HoldsSums interval.new (since every (Some number) shown)) }
 {
     let ends = ends_interval(interval.number, number);
-    push_ended(page, layout, interval, ends)?;
+    push_ended(page, form, lines, interval, ends)?;
     interval.begin(number);
     Ok(())
 }
@@ -147,9 +132,9 @@ fn is_lost_or_marked(explained: &Explained) -> bool
 }
 
 /// Writes the words for an event that lost or marked a packet.
-#[tactic(auto, using(pie_explain::proofs::ReportFacts::unextended))]
+#[tactic(auto, using(crate::proofs::IntervalFacts::none_about, crate::proofs::IntervalFacts::some_about))]
 fn push_event_words(page: &mut Page, digest: &Digest, explained: &Explained) -> Written
-    ensures { OnOk result (Extends page.old page.new) }
+    ensures { OnOk result (Grows (IsAbout explained.now) [] page.old page.new) }
 {
     if is_lost_or_marked(explained) {
         pie_explain::push_words(
@@ -165,14 +150,14 @@ fn push_event_words(page: &mut Page, digest: &Digest, explained: &Explained) -> 
 impl Report for Digest {
     type State = Interval;
 
-    ghost use Rattle.std.specs.Prelude.{⊤};
-    ghost use Rattle.pie_summary.specs.Summary.{keeps};
+    ghost use Rattle.pie_explain.specs.Report.{Says};
+    ghost use Rattle.pie_summary.specs.Summary.{IsDigest, IsWholeDigest, keeps};
 
     ghost shows = { λ it. keeps it.every };
 
-    ghost so_far = { λ it all text. ⊤ };
+    ghost so_far = { λ it all. Says it.form.csv (IsDigest it.every it.form.by_wall all) };
 
-    ghost whole = { λ it all text. ⊤ };
+    ghost whole = { λ it all. Says it.form.csv (IsWholeDigest it.every it.form.by_wall all) };
 
     #[inline(always)]
     fn is_by_kind(&self) -> bool {
@@ -188,15 +173,15 @@ impl Report for Digest {
 
     fn report_event(&self, sums: &mut Interval, explained: &Explained, page: &mut Page) -> Written {
         let number = interval_of(self.every, explained.explanation.moment);
-        enter(page, layout_of(self.form), sums, number)?;
+        enter(page, self.form, None, sums, number)?;
         push_event_words(page, self, explained)?;
         sums.add(explained);
         Ok(())
     }
 
-    #[tactic(auto, using(pie_explain::proofs::ReportFacts::said_ok))]
     fn end(&self, state: &Interval, page: &mut Page) -> Written {
         let ends = has_summary(self.every, state.number);
-        push_ended(page, layout_of(self.form), state, ends)
+        push_ended(page, self.form, None, state, ends)?;
+        Ok(())
     }
 }

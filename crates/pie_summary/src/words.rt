@@ -126,7 +126,7 @@ fn push_above(page: &mut String, meter: &Meter) -> Written {
     write!(
         page,
         "    the delay differs from the waits: it was above the target for {above}, and waits for {late};\n    \
-        if the delay is estimated from the departure rate, open with time stamps, as pie params does\n"
+        if the delay is estimated from the departure rate, measure it by time stamps instead\n"
     )
 }
 

@@ -14,7 +14,7 @@ returns c = λ all text kept says.
     let holds = subst (λ (n : ℕ). HoldsSums c.enter.new.interval (since it.every (Some n) all)) number (c.in_ok-enter.ensures.holds all it.every kept) in (
       keeps-push (HoldsSums c.add.new.self) it.every _ all one (c.add.ensures.number ∙ c.in_ok-enter.ensures.number ∙ ap Some number)
           (c.add.ensures.adds _ holds),
-      grows it.form.csv _ _ text _ _ _ c.in_ok-enter.ensures.grown (λ csv. c.in_ok-enter.ensures.record by_wall (c.layout_of.ensures csv))
+      grows it.form.csv _ _ text _ _ _ c.in_ok-enter.ensures.grown c.in_ok-enter.ensures.record
           (written-push (header by_wall) (at_end it.every (summary_text_of by_wall)) all one
           (if ends_interval interval.number c.interval_of-number.result then summary_text by_wall interval.sums interval.waits.value else [])
           (λ i. if ends_interval (kept.last i) (number i) then summary_text by_wall (kept.kept.sums i) (kept.kept.waits i) else []))

@@ -9,9 +9,7 @@ pub record FlowView : Type 0 where
   pub numbers : FlowNumbers
   pub waiting : List Waiting
 
--- a queue: its numbers, its flows, and the lengths of the last departures in a ring, with the number of all
+-- a queue: its numbers and its flows
 pub record QueueView : Type 0 where
   pub numbers : QueueNumbers
   pub flows : List FlowView
-  pub sent : List ℕ
-  pub count : ℕ

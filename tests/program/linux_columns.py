@@ -69,10 +69,10 @@ def inputs(row):
     if kind == "change":
         return {"ns", "mtu", "moved"} | PARAMS - {"plimit"} | (FQ if fq else set())
     if kind in ("reset", "destroy"):
-        return {"ns", "mtu"}
+        return {"ns", "mtu"} | ({"rq"} if kind == "reset" and not fq else set())
     if kind == "init":
         return {"seq", "ns", "mtu"} | PARAMS - {"plimit"} | ({"x1"} | FQ if fq else set())
-    return {"seq", "ns", "mtu", "qlen1", "bl1"} | PARAMS - {"plimit"} | STATS | ({"t0", "t1", "t2", "x1"} | FQ if fq else state)
+    return {"seq", "ns", "mtu", "qlen1", "bl1", "rq"} | PARAMS - {"plimit"} | STATS | ({"t0", "t1", "t2", "x1"} | FQ if fq else state)
 
 
 def changed(columns, row, name):

@@ -11,7 +11,7 @@ use Rattle.pie_linux_history.specs.declared.known.Known.{Known}
 use Rattle.pie_linux_history.specs.declared.step.QueueName.{QueueName}
 use Rattle.pie_linux_history.specs.declared.step.Step.{Step}
 use Rattle.pie_linux_history.specs.Known.{IsPlaceOf, Represents, looked_up, tracked}
-use Rattle.pie_linux_history.specs.LookBack.{Entry, Followed, Lost, Took, begun, follow, followed, is_of, is_opening, name_of, since_last, steps_of}
+use Rattle.pie_linux_history.specs.LookBack.{Entry, Followed, Lost, Took, begun, follow, followed, is_opening, name_of, since_last, steps_of}
 use Rattle.pie_linux_history.specs.Queue.{Stepped, last_after, next_step}
 use Rattle.pie_linux_history.specs.Views.{QueueView}
 use Rattle.pie_linux_history.proofs.LookBackFacts.{followed-begun, followed-lost, followed-other, followed-step}

@@ -1,7 +1,7 @@
 -- The queue of a name after one more row.
-use Rattle.std.proofs.Common.{◌≡◌, ℕ, ◌+◌, ◌%◌, ◌^◌, ◌++◌, ◌∷◌, [], List, Bool, Option, refl, append-nil, append_assoc, ◌∙◌, sym, ap, arith, length, length-append}
+use Rattle.std.proofs.Common.{◌≡◌, ℕ, ◌+◌, ◌%◌, ◌^◌, ◌++◌, ◌∷◌, [], List, Bool, Option, refl, append-nil, append_assoc, arith, length, length-append}
 use Rattle.std.specs.Prelude.{true, false, Some, None, if◌then◌else◌, filter}
-use Rattle.std.specs.List.{filter_map, fold, sum_by}
+use Rattle.std.specs.List.{filter_map, sum_by}
 use Rattle.std.specs.Option.{option_map, option_or}
 use Rattle.std.specs.Str.{bytes_eq}
 use Rattle.std.proofs.lemmas.List.Elements.{filter-append, filter_map-append}
@@ -12,7 +12,7 @@ use Rattle.pie_linux_history.specs.declared.explained.Input.TheVariants as input
 use Rattle.pie_linux_history.specs.declared.queues.StepsCounts.{StepsCounts}
 use Rattle.pie_linux_history.specs.declared.step.QueueName.{QueueName}
 use Rattle.pie_linux_history.specs.declared.step.Step.{Step}
-use Rattle.pie_linux_history.specs.LookBack.{Entry, Followed, Lost, Took, begins, begun, counts_of, follow, followed, followed_by, is_lack, is_of, is_opening, is_step, lack_count, lack_counted, lack_in, lost_steps, step_count, name_of, opening_of, since_last, step_of, steps_of}
+use Rattle.pie_linux_history.specs.LookBack.{Entry, Lost, Took, begins, begun, counts_of, follow, followed, followed_by, is_lack, is_of, is_opening, lack_count, lack_counted, lack_in, lost_steps, step_count, name_of, opening_of, since_last, step_of, steps_of}
 
 -- an element with one more after it
 abbrev more : {A : Type 0} → A → A × List A → A × List A

@@ -1,6 +1,5 @@
 -- Steps of a flow, and packets that are dropped.
-use Rattle.std.proofs.Common.{Option, List, [], ◌∷◌, ◌++◌, ◌≡◌, ℕ, ◌+◌, ◌-◌, ◌^◌, ◌<◌, ◌≤◌, arith, refl, min, sym, ap, ◌∙◌, length, get_or, drop, map, take, append-nil, append_assoc}
-use Rattle.std.proofs.lemmas.Bool.Decides.{nat_tests}
+use Rattle.std.proofs.Common.{Option, List, [], ◌∷◌, ◌++◌, ◌≡◌, ℕ, ◌+◌, ◌<◌, ◌≤◌, arith, refl, sym, ap, ◌∙◌, length, get_or, drop, map, take, append-nil, append_assoc}
 use Rattle.std.specs.Prelude.{Some, None, true, zero, suc}
 use Rattle.std.proofs.lemmas.Option.{slice_get-get_or, slice_get_past}
 use Rattle.std.proofs.lemmas.Grind.{drop_more_same}

@@ -1,6 +1,6 @@
 -- One more row of a text.
-use Rattle.std.proofs.Common.{◌≡◌, ℕ, ◌+◌, ◌%◌, ◌^◌, ◌++◌, ◌∷◌, [], List, Bool, Option, arith, refl, ◌∙◌, sym, ap}
-use Rattle.std.specs.Prelude.{true, false, Some, None, if◌then◌else◌, Result, Ok, Err}
+use Rattle.std.proofs.Common.{◌≡◌, ℕ, ◌+◌, ◌%◌, ◌^◌, ◌++◌, ◌∷◌, [], List, Option, arith, refl, ◌∙◌, ap}
+use Rattle.std.specs.Prelude.{true, false, Some, None, if◌then◌else◌, Result, Ok}
 use Rattle.std.specs.Option.{option_map}
 use Rattle.std.specs.Str.{bytes_eq}
 use Rattle.pie_linux_history.specs.declared.explained.Decision.{Decision}

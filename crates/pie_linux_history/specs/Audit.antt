@@ -16,7 +16,7 @@ use Rattle.pie_linux_history.specs.declared.text.StepsFinding.{StepsFinding}
 use Rattle.pie_linux_history.specs.declared.text.StepsFinding.TheVariants.{Clean, Differs}
 use Rattle.pie_linux_history.specs.Columns.{columns_of}
 use Rattle.pie_linux_history.specs.Queue.{opening_difference}
-use Rattle.pie_linux_history.specs.LookBack.{Entry, Lost, Took, counts_of, decision_by, entry_in, followed, is_opening, name_of}
+use Rattle.pie_linux_history.specs.LookBack.{Entry, Took, counts_of, decision_by, entry_in, followed, is_opening, name_of}
 
 -- the number of the next event or record
 abbrev pub next : ℕ → ℕ

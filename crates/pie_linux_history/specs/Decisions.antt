@@ -1,7 +1,7 @@
 -- The decision of one recorded step, from the numbers of its queue and of its flow: the numbers after it, by the rules of
 -- pie_linux. No decision reads a recorded result, except the clock of a departure, and in a text without the column `rq` the
 -- inputs that it lacks. specs/Right.antt has the comparison.
-use Rattle.std.specs.Prelude.{ℕ, ◌+◌, ◌-◌, ◌%◌, ◌/◌, ◌^◌, Bool, true, false, not, nat_lt, ◌&&◌, ◌||◌, ◌==◌, if◌then◌else◌, Option, Some, None, get_or, unwrap_or}
+use Rattle.std.specs.Prelude.{ℕ, ◌+◌, ◌-◌, ◌%◌, ◌/◌, ◌^◌, Bool, true, false, not, nat_lt, ◌&&◌, ◌==◌, if◌then◌else◌, Option, Some, None, get_or, unwrap_or}
 use Rattle.pie_linux.specs.Numbers.{sum_32, ticks}
 use Rattle.pie_linux.specs.Enqueue.{counted, enqueue_cause, enqueued, is_markable, is_queued, is_tag}
 use Rattle.pie_linux.specs.Departure.{departed, readings}

@@ -1,5 +1,5 @@
 -- A queue after the rows of a text, by looking back over them: the last row `init` or `resume` of its name, and each later step of this name.
-use Rattle.std.specs.Prelude.{ℕ, ◌+◌, ◌%◌, ◌^◌, ◌≡◌, ◌++◌, ◌∷◌, if◌then◌else◌, List, [], length, take, filter, nat_le, not, Bool, true, false, Option, Some, None, Result, Ok, Err}
+use Rattle.std.specs.Prelude.{ℕ, ◌+◌, ◌%◌, ◌^◌, ◌++◌, ◌∷◌, if◌then◌else◌, List, [], length, take, filter, nat_le, not, Bool, true, false, Option, Some, None, Result, Ok}
 use Rattle.std.specs.List.{filter_map, fold, sum_by}
 use Rattle.std.specs.Option.{ok_or, option_or}
 use Rattle.std.specs.Str.{bytes_eq}

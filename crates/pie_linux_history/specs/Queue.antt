@@ -1,7 +1,6 @@
 -- A queue whose steps are decided again: its numbers and its flows with their waiting packets; and each step of it.
-use Rattle.std.specs.Prelude.{ℕ, ◌+◌, ◌-◌, ◌%◌, ◌/◌, ◌^◌, ◌++◌, ◌∷◌, ◌==◌, ◌≡◌, ◌&&◌, if◌then◌else◌, not, nat_le, nat_lt, List, [], length, get_or, min, Option, Some, None, unwrap_or, zero, suc, Bool, true, false, drop, map, replicate, take}
+use Rattle.std.specs.Prelude.{ℕ, ◌+◌, ◌-◌, ◌%◌, ◌^◌, ◌++◌, ◌∷◌, ◌==◌, ◌≡◌, if◌then◌else◌, not, List, [], Option, Some, None, unwrap_or, Bool, true, false, drop, map, replicate, take}
 use Rattle.std.specs.List.{flat_map, fold, slice_get}
-use Rattle.std.specs.Option.{option_or}
 use Rattle.std.proofs.Math.ListN.{set}
 use Rattle.pie_linux.specs.Enqueue.{is_queued, one_if}
 use Rattle.pie_linux.specs.declared.state.LinuxState.{LinuxState}

@@ -1,5 +1,5 @@
 -- The numbers of a running queue and of its flows by their rows.
-use Rattle.std.specs.Prelude.{ℕ, ◌+◌, ◌-◌, ◌^◌, ◌==◌, Bool, true, false, if◌then◌else◌, Option, Some, None, get_or, min, not, nat_lt}
+use Rattle.std.specs.Prelude.{ℕ, ◌+◌, ◌-◌, ◌^◌, ◌==◌, Bool, true, false, ◌&&◌, if◌then◌else◌, Option, Some, None, get_or, min, not, nat_lt}
 use Rattle.pie_linux.specs.Numbers.{full_burst, unset}
 use Rattle.pie_linux.specs.declared.state.LinuxState.{LinuxState}
 use Rattle.pie_linux_history.specs.declared.step.Kind.{Kind}
@@ -64,8 +64,8 @@ first_numbers handle step = record {
   bytes = 0;
   memory = 0;
   memory_limit = step.truesize;
-  over_memory = if is_init step.kind then Some 0 else None;
-  cursor = if is_init step.kind then Some 0 else None;
+  over_memory = if is_init step.kind && step.has_flows then Some 0 else None;
+  cursor = if is_init step.kind && step.has_flows then Some 0 else None;
   drops = 0;
   drop_bytes = 0;
 }

@@ -1,6 +1,6 @@
 -- The step that the rules give in place of a recorded one: its inputs, and each number that they determine. A text without the column `rq` is compared in
 -- fewer columns: the other numbers are those of the row.
-use Rattle.std.specs.Prelude.{ℕ, ◌+◌, ◌*◌, ◌-◌, ◌%◌, ◌^◌, Bool, true, false, not, ◌&&◌, ◌||◌, ◌==◌, nat_lt, if◌then◌else◌, List, [], ◌∷◌, Option, Some, None, get_or, unwrap_or}
+use Rattle.std.specs.Prelude.{ℕ, ◌*◌, ◌%◌, ◌^◌, Bool, true, not, ◌&&◌, ◌==◌, nat_lt, if◌then◌else◌, List, [], ◌∷◌, Option, Some, None, get_or, unwrap_or}
 use Rattle.pie_linux.specs.Numbers.{sum_32}
 use Rattle.pie_linux.specs.Enqueue.{draws, is_queued, one_if}
 use Rattle.pie_linux.specs.Queue.{excess}
@@ -17,7 +17,7 @@ use Rattle.pie_linux_history.specs.declared.right.Arrived.{Arrived}
 use Rattle.pie_linux_history.specs.declared.right.Departed.{Departed}
 use Rattle.pie_linux_history.specs.declared.step.Step.{Step}
 use Rattle.pie_linux_history.specs.Columns.{blank}
-use Rattle.pie_linux_history.specs.Decisions.{arrival_at, arrived, arrived_flow, counts_memory, cursor_of, departed_flow, departed_queue, departure_at, difference_32, flow_chosen, recorded_flow, update_backlog, updated_flow}
+use Rattle.pie_linux_history.specs.Decisions.{arrival_at, arrived, arrived_flow, counts_memory, cursor_of, departed_flow, departed_queue, departure_at, difference_32, flow_chosen, update_backlog, updated_flow}
 use Rattle.pie_linux_history.specs.Differences.{step_difference}
 use Rattle.pie_linux_history.specs.Resumes.{is_init, new_state, no_stats}
 

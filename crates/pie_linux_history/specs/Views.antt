@@ -1,5 +1,5 @@
 -- The views of a queue: lists in place of memory.
-use Rattle.std.specs.Prelude.{ℕ, List}
+use Rattle.std.specs.Prelude.{List}
 use Rattle.pie_linux_history.specs.declared.numbers.FlowNumbers.{FlowNumbers}
 use Rattle.pie_linux_history.specs.declared.numbers.QueueNumbers.{QueueNumbers}
 use Rattle.pie_linux_history.specs.declared.numbers.Waiting.{Waiting}

@@ -79,7 +79,7 @@ pub(crate) struct QueueNumbers {
     pub memory: u32,
     /// The limit of fq_pie's memory.
     pub memory_limit: u32,
-    /// The number of arrivals at which the memory exceeded its limit. `None` for a running queue, until the first arrival.
+    /// The number of arrivals at which fq_pie's memory exceeded its limit. `None` for a running queue, until the first arrival.
     pub over_memory: Option<u32>,
     /// The first flow of the next round. `None` for a running queue, until the first round.
     pub cursor: Option<u32>,

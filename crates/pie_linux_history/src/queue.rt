@@ -184,6 +184,11 @@ fn first_numbers(handle: u32, step: &Step) -> QueueNumbers
     ensures { result ≡ first_numbers handle step.now }
 {
     let is_new = step.kind == Kind::Init;
+    let known = if is_new && step.has_flows {
+        Some(0)
+    } else {
+        None
+    };
     QueueNumbers {
         has_flows: step.has_flows,
         handle,
@@ -199,8 +204,8 @@ fn first_numbers(handle: u32, step: &Step) -> QueueNumbers
         bytes: 0,
         memory: 0,
         memory_limit: step.truesize,
-        over_memory: if is_new { Some(0) } else { None },
-        cursor: if is_new { Some(0) } else { None },
+        over_memory: known,
+        cursor: known,
         drops: 0,
         drop_bytes: 0,
     }

@@ -1,4 +1,4 @@
-use Rattle.std.proofs.Common.{Option, Some, None, ap, refl}
+use Rattle.std.proofs.Common.{Some, None, ap, refl}
 use Rattle.pie_linux_history.specs.LookBack.{lack_counted}
 use Rattle.pie_linux_history.proofs.RowFacts.{follow-lack, follow-row}
 use Rattle.pie_linux_history.proofs.queues.Queues.follow.Goals as goal

@@ -1,4 +1,4 @@
-use Rattle.std.proofs.Common.{◌≡◌, ◌∙◌, [], refl}
+use Rattle.std.proofs.Common.{◌≡◌, []}
 use Rattle.pie_linux_history.specs.declared.queues.StepsCounts.{StepsCounts}
 use Rattle.pie_linux_history.specs.LookBack.{counts_of, lack_count}
 use Rattle.pie_linux_history.proofs.KnownFacts.{represents-none}

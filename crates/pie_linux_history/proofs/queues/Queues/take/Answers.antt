@@ -1,4 +1,3 @@
-use Rattle.std.proofs.Common.{refl}
 use Rattle.pie_linux_history.specs.LookBack.{entry_in}
 use Rattle.pie_linux_history.proofs.RowFacts.{entry-lost, entry-took, takes-lost, takes-took}
 use Rattle.pie_linux_history.proofs.queues.Queues.take.Goals as goal

@@ -18,7 +18,7 @@ pub struct Difference {
 
 impl Difference {
     /// Returns the name of the column in the first row.
-    pub fn name(&self) -> &'static str {
+    pub(crate) fn name(&self) -> &'static str {
         name_of(self.column)
     }
 }

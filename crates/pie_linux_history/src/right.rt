@@ -1,7 +1,39 @@
 //! The step that the rules give in place of a recorded one: its inputs, and each number that they determine.
 //!
-//! A text without the column `rq` is compared in fewer columns: the numbers that such a text does not have as the rules give
-//! them are taken from the row.
+//! The columns of a text with the column `rq`, by the type of the row. `=` is compared, `in` is an input, and a number alone is
+//! compared with this number. (fq) holds for fq_pie, and pie is compared with 0.
+//!
+//! | columns | `enq` | `deq` | `calc` | `timer` | `change` | `reset` | `destroy` | `init` | `resume` |
+//! |---|---|---|---|---|---|---|---|---|---|
+//! | `seq` | = | = | = | = | = | = | = | in | in |
+//! | `ns` | 64 `enq` if queued without the estimator, or in | 64 `a_dq_tstamp` without the estimator, or in | in | in | in | in | in | in | in |
+//! | `flow` | = (fq), or -1 | in (fq), or -1 | in (fq), or -1 | = | -1 | -1 | -1 | -1 | -1 |
+//! | `size`, `pktlen` | in | = | 0 | 0 | `size` = | 0 | 0 | 0 | 0 |
+//! | `backlog` | =, 0 at the limit | = | = | 0 | = unless `moved` | 0 | 0 | 0 | 0 |
+//! | `qlen0`, `bl0`, `ret`, `nrnd` | = | 0 | 0 | 0 | 0 | 0 | 0 | 0 | 0 |
+//! | `early` | = | 255 | 255 | 255 | 255 | 255 | 255 | 255 | 255 |
+//! | `qlen1`, `bl1` | = | = | = | 0 | = | = | 0 | = | in |
+//! | `limit` | = | 0 | 0 | 0 | = | = | = | = | = |
+//! | `proto`, `l3`, `room` | in | 0 | 0 | 0 | 0 | 0 | 0 | 0 | 0 |
+//! | `rnd` | in if `nrnd`, or 0 | 0 | 0 | 0 | 0 | 0 | 0 | 0 | 0 |
+//! | `enq` | in if queued, or 0 | = | 0 | 0 | 0 | 0 | 0 | 0 | 0 |
+//! | `nt` | 0 | = | 0 | 0 | 0 | 0 | 0 | 0 | 0 |
+//! | `t0` to `t2` | 0 | in up to `nt`, or 0 | 0 | 0 | 0 | 0 | 0 | 0 | in (fq) |
+//! | `hash`, `prio` | in (fq) | 0 | 0 | 0 | 0 | 0 | 0 | 0 | 0 |
+//! | `truesize` | in (fq) | 0 | 0 | 0 | in (fq) | = (fq) | = (fq) | in (fq) | in (fq) |
+//! | `x0`, `x2` | = (fq) | 0 | 0 | 0 | in (fq) | = (fq) | = (fq) | in (fq) | in (fq) |
+//! | `x1` | = (fq) | = (fq) | 0 | 0 | = (fq) | = (fq) | = (fq) | in (fq) | in (fq) |
+//! | `a_qdelay` to `a_backlog_old` | = | = (`a_dq_tstamp` in without the estimator) | = | 0 | = of pie | = of pie | = of pie | = of pie | in of pie |
+//! | `target` to `dqrate`, `plimit` | 0 | 0 | 0 | 0 | in | = | =, `tupdate` 0 | in | in |
+//! | `packets_in` to `maxq` | = | 0 | 0 | 0 | = | = | = | 0 | in |
+//! | `rq`, `rqb` | in | in | in | 0 | in, 0 if `moved` is below `size` | in | 0 | in | in |
+//! | `drop` | 0 | in (fq) | 0 | 0 | 0 | 0 | 0 | 0 | 0 |
+//! | `moved` | 0 | 0 | 0 | 0 | in | 0 | 0 | 0 | 0 |
+//! | `mtu` | in | 0 | 0 | 0 | in | in | in | in | in |
+//!
+//! `rqb` is 0 if `rq` is 0. Rows `flow` and `wait` are inputs. No step reads the processor and the state before a step.
+//!
+//! A text without the column `rq` is compared in fewer columns: the other numbers are those of the row.
 ghost use Rattle.std.specs.Prelude.{◌≡◌, if◌then◌else◌};
 ghost use Rattle.pie_linux_history.specs.Right.{base, bytes_returned, early_result, named_flow_of, of_flows, percent_of, readings_until, returned_value, right_arrival, right_bytes, right_change, right_decision, right_departure, right_destroy, right_left, right_opening, right_reset, right_reset_of, right_round, right_shortened, right_size, right_update, right_updated, state_of_pie};
 

@@ -51,7 +51,7 @@ mod words;
 pub use cutter::{RowSpan, StepPieces, count_rows, cut};
 pub use difference::Difference;
 pub use fault::StepsFault;
-pub use queues::{StepDifference, StepsCounts, StepsLacks};
+pub use queues::{StepDifference, StepsCounts};
 pub use reports::{StepsExplained, explain, report};
 pub use step::QueueName;
 pub use text::{StepsFinding, audit};

@@ -65,33 +65,6 @@ impl StepsCounts {
     }
 }
 
-/// The steps of a text whose rows lack an input, in words.
-#[derive(Clone, Copy)]
-pub struct StepsLacks(StepsCounts);
-
-impl StepsCounts {
-    /// Returns the steps whose rows lack an input, if there are some.
-    pub fn lacks(self) -> Option<StepsLacks> {
-        let (returned, protocol) = (self.without_returned, self.without_protocol);
-        if returned == 0 && protocol == 0 && self.without_change == 0 {
-            return None;
-        }
-        Some(StepsLacks(self))
-    }
-}
-
-impl fmt::Display for StepsLacks {
-    fn fmt<W: fmt::Write>(&self, f: &mut fmt::Formatter<W>) -> fmt::Result {
-        let counts = &self.0;
-        let (returned, protocol) = (counts.without_returned, counts.without_protocol);
-        let change = counts.without_change;
-        write!(
-            f,
-            "steps whose rows lack an input, which was taken from their results: {returned} lack rq, {protocol} the protocol behind a VLAN tag, {change} a row change"
-        )
-    }
-}
-
 /// A step with a number that differs from the rules.
 #[derive(Clone, Copy)]
 pub struct StepDifference {

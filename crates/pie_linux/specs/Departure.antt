@@ -1,5 +1,5 @@
 -- A departing packet (pie_process_dequeue).
-use Rattle.std.specs.Prelude.{ℕ, ◌+◌, ◌-◌, ◌/◌, ◌%◌, ◌^◌, Bool, ◌&&◌, ◌||◌, ◌==◌, nat_lt, nat_le, if◌then◌else◌}
+use Rattle.std.specs.Prelude.{ℕ, ◌+◌, ◌-◌, ◌/◌, ◌%◌, ◌^◌, Bool, not, ◌&&◌, ◌||◌, ◌==◌, nat_lt, nat_le, if◌then◌else◌}
 use Rattle.pie_linux.specs.Numbers.{unset, threshold, sum_64, difference_64, scaled}
 use Rattle.pie_linux.specs.declared.params.LinuxParams.{LinuxParams}
 use Rattle.pie_linux.specs.declared.state.LinuxState.{LinuxState}
@@ -60,6 +60,21 @@ abbrev pub departed_by_rate : LinuxState → LinuxDeparture → LinuxState
 departed_by_rate state departure =
     if (begun state departure).dq_count == unset then state
     else counted_at (begun state departure) departure (sum_64 (begun state departure).dq_count departure.size) (next_reading state departure)
+
+-- true if a measurement ends and the next one begins: it counts 16384 bytes with this packet, a tick has passed, and at least
+-- 16384 bytes are left
+abbrev pub begins_again : LinuxState → LinuxDeparture → Bool
+begins_again state departure =
+    not (state.dq_count == unset) && nat_le threshold (sum_64 state.dq_count departure.size)
+    && not (elapsed state.dq_tstamp departure.first == 0) && nat_le threshold departure.backlog
+
+-- the readings of the clock that the rate estimator takes at a departure: the first, and one for each beginning. Without the
+-- estimator the departure's moment is in the state
+abbrev pub readings : LinuxParams → LinuxState → LinuxDeparture → ℕ
+readings params state departure =
+    if params.dq_rate_estimator
+    then 1 + (if begins state departure then 1 else 0) + (if begins_again (begun state departure) departure then 1 else 0)
+    else 0
 
 -- the state after a departure
 unfoldable pub departed : LinuxParams → LinuxState → LinuxDeparture → LinuxState

@@ -1,5 +1,5 @@
 -- The decision on an arriving packet (pie_qdisc_enqueue, fq_pie_qdisc_enqueue): early drop, marks, and the counters.
-use Rattle.std.specs.Prelude.{ℕ, ◌*◌, ◌/◌, ◌%◌, ◌^◌, Bool, true, false, not, ◌&&◌, ◌==◌, nat_lt, nat_le, if◌then◌else◌, min, max}
+use Rattle.std.specs.Prelude.{ℕ, ◌*◌, ◌/◌, ◌%◌, ◌^◌, Bool, true, false, not, ◌&&◌, ◌||◌, ◌==◌, nat_lt, nat_le, if◌then◌else◌, min, max}
 use Rattle.pie_linux.specs.Numbers.{one, sum_32, sum_64, product_64}
 use Rattle.pie_linux.specs.declared.params.LinuxParams.{LinuxParams}
 use Rattle.pie_linux.specs.declared.params.MarkLimit.{MarkLimit}
@@ -68,14 +68,18 @@ abbrev pub is_pie : MarkLimit → Bool
 is_pie Tenth = true
 is_pie (Percent _) = false
 
--- true if a packet can be marked, from its protocol, the first two bytes of its network header, and a flag that is true
--- if the packet contains the header. CE already set counts as a mark (INET_ECN_set_ce)
+-- true if a packet can be marked, from the protocol behind its VLAN tags, the first two bytes of its network header, and a
+-- flag that is true if its first part contains the header. CE already set counts as a mark (INET_ECN_set_ce)
 abbrev pub is_markable : ℕ → ℕ → Bool → Bool
 is_markable protocol header contained =
     if not contained then false
     else if protocol == 0x0800 then not (header % 4 == 0)
     else if protocol == 0x86dd then not (header / 16 % 4 == 0)
     else false
+
+-- true for the types of VLAN tags, 802.1Q and 802.1ad (eth_type_vlan)
+abbrev pub is_tag : ℕ → Bool
+is_tag protocol = (protocol == 0x8100) || (protocol == 0x88a8)
 
 -- ---- the decision
 

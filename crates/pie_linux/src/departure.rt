@@ -1,5 +1,5 @@
 ghost use Rattle.std.specs.Prelude.{◌≡◌, ◌<◌, ◌≤◌, ◌^◌};
-ghost use Rattle.pie_linux.specs.Departure.{average, begins, begun, counted_at, departed, departed_by_rate, departed_by_wait, elapsed, measured, next_reading, since_last};
+ghost use Rattle.pie_linux.specs.Departure.{average, begins, begins_again, begun, counted_at, departed, departed_by_rate, departed_by_wait, elapsed, measured, next_reading, readings, since_last};
 
 use crate::params::LinuxParams;
 use crate::state::{LinuxState, UNSET, scaled};
@@ -39,6 +39,33 @@ impl LinuxState {
         } else {
             self.depart_by_wait(departure);
         }
+    }
+
+    /// Returns the number of readings of the clock that the rate estimator takes at a departure: the first, one if a
+    /// measurement begins, and one if a measurement ends and the next one begins. 0 without the estimator.
+    #[tactic(auto, using(std::proofs::lemmas::Bool::Decides::nat_tests))]
+    pub fn readings(&self, params: &LinuxParams, departure: LinuxDeparture) -> u32
+        ensures { result ≡ readings params.now self.now departure }
+    {
+        if !params.dq_rate_estimator {
+            return 0;
+        }
+        let mut begun = *self;
+        let _ = begun.begin(departure);
+        let begins = departure.backlog >= THRESHOLD && self.dq_count == UNSET;
+        1 + u32::from(begins) + u32::from(begun.begins_again(departure))
+    }
+
+    /// Returns true if a measurement, which may have just begun, ends with this departure and the next one begins.
+    #[inline(always)]
+    #[tactic(auto, using(std::proofs::lemmas::Bool::Decides::nat_tests))]
+    fn begins_again(&self, departure: LinuxDeparture) -> bool
+        ensures { result ≡ begins_again self.now departure }
+    {
+        self.dq_count != UNSET
+            && self.dq_count.wrapping_add(u64::from(departure.size)) >= u64::from(THRESHOLD)
+            && elapsed(self.dq_tstamp, departure.first) != 0
+            && departure.backlog >= THRESHOLD
     }
 
     /// Takes a departing packet into account without the rate estimator.

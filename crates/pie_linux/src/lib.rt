@@ -24,7 +24,9 @@
 //! | decay by 1/64, not with a backlog and not after an overflow | `pie_calculate_probability` |
 //! | the restart compares the new delay and the one before it with half the target | `pie_calculate_probability` |
 //! | a reset keeps the probability and the delays | `pie_reset`, `pie_vars_init` |
-//! | a lower limit drops from the front | `pie_change` |
+//! | a lower limit drops from the front, packets that the device returned first | `pie_change`, `qdisc_dequeue_internal` |
+//! | marks by the protocol behind VLAN tags | `INET_ECN_set_ce` |
+//! | fq_pie: a priority that is a class of the queue names the flow, before filters and the hash | `fq_pie_classify` |
 //! | fq_pie: `memory_limit` only counts; a flow's backlog begins at 0 after the decision; at most 2048 flows a round | `fq_pie_qdisc_enqueue`, `fq_pie_timer` |
 #![tactic(auto)]
 
@@ -38,11 +40,13 @@ mod state;
 mod stats;
 mod update;
 
-pub use arrival::{LinuxArrival, is_markable};
+pub use arrival::{LinuxArrival, is_markable, is_tag};
 pub use cause::{LinuxCause, Picked};
 pub use departure::LinuxDeparture;
 pub use enqueue::own_prob;
 pub use params::{LinuxParams, MarkLimit};
-pub use queue::{excess, flow_backlog, flow_of, is_over_memory, next_cursor};
+pub use queue::{
+    excess, flow_backlog, flow_of, is_over_memory, named_flow, next_cursor, own_excess,
+};
 pub use state::{LinuxState, ticks};
 pub use stats::LinuxStats;

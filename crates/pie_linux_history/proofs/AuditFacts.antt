@@ -1,5 +1,5 @@
 -- The finding of the rows that remain is the finding of all.
-use Rattle.std.specs.Prelude.{ℕ, Bool, false, ◌≡◌, ◌∷◌, [], List, Option, Some, None, IfSome, option_map, Result, Ok, Err}
+use Rattle.std.specs.Prelude.{ℕ, Bool, false, ◌≡◌, [], List, Option, Some, None, IfSome, option_map, Result, Ok, Err}
 use Rattle.std.proofs.Common.{refl, ◌∙◌, sym}
 use Rattle.pie_record.specs.Text.{Row, records_of}
 use Rattle.pie_record.specs.declared.fault.RecordFault.{RecordFault}

@@ -12,25 +12,22 @@ use Rattle.pie_record.specs.declared.fault.RecordFault.TheVariants as flaw
 use Rattle.pie_linux_history.specs.declared.columns.Columns.{Columns}
 use Rattle.pie_linux_history.specs.declared.fault.StepsFault.TheVariants.{NoColumn, NoStart}
 use Rattle.pie_linux_history.specs.declared.step.Step.{Step}
-use Rattle.pie_linux_history.specs.Columns.{collected, columns_of, decimal_at, flow_at, has_flows_at, hexadecimal_after, hexadecimal_at, kind_at, known, lost_in, numbers_of, place_from, step_in, step_of}
-use Rattle.pie_linux_history.specs.declared.numbers.QueueNumbers.{QueueNumbers}
-use Rattle.pie_linux_history.specs.declared.difference.Column.TheVariants as column
+use Rattle.pie_linux_history.specs.Columns.{collected, columns_of, decimal_at, digits_after, flow_at, handle_of, has_flows_at, hexadecimal_after, hexadecimal_at, kind_at, known, lost_in, numbers_of, place_from, step_in, step_of}
 use Rattle.pie_linux_history.specs.declared.queues.StepDifference.{StepDifference}
 use Rattle.pie_linux_history.specs.declared.step.Kind.{Kind}
 use Rattle.pie_linux_history.specs.declared.step.Kind.TheVariants as kind
 use Rattle.pie_linux_history.specs.declared.step.QueueName.{QueueName}
 use Rattle.pie_linux_history.specs.Audit.{verdict_of}
 use Rattle.pie_linux_history.specs.Columns.{padded}
-use Rattle.pie_linux_history.specs.LookBack.{Entry, Lost, Took, counts_of, followed, since_last, steps_of}
-use Rattle.pie_linux_history.specs.Queue.{last_departures, opened, returned}
-use Rattle.pie_linux_history.specs.Views.{QueueView}
+use Rattle.pie_linux_history.specs.LookBack.{Entry, Lost, Took, counts_of, followed, lack_count, since_last, steps_of}
+use Rattle.pie_linux_history.specs.Queue.{opened}
 
 -- a first row with a column that is not read, and a row in which each number is the place of its column
 abbrev columns : Columns
-columns = record { queue = 53; places = range_with_len 1 52; count = 54 }
+columns = record { queue = 59; places = range_with_len 1 58; count = 60 }
 
 abbrev arrival : Row
-arrival = codes "note" ∷ map decimal (range_with_len 1 47)
+arrival = codes "note" ∷ map decimal (range_with_len 1 53)
     ++ codes "0800" ∷ codes "45b8" ∷ codes "-1" ∷ codes "enq" ∷ codes "pie" ∷ codes "eth0" ∷ []
 
 found : columns_of (codes "note" ∷ known ++ codes "qid" ∷ []) ≡ Ok columns
@@ -42,11 +39,11 @@ missing : columns_of (codes "seq" ∷ codes "rnd" ∷ []) ≡ Err (NoColumn 1)
 unfolding columns_of collected place_from
 missing = refl
 
--- fields by the names of their columns: seq, ns, rnd, backlog, bl1, x2, maxq, proto, l3
+-- fields by the names of their columns: seq, ns, rnd, backlog, bl1, x2, maxq, moved, proto, l3
 abbrev some_fields : Step → Result (List ℕ) RecordFault
-some_fields step = Ok (step.number ∷ step.moment ∷ step.word ∷ step.backlog ∷ step.bytes_after ∷ step.x2 ∷ step.stats.maxq ∷ step.protocol ∷ step.header ∷ [])
+some_fields step = Ok (step.number ∷ step.moment ∷ step.word ∷ step.backlog ∷ step.bytes_after ∷ step.x2 ∷ step.stats.maxq ∷ step.moved ∷ step.protocol ∷ step.header ∷ [])
 
-fields : and_then (step_in columns arrival) some_fields ≡ Ok (1 ∷ 2 ∷ 3 ∷ 16 ∷ 23 ∷ 33 ∷ 47 ∷ 2048 ∷ 17848 ∷ [])
+fields : and_then (step_in columns arrival) some_fields ≡ Ok (1 ∷ 26 ∷ 27 ∷ 15 ∷ 17 ∷ 36 ∷ 14 ∷ 53 ∷ 2048 ∷ 17848 ∷ [])
 unfolding step_in kind_at has_flows_at flow_at hexadecimal_at hexadecimal_after numbers_of collected decimal_at number step_of place_from field_at digits
 fields = refl
 
@@ -55,14 +52,6 @@ faults : (step_in columns (arrival ++ [] ∷ []) ≡ Err flaw.Fields) × (lost_i
     × (lost_in (codes "lost" ∷ codes "1x" ∷ codes "eth0" ∷ []) ≡ Err flaw.Number)
 unfolding step_in lost_in decimal_at number field_at
 faults = (refl, refl, refl)
-
--- after departures of 100, 200 and 300 bytes, 500 more bytes are the last two; 900 are three segments of the last one; 50 are none
-abbrev three : QueueNumbers → QueueView
-three numbers = record { numbers = numbers; flows = []; sent = 100 ∷ 200 ∷ 300 ∷ []; count = 3 }
-
-again : (numbers : QueueNumbers) → (returned (three numbers) 500 ≡ Some 2) × (returned (three numbers) 900 ≡ Some 3) × (returned (three numbers) 50 ≡ None)
-unfolding last_departures
-again numbers = (refl, refl, refl)
 
 -- two queues whose names differ at their last byte only, the 22nd
 abbrev named : List ℕ → QueueName
@@ -74,9 +63,14 @@ zero_name = codes "enp0s31f6.100/8001:/0"
 abbrev one_name : List ℕ
 one_name = codes "enp0s31f6.100/8001:/1"
 
+-- the handle of a name; a name without one
+handles : (handle_of one_name ≡ 0x80010000) × (handle_of (codes "eth0/-/1") ≡ 0) × (handle_of (codes "d4") ≡ 0)
+unfolding handle_of digits_after
+handles = (refl, refl, refl)
+
 -- a step whose other numbers are 0
 abbrev numbered : ℕ → Kind → Step
-numbered number kind = step_of (number ∷ replicate 46 0) kind false None 0 0
+numbered number kind = step_of (number ∷ replicate 52 0) kind false false
 
 -- both begin, each has a step, and steps of the second are lost
 abbrev both : List Entry
@@ -97,7 +91,7 @@ found_steps = (refl, refl, refl, refl)
 
 -- the next step of the first, a step that is not the next, and a step of the second, whose steps were lost
 abbrev not_next : StepDifference
-not_next = record { event = 6; queue = named zero_name; step = 10; difference = record { column = column.Number; recorded = 10; right = 9 } }
+not_next = record { event = 6; queue = named zero_name; step = 10; difference = record { column = 0; recorded = 10; right = 9 } }
 
 verdicts : (verdict_of both 6 (Took (named zero_name) (numbered 9 kind.Empty)) ≡ Ok None)
     × (verdict_of both 6 (Took (named zero_name) (numbered 10 kind.Empty)) ≡ Ok (Some not_next))
@@ -107,6 +101,6 @@ unfolding steps_of since_last step_of place_from followed opened
 verdicts = (refl, refl, refl, refl)
 
 -- five rows, four steps, three lost steps
-counted : counts_of both ≡ record { events = 5; steps = 4; lost = 3 }
-unfolding step_of place_from
+counted : counts_of both ≡ record { events = 5; steps = 4; lost = 3; without_returned = 0; without_protocol = 0; without_change = 0 }
+unfolding step_of place_from lack_count followed steps_of since_last
 counted = refl

@@ -11,7 +11,7 @@ use Rattle.pie_linux_history.specs.declared.known.Known.{Known}
 use Rattle.pie_linux_history.specs.declared.step.QueueName.{QueueName}
 use Rattle.pie_linux_history.specs.declared.step.Step.{Step}
 use Rattle.pie_linux_history.specs.Known.{IsPlaceOf, Represents, looked_up, tracked}
-use Rattle.pie_linux_history.specs.LookBack.{Entry, Followed, Lost, Took, begun, follow, followed, is_of, is_opening, name_of, since_last, steps_of}
+use Rattle.pie_linux_history.specs.LookBack.{Entry, Followed, Lost, Took, begun, follow, followed, is_opening, name_of, since_last, steps_of}
 use Rattle.pie_linux_history.specs.Queue.{Stepped, last_after, next_step}
 use Rattle.pie_linux_history.specs.Views.{QueueView}
 use Rattle.pie_linux_history.proofs.LookBackFacts.{followed-begun, followed-lost, followed-other, followed-step}
@@ -128,7 +128,7 @@ name-at (first ∷ rest) (suc place) name known at is = name-at rest place name 
 -- a step of the queue in its place
 take-name : (name other : List ℕ) (queues : List Known) (known now : Known) (step : Step) (decision : Decision) (rest : Option Followed) (same : Bool)
     → bytes_eq name other ≡ same → looked_up name queues ≡ Some (tracked known) → now.last ≡ last_after known.last step
-    → next_step known.last known.queue step ≡ record { queue = now.queue; decision = decision; sent = None }
+    → next_step known.last known.queue step ≡ record { queue = now.queue; decision = decision }
     → (if same then Some (tracked now) else rest) ≡ (if same then option_map (λ was. follow was step) (looked_up other queues) else rest)
 take-name name other queues known now step decision rest true is found last made =
     let e : name ≡ other = (bytes_eq-Decides name other).0 is in
@@ -138,7 +138,7 @@ take-name name other queues known now step decision rest false is found last mad
 
 pub looked-take : (queues : List Known) (place : ℕ) (name : List ℕ) (known now : Known) (step : Step) (decision : Decision) (other : List ℕ)
     → IsPlaceOf name queues place → known ≡ get_or queues place known → now.name ≡ known.name → now.last ≡ last_after known.last step
-    → next_step known.last known.queue step ≡ record { queue = now.queue; decision = decision; sent = None }
+    → next_step known.last known.queue step ≡ record { queue = now.queue; decision = decision }
     → looked_up other (set queues place now)
     ≡ (if bytes_eq name other then option_map (λ was. follow was step) (looked_up other queues) else looked_up other queues)
 looked-take queues place name known now step decision other at is named last made =
@@ -217,12 +217,13 @@ represents-lost queues after entries queue count made was = record {
 
 begun-name : (name : List ℕ) (entries : List Entry) (queue : QueueName) (step : Step) (found : Option Followed) (is : Bool)
     → bytes_eq (name_of queue) name ≡ is → is_opening step.kind ≡ true
-    → found ≡ followed name entries → (if is then Some (begun step) else found) ≡ followed name (entries ++ Took queue step ∷ [])
-begun-name name entries queue step found true is opens same = sym (followed-begun name entries queue step is opens)
+    → found ≡ followed name entries → (if is then Some (begun (name_of queue) step) else found) ≡ followed name (entries ++ Took queue step ∷ [])
+begun-name name entries queue step found true is opens same =
+    let e : name_of queue ≡ name = (bytes_eq-Decides (name_of queue) name).0 is in rw e (sym (followed-begun name entries queue step is opens))
 begun-name name entries queue step found false is opens same = same ∙ sym (followed-other name entries (Took queue step) is)
 
 pub represents-begun : (queues after : List Known) (entries : List Entry) (queue : QueueName) (step : Step) → is_opening step.kind ≡ true
-    → ((other : List ℕ) → looked_up other after ≡ (if bytes_eq (name_of queue) other then Some (begun step) else looked_up other queues))
+    → ((other : List ℕ) → looked_up other after ≡ (if bytes_eq (name_of queue) other then Some (begun (name_of queue) step) else looked_up other queues))
     → Represents queues entries → Represents after (entries ++ Took queue step ∷ [])
 represents-begun queues after entries queue step opens made was = record {
   by_name = λ name. made name ∙ begun-name name entries queue step (looked_up name queues) (bytes_eq (name_of queue) name) refl opens (was.by_name name);

@@ -1,6 +1,6 @@
 -- One more row of a text.
-use Rattle.std.proofs.Common.{◌≡◌, ℕ, ◌+◌, ◌%◌, ◌^◌, ◌++◌, ◌∷◌, [], List, Bool, Option, refl, ◌∙◌, sym, ap}
-use Rattle.std.specs.Prelude.{true, false, Some, None, if◌then◌else◌, Result, Ok, Err}
+use Rattle.std.proofs.Common.{◌≡◌, ℕ, ◌+◌, ◌%◌, ◌^◌, ◌++◌, ◌∷◌, [], List, Option, arith, refl, ◌∙◌, ap}
+use Rattle.std.specs.Prelude.{true, false, Some, None, if◌then◌else◌, Result, Ok}
 use Rattle.std.specs.Option.{option_map}
 use Rattle.std.specs.Str.{bytes_eq}
 use Rattle.pie_linux_history.specs.declared.explained.Decision.{Decision}
@@ -8,11 +8,18 @@ use Rattle.pie_linux_history.specs.declared.fault.StepsFault.{StepsFault}
 use Rattle.pie_linux_history.specs.declared.known.Known.{Known}
 use Rattle.pie_linux_history.specs.declared.queues.Queues.{Queues}
 use Rattle.pie_linux_history.specs.declared.queues.StepDifference.{StepDifference}
+use Rattle.pie_linux_history.specs.declared.queues.StepsCounts.{StepsCounts}
+use Rattle.pie_record.specs.declared.fault.RecordFault.{RecordFault}
 use Rattle.pie_linux_history.specs.declared.step.QueueName.{QueueName}
 use Rattle.pie_linux_history.specs.declared.step.Step.{Step}
-use Rattle.pie_linux_history.specs.Audit.{judged, verdict_of}
-use Rattle.pie_linux_history.specs.Known.{Leaves, Represents, arrival_by, looked_up}
-use Rattle.pie_linux_history.specs.LookBack.{Entry, Took, begun, decision_by, dropped_by_step, follow, is_opening, name_of}
+use Rattle.pie_record.specs.Text.{Row}
+use Rattle.pie_linux_history.specs.declared.columns.Columns.{Columns}
+use Rattle.pie_linux_history.specs.Columns.{field_or, lost_in, queue_name, step_in}
+use Rattle.pie_linux_history.specs.Audit.{difference_at, judged, verdict_of}
+use Rattle.pie_linux_history.specs.Queue.{opening_difference}
+use Rattle.pie_linux_history.specs.Known.{Leaves, Represents, Takes, arrival_by, looked_up}
+use Rattle.pie_linux_history.specs.LookBack.{Entry, Lost, Took, begun, counts_of, decision_by, dropped_by_step, entry_in, follow, is_opening, lack_by, lack_counted, lack_in, lost_steps, name_of, step_count}
+use Rattle.pie_linux_history.proofs.LookBackFacts.{counts-after}
 use Rattle.pie_linux_history.proofs.KnownFacts.{represents-begun, represents-step}
 
 -- a step of a queue that has begun
@@ -39,8 +46,9 @@ follow-row queues after entries queue step event decision result later was decid
 -- a first step
 pub open-row : (queues : List Known) (after : Queues) (entries : List Entry) (queue : QueueName) (step : Step) (event : ℕ)
     (result : Result (Option StepDifference) StepsFault) → is_opening step.kind ≡ true → Represents queues entries
-    → ((other : List ℕ) → looked_up other after.known.all.items ≡ (if bytes_eq (name_of queue) other then Some (begun step) else looked_up other queues))
-    → after.last ≡ Some (queue, step) → after.arrival ≡ None → after.lost.items ≡ [] → result ≡ Ok None
+    → ((other : List ℕ) → looked_up other after.known.all.items ≡ (if bytes_eq (name_of queue) other then Some (begun (name_of queue) step) else looked_up other queues))
+    → after.last ≡ Some (queue, step) → after.arrival ≡ None → after.lost.items ≡ []
+    → result ≡ Ok (difference_at event queue step (opening_difference step))
     → (result ≡ verdict_of entries event (Took queue step)) × Leaves after entries (Took queue step)
 open-row queues after entries queue step event result opens was made last arrival lost judges = (
   rw opens judges,
@@ -51,3 +59,48 @@ open-row queues after entries queue step event result opens was made last arriva
     lost_are = rw opens lost;
   },
 )
+
+-- the input that it lacks
+pub follow-lack : (queues : List Known) (entries : List Entry) (queue : QueueName) (step : Step) (decision : Option Decision) → is_opening step.kind ≡ false
+    → Represents queues entries → decision ≡ decision_by step (looked_up (name_of queue) queues) → lack_by decision ≡ lack_in entries (Took queue step)
+follow-lack queues entries queue step decision later was decided =
+    rw later (ap lack_by (decided ∙ ap (decision_by step) (was.by_name (name_of queue))))
+
+-- a row of lost steps, and a row of a step
+pub entry-lost : (columns : Columns) (row : Row) (queue : QueueName) (count : ℕ) → lost_in row ≡ Ok (Some (queue, count))
+    → entry_in columns row ≡ Ok (Lost queue count)
+unfolding entry_in
+entry-lost columns row queue count is = rw is refl
+
+pub entry-took : (columns : Columns) (row : Row) (queue : QueueName) (step : Step) → lost_in row ≡ Ok None → step_in columns row ≡ Ok step
+    → queue_name (field_or row columns.queue) ≡ Some queue → entry_in columns row ≡ Ok (Took queue step)
+unfolding entry_in
+entry-took columns row queue step none reads named = rw (none, reads, named) refl
+
+pub takes-lost : (after : Queues) (entries : List Entry) (entry : Result Entry RecordFault) (queue : QueueName) (count : ℕ) (was : StepsCounts)
+    → entry ≡ Ok (Lost queue count) → was ≡ counts_of entries → Represents after.known.all.items (entries ++ Lost queue count ∷ [])
+    → after.counts ≡ record was { events = (was.events + 1) % 2 ^ 64; lost = (was.lost + count) % 2 ^ 64 }
+    → after.last ≡ None → after.arrival ≡ None → after.lost.items ≡ [] → Takes after entries entry (Ok None)
+takes-lost after entries entry queue count was is counts represents counted last arrival lost =
+    let steps : was.steps ≡ (was.steps + step_count (Lost queue count)) % 2 ^ 64 = rw counts (omega arith) in
+    let all : after.counts ≡ counts_of (entries ++ Lost queue count ∷ []) = counted ∙ rw steps (counts-after entries (Lost queue count) was counts) in
+    rw is (record {
+      result_is = refl;
+      read = record { represents = represents; counts_are = all };
+      leaves = record { represents = represents; last_is = last; arrival_is = arrival; lost_are = lost };
+    })
+
+pub takes-took : (after : Queues) (entries : List Entry) (entry : Result Entry RecordFault) (queue : QueueName) (step : Step) (was : StepsCounts)
+    (result : Result (Option StepDifference) StepsFault) → entry ≡ Ok (Took queue step) → was ≡ counts_of entries
+    → result ≡ verdict_of entries ((was.events + 1) % 2 ^ 64) (Took queue step) → Leaves after entries (Took queue step)
+    → after.counts ≡ lack_counted (record was { events = (was.events + 1) % 2 ^ 64; steps = (was.steps + step_count (Took queue step)) % 2 ^ 64 })
+    (lack_in entries (Took queue step))
+    → Takes after entries entry result
+takes-took after entries entry queue step was result is counts judges leaves counted =
+    let lost : was.lost ≡ (was.lost + lost_steps (Took queue step)) % 2 ^ 64 = rw counts (omega arith) in
+    let all : after.counts ≡ counts_of (entries ++ Took queue step ∷ []) = counted ∙ rw lost (counts-after entries (Took queue step) was counts) in
+    rw is (record {
+      result_is = judges ∙ rw counts refl;
+      read = record { represents = leaves.represents; counts_are = all };
+      leaves = leaves;
+    })

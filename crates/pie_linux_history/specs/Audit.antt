@@ -15,7 +15,8 @@ use Rattle.pie_linux_history.specs.declared.step.Step.{Step}
 use Rattle.pie_linux_history.specs.declared.text.StepsFinding.{StepsFinding}
 use Rattle.pie_linux_history.specs.declared.text.StepsFinding.TheVariants.{Clean, Differs}
 use Rattle.pie_linux_history.specs.Columns.{columns_of}
-use Rattle.pie_linux_history.specs.LookBack.{Entry, Lost, Took, counts_of, decision_by, entry_in, followed, is_opening, name_of}
+use Rattle.pie_linux_history.specs.Queue.{opening_difference}
+use Rattle.pie_linux_history.specs.LookBack.{Entry, Took, counts_of, decision_by, entry_in, followed, is_opening, name_of}
 
 -- the number of the next event or record
 abbrev pub next : ℕ → ℕ
@@ -31,10 +32,10 @@ abbrev pub judged : ℕ → QueueName → Step → Option Decision → Result (O
 judged event queue step None = Err (NoStart (next event) queue step.number)
 judged event queue step (Some decision) = Ok (difference_at event queue step decision.difference)
 
--- the result of a row after these ones, as this event
+-- the result of a row after these ones, as this event. A first row is compared with that of a new queue
 abbrev pub verdict_of : List Entry → ℕ → Entry → Result (Option StepDifference) StepsFault
 verdict_of entries event (Took queue step) =
-    if is_opening step.kind then Ok None else judged event queue step (decision_by step (followed (name_of queue) entries))
+    if is_opening step.kind then Ok (difference_at event queue step (opening_difference step)) else judged event queue step (decision_by step (followed (name_of queue) entries))
 verdict_of entries event _ = Ok None
 
 abbrev pub verdict : List Entry → ℕ → Result Entry RecordFault → Result (Option StepDifference) StepsFault

@@ -1,6 +1,6 @@
 -- The columns of a text of steps, and the step in a row. Fields and keywords are lists of bytes.
-use Rattle.std.specs.Prelude.{ℕ, ◌+◌, ◌*◌, ◌-◌, ◌%◌, ◌^◌, ◌++◌, ◌∷◌, ◌==◌, ◌&&◌, if◌then◌else◌, Bool, true, false, not, nat_le, nat_lt, List, [], drop, replicate, length, map, get_or, min, Option, Some, None, unwrap_or, Result, Ok, Err, codes, zero, suc}
-use Rattle.std.specs.Option.{ok_or}
+use Rattle.std.specs.Prelude.{ℕ, ◌+◌, ◌*◌, ◌-◌, ◌%◌, ◌^◌, ◌++◌, ◌∷◌, ◌==◌, ◌&&◌, ◌||◌, if◌then◌else◌, Bool, true, false, not, nat_le, nat_lt, List, [], drop, replicate, length, map, get_or, min, Option, Some, None, unwrap_or, Result, Ok, Err, codes, zero, suc}
+use Rattle.std.specs.Option.{ok_or, option_map}
 use Rattle.std.specs.Str.{bytes_eq, is_utf8}
 use Rattle.pie_record.specs.Names.{field_at}
 use Rattle.pie_record.specs.Text.{Row}
@@ -39,11 +39,20 @@ known = map (λ name. name.now) NAMES
 abbrev pub name_of : ℕ → List ℕ
 name_of column = get_or known column (codes "qid")
 
+-- true for a column that a text may lack: `prio`, `nt`, `rq`, `rqb`, `drop`, `moved`
+abbrev pub is_optional : ℕ → Bool
+is_optional column = nat_le 47 column && nat_lt column 53
+
+-- the place of a column, of an optional one that the text lacks the place behind the last field, which is read as 0
+abbrev pub place_or : Row → ℕ → Option ℕ → Result ℕ StepsFault
+place_or names column (Some place) = Ok place
+place_or names column None = if is_optional column then Ok (length names) else Err (NoColumn column)
+
 abbrev pub column_at : Row → ℕ → Result ℕ StepsFault
-column_at names column = ok_or (place_from 0 (name_of column) names) (NoColumn column)
+column_at names column = place_or names column (place_from 0 (name_of column) names)
 
 unfoldable pub columns_of : Row → Result Columns StepsFault
-columns_of names = and_then (collected (column_at names) 52) (λ places. and_then (column_at names 52) (λ queue.
+columns_of names = and_then (collected (column_at names) 58) (λ places. and_then (column_at names 58) (λ queue.
     Ok (record { queue = queue; places = places; count = length names })))
 
 -- ---- fields
@@ -73,6 +82,17 @@ hexadecimal_after value (byte ∷ bytes) = and_then (ok_or (hex_digit byte) flaw
 
 unfoldable pub hexadecimal_at : Row → ℕ → Result ℕ RecordFault
 hexadecimal_at row place = if nat_lt 4 (length (field_or row place)) then Err flaw.Number else hexadecimal_after 0 (field_or row place)
+
+-- the digits before the first byte that is none
+unfoldable pub digits_after : ℕ → List ℕ → ℕ
+digits_after value [] = value
+digits_after value (byte ∷ bytes) =
+    unwrap_or (option_map (λ digit. digits_after ((16 * value + digit) % 2 ^ 16) bytes) (hex_digit byte)) value
+
+-- the handle in the name of a queue: DEVICE/HANDLE:/NUMBER
+unfoldable pub handle_of : List ℕ → ℕ
+handle_of [] = 0
+handle_of (byte ∷ bytes) = if byte == 47 then digits_after 0 bytes * 65536 else handle_of bytes
 
 -- a number of 32 bits
 abbrev pub narrow : ℕ → ℕ
@@ -109,20 +129,20 @@ has_flows_at row place =
 
 -- ---- a row
 
--- the greatest number of a column: the first 15 have 64 bits, the others 32
+-- the greatest number of a column: `seq` and `a_qdelay` to `target` have 64 bits, the others 32
 abbrev pub most_of : ℕ → ℕ
-most_of column = if nat_lt column 15 then most_u64 else most_u32
+most_of column = if (column == 0) || (nat_le 17 column && nat_le column 30) then most_u64 else most_u32
 
 abbrev pub number_in : Columns → Row → ℕ → Result ℕ RecordFault
 number_in columns row column = decimal_at row (get_or columns.places column 0) (most_of column)
 
--- the numbers of the first 47 columns
+-- the numbers of the first 53 columns
 unfoldable pub numbers_of : Columns → Row → Result (List ℕ) RecordFault
-numbers_of columns row = collected (number_in columns row) 47
+numbers_of columns row = collected (number_in columns row) 53
 
 -- the number of the column with this name in the table of names
 abbrev pub column : List ℕ → ℕ
-column name = unwrap_or (place_from 0 name known) 52
+column name = unwrap_or (place_from 0 name known) 58
 
 -- the number of a column of 64 bits, and of one of 32
 abbrev pub wide : List ℕ → List ℕ → ℕ
@@ -160,14 +180,15 @@ params_of numbers has_flows = record {
   marks = if has_flows then Percent (short numbers (codes "x0")) else Tenth;
 }
 
--- the step with these numbers
-unfoldable pub step_of : List ℕ → Kind → Bool → Option ℕ → ℕ → ℕ → Step
-step_of numbers kind has_flows flow protocol header = record {
+-- the step with these numbers, without a flow, a protocol and a header
+unfoldable pub step_of : List ℕ → Kind → Bool → Bool → Step
+step_of numbers kind has_flows has_returned = record {
   kind = kind;
   has_flows = has_flows;
+  has_returned = has_returned;
   number = wide numbers (codes "seq");
   moment = wide numbers (codes "ns");
-  flow = flow;
+  flow = None;
   backlog = short numbers (codes "backlog");
   size = short numbers (codes "size");
   packet_length = short numbers (codes "pktlen");
@@ -178,15 +199,17 @@ step_of numbers kind has_flows flow protocol header = record {
   bytes_after = short numbers (codes "bl1");
   limit = short numbers (codes "limit");
   returned = short numbers (codes "ret");
-  protocol = protocol;
-  header = header;
+  protocol = 0;
+  header = 0;
   contained = is_set numbers (codes "room");
   early = short numbers (codes "early");
   draws = short numbers (codes "nrnd");
   word = wide numbers (codes "rnd");
   enqueued = wide numbers (codes "enq");
   readings = wide numbers (codes "t0") ∷ wide numbers (codes "t1") ∷ wide numbers (codes "t2") ∷ [];
+  reads = short numbers (codes "nt");
   hash = short numbers (codes "hash");
+  priority = short numbers (codes "prio");
   truesize = short numbers (codes "truesize");
   x0 = short numbers (codes "x0");
   x1 = short numbers (codes "x1");
@@ -200,11 +223,23 @@ step_of numbers kind has_flows flow protocol header = record {
     ecn_mark = short numbers (codes "ecn_mark");
     maxq = short numbers (codes "maxq");
   };
+  returned_packets = short numbers (codes "rq");
+  returned_bytes = short numbers (codes "rqb");
+  is_drop = is_set numbers (codes "drop");
+  moved = short numbers (codes "moved");
 }
+
+-- the step whose numbers are 0: `pie_drop_early` was not called
+unfoldable pub blank : Kind → Bool → Bool → Step
+blank kind has_flows has_returned = record (step_of (replicate 53 0) kind has_flows has_returned) { early = 255 }
 
 -- the place in a row of the column with this name
 abbrev pub place : Columns → List ℕ → ℕ
 place columns name = get_or columns.places (column name) 0
+
+-- true if the text has the column `rq`, that is, its rows say which packets the device returned
+abbrev pub has_returned : Columns → Bool
+has_returned columns = not (place columns (codes "rq") == columns.count)
 
 -- the step in a row
 unfoldable pub step_in : Columns → Row → Result Step RecordFault
@@ -213,7 +248,7 @@ step_in columns row =
     and_then (kind_at row (place columns (codes "type"))) (λ kind. and_then (has_flows_at row (place columns (codes "kind"))) (λ has_flows.
     and_then (flow_at row (place columns (codes "flow"))) (λ flow. and_then (hexadecimal_at row (place columns (codes "proto"))) (λ protocol.
     and_then (hexadecimal_at row (place columns (codes "l3"))) (λ header. and_then (numbers_of columns row) (λ numbers.
-    Ok (step_of numbers kind has_flows flow protocol header)))))))
+    Ok (record (step_of numbers kind has_flows (has_returned columns)) { flow = flow; protocol = protocol; header = header })))))))
     else Err flaw.Fields
 
 -- the moment of a row, 0 if the row has none

@@ -1,26 +1,28 @@
 -- The decision of one recorded step, from the numbers of its queue and of its flow: the numbers after it, by the rules of
--- pie_linux, and the first recorded number that differs from them. No decision reads a recorded result, except the clock of
--- a departure, and the bytes that say if the kernel counts departures again.
-use Rattle.std.specs.Prelude.{ℕ, ◌+◌, ◌-◌, ◌%◌, ◌^◌, Bool, true, false, ◌&&◌, ◌==◌, if◌then◌else◌, Option, Some, None, get_or, unwrap_or}
-use Rattle.std.specs.Option.{option_or}
+-- pie_linux. No decision reads a recorded result, except the clock of a departure, and in a text without the column `rq` the
+-- inputs that it lacks. specs/Right.antt has the comparison.
+use Rattle.std.specs.Prelude.{ℕ, ◌+◌, ◌-◌, ◌%◌, ◌/◌, ◌^◌, Bool, true, false, not, nat_lt, ◌&&◌, ◌==◌, if◌then◌else◌, Option, Some, None, get_or, unwrap_or}
 use Rattle.pie_linux.specs.Numbers.{sum_32, ticks}
-use Rattle.pie_linux.specs.Enqueue.{counted, draws, enqueue_cause, enqueued, is_markable, is_queued, one_if}
-use Rattle.pie_linux.specs.Departure.{departed}
+use Rattle.pie_linux.specs.Enqueue.{counted, enqueue_cause, enqueued, is_markable, is_queued, is_tag}
+use Rattle.pie_linux.specs.Departure.{departed, readings}
 use Rattle.pie_linux.specs.Update.{restarted, updated}
-use Rattle.pie_linux.specs.Queue.{flow_backlog, is_over_memory, next_cursor}
+use Rattle.pie_linux.specs.Queue.{flow_backlog, flow_of, is_over_memory, named_flow, next_cursor, own_excess}
 use Rattle.pie_linux.specs.declared.params.LinuxParams.{LinuxParams}
 use Rattle.pie_linux.specs.declared.state.LinuxState.{LinuxState}
 use Rattle.pie_linux.specs.declared.arrival.LinuxArrival.{LinuxArrival}
 use Rattle.pie_linux.specs.declared.departure.LinuxDeparture.{LinuxDeparture}
 use Rattle.pie_linux.specs.declared.cause.LinuxCause.{LinuxCause}
 use Rattle.pie_linux.specs.declared.cause.LinuxCause.TheVariants.{OverLimit, SumAbove, WordBelow}
+use Rattle.pie_linux.specs.declared.cause.Picked.{Picked}
+use Rattle.pie_linux.specs.declared.cause.Picked.TheVariants as picked
+use Rattle.pie_linux_history.specs.declared.explained.Input.{Input}
+use Rattle.pie_linux_history.specs.declared.explained.Input.TheVariants as input
 use Rattle.pie_linux_history.specs.declared.step.Step.{Step}
 use Rattle.pie_linux_history.specs.declared.numbers.Waiting.{Waiting}
 use Rattle.pie_linux_history.specs.declared.numbers.FlowNumbers.{FlowNumbers}
 use Rattle.pie_linux_history.specs.declared.numbers.QueueNumbers.{QueueNumbers}
-use Rattle.pie_linux_history.specs.declared.difference.Column.TheVariants as column
-use Rattle.pie_linux_history.specs.declared.difference.Difference.{Difference}
-use Rattle.pie_linux_history.specs.Differences.{compared, state_difference, stats_difference}
+use Rattle.pie_linux_history.specs.declared.right.Arrived.{Arrived}
+use Rattle.pie_linux_history.specs.declared.right.Departed.{Departed}
 
 -- a difference of C's type u32
 abbrev pub difference_32 : ℕ → ℕ → ℕ
@@ -52,33 +54,56 @@ removed queue waiting = record queue {
 abbrev pub removed_flow : FlowNumbers → Waiting → FlowNumbers
 removed_flow flow waiting = record flow { backlog = difference_32 flow.backlog waiting.length }
 
--- ---- peeked and returned packets
+-- ---- inputs that a text without the column `rq` lacks
 
--- true if the kernel no longer counts packets at which the parent peeked, or which the device returned: there are none, or the recorded bytes are those
--- without it
-abbrev pub taken_by : Option ℕ → ℕ → ℕ → Bool
-taken_by None recorded bytes = true
-taken_by (Some _) recorded bytes = recorded == bytes
+-- returned packets: the recorded numbers before an arrival are an input if both are above the queue's own, and the bytes of an update of pie if they are
+abbrev pub counts_returned : QueueNumbers → Step → Bool
+counts_returned queue step =
+    not step.has_returned && (nat_lt queue.length step.length_before && nat_lt queue.bytes step.bytes_before)
 
-abbrev pub is_taken : QueueNumbers → ℕ → Bool
-is_taken queue recorded = taken_by queue.peeked recorded queue.bytes
+abbrev pub lacks_bytes : QueueNumbers → Step → Bool
+lacks_bytes queue step = not queue.has_flows && (not step.has_returned && nat_lt queue.bytes step.backlog)
 
--- the kernel's number of packets
-abbrev pub length_at : QueueNumbers → Bool → ℕ
-length_at queue taken = if taken then queue.length else sum_32 queue.length queue.peeked_packets
+-- a refused change of fq_pie: the kernel kept its limit
+abbrev pub lacks_limit : QueueNumbers → Step → Bool
+lacks_limit queue step = queue.has_flows && (not step.has_returned && not (step.limit == queue.params.limit))
 
--- the kernel's number of bytes
-abbrev pub bytes_with : Option ℕ → Bool → ℕ → ℕ
-bytes_with None taken bytes = bytes
-bytes_with (Some peeked) true bytes = bytes
-bytes_with (Some peeked) false bytes = sum_32 bytes peeked
+abbrev pub admitted : QueueNumbers → Step → QueueNumbers
+admitted queue step =
+    if lacks_limit queue step then record queue { params = record queue.params { limit = step.limit } } else queue
 
-abbrev pub bytes_at : QueueNumbers → Bool → ℕ
-bytes_at queue taken = bytes_with queue.peeked taken queue.bytes
+-- a change of fq_pie's rate estimator whose row comes after its departures: a departure with the estimator reads the clock
+abbrev pub lacks_switch : QueueNumbers → Step → Bool
+lacks_switch queue step =
+    queue.has_flows && (not step.has_returned
+    && (if get_or step.readings 0 0 == 0 then queue.params.dq_rate_estimator else not queue.params.dq_rate_estimator))
 
--- the numbers after it is known if the packet was taken
-abbrev pub settled : QueueNumbers → Bool → QueueNumbers
-settled queue taken = if taken then record queue { peeked = None } else queue
+abbrev pub params_at : QueueNumbers → Step → LinuxParams
+params_at queue step =
+    if lacks_switch queue step then record queue.params { dq_rate_estimator = not (get_or step.readings 0 0 == 0) } else queue.params
+
+-- a protocol behind a VLAN tag, in any text: it matters if the two bytes of the header are ECN-capable in IPv4 or IPv6
+abbrev pub hides_protocol : Step → Bool
+hides_protocol step = is_tag step.protocol && (step.contained && not (step.header % 4 == 0 && step.header / 16 % 4 == 0))
+
+abbrev pub markable : Step → Bool
+markable step = if hides_protocol step then step.returned == 0 else is_markable step.protocol step.header step.contained
+
+-- true if the protocol of a picked packet decides its fate
+abbrev pub is_by_protocol : Picked → Bool
+is_by_protocol picked.NotCapable = true
+is_by_protocol picked.Marked = true
+is_by_protocol _ = false
+
+abbrev pub needs_protocol : LinuxCause → Bool
+needs_protocol (SumAbove why) = is_by_protocol why
+needs_protocol (WordBelow why) = is_by_protocol why
+needs_protocol _ = false
+
+-- the first input that a step lacks
+abbrev pub lack_of : Bool → Bool → Bool → Option Input
+lack_of change returned protocol =
+    if change then Some input.Change else if returned then Some input.Returned else if protocol then Some input.Protocol else None
 
 -- the backlog of a decision: of fq_pie the flow's, of pie the queue's
 abbrev pub backlog_of : QueueNumbers → FlowNumbers → ℕ → ℕ
@@ -92,16 +117,16 @@ arrival_of step length backlog = record {
   backlog = backlog;
   size = step.size;
   mtu = step.mtu;
-  markable = is_markable step.protocol step.header step.contained;
+  markable = markable step;
   word = step.word;
 }
 
--- the packets and the bytes before an arrival, and the arrival
+-- the kernel's packets and bytes before an arrival, and the arrival
 abbrev pub length_before : QueueNumbers → Step → ℕ
-length_before queue step = length_at queue (is_taken queue step.bytes_before)
+length_before queue step = if counts_returned queue step then step.length_before else sum_32 queue.length step.returned_packets
 
 abbrev pub bytes_before : QueueNumbers → Step → ℕ
-bytes_before queue step = bytes_at queue (is_taken queue step.bytes_before)
+bytes_before queue step = if counts_returned queue step then step.bytes_before else sum_32 queue.bytes step.returned_bytes
 
 abbrev pub arrival : QueueNumbers → FlowNumbers → Step → LinuxArrival
 arrival queue flow step = arrival_of step (length_before queue step) (backlog_of queue flow (bytes_before queue step))
@@ -109,6 +134,20 @@ arrival queue flow step = arrival_of step (length_before queue step) (backlog_of
 -- the cause of the decision
 abbrev pub cause_of : QueueNumbers → FlowNumbers → Step → LinuxCause
 cause_of queue flow step = enqueue_cause queue.params flow.state (arrival queue flow step)
+
+-- the cause with the numbers before it
+abbrev pub arrival_at : QueueNumbers → FlowNumbers → Step → Arrived
+arrival_at queue flow step = record {
+  cause = cause_of queue flow step;
+  length = length_before queue step;
+  bytes = bytes_before queue step;
+  backlog = backlog_of queue flow (bytes_before queue step);
+  memory = queue.memory;
+}
+
+-- the flow of fq_pie that a packet's priority names, or else the flow of its hash
+abbrev pub flow_chosen : QueueNumbers → ℕ → ℕ → ℕ
+flow_chosen queue priority hash = unwrap_or (named_flow priority queue.handle queue.flows) (flow_of hash queue.flows)
 
 -- the number of arrivals at which fq_pie's memory exceeded its limit: unknown at first for a running queue. The limit in
 -- packets comes before it
@@ -136,7 +175,7 @@ arrived_by queue step cause = if is_queued cause then waiting_added queue (waiti
 abbrev pub arrived : QueueNumbers → FlowNumbers → Step → QueueNumbers
 arrived queue flow step =
     let cause = cause_of queue flow step in
-    arrived_by (memory_exceeded (settled (with_stats queue cause (length_before queue step)) (is_taken queue step.bytes_before)) step cause) step cause
+    arrived_by (memory_exceeded (with_stats queue cause (length_before queue step)) step cause) step cause
 
 -- the numbers of the flow after an arrival
 abbrev pub flow_arrived_by : FlowNumbers → Step → LinuxCause → FlowNumbers
@@ -149,49 +188,10 @@ state_after queue flow step = enqueued queue.params flow.state (arrival queue fl
 abbrev pub arrived_flow : QueueNumbers → FlowNumbers → Step → FlowNumbers
 arrived_flow queue flow step = flow_arrived_by (record flow { state = state_after queue flow step }) step (cause_of queue flow step)
 
--- the return values of enqueue and of pie_drop_early
-abbrev pub returned_value : LinuxCause → Bool → ℕ
-returned_value cause has_flows = if is_queued cause then 0 else if has_flows then 2 else 1
-
-abbrev pub early_result : LinuxCause → ℕ
-early_result OverLimit = 255
-early_result (SumAbove _) = 1
-early_result (WordBelow _) = 1
-early_result _ = 0
-
--- the first difference of the decision of an arrival
-abbrev pub decision_difference : Step → LinuxCause → ℕ → ℕ → Bool → Option Difference
-decision_difference step cause length bytes has_flows =
-    option_or (option_or (option_or (option_or
-    (compared column.LengthBefore step.length_before length)
-    (compared column.BytesBefore step.bytes_before bytes))
-    (compared column.Early step.early (early_result cause)))
-    (compared column.Draws step.draws (one_if (draws cause))))
-    (compared column.Returned step.returned (returned_value cause has_flows))
-
--- the first difference of the backlog and the state: at the limit the kernel records no backlog, and of fq_pie no state
-abbrev pub arrival_state_difference : Step → LinuxCause → Bool → ℕ → LinuxState → Option Difference
-arrival_state_difference step cause has_flows backlog state =
-    if counts_memory cause then option_or (compared column.Backlog step.backlog backlog) (state_difference step.after state)
-    else if has_flows then None else state_difference step.after state
-
--- the first difference of fq_pie's memory
-abbrev pub memory_difference : QueueNumbers → Step → ℕ → Option Difference
-memory_difference queue step before =
-    if queue.has_flows then option_or (option_or
-    (compared column.MemoryBefore step.x0 before)
-    (compared column.MemoryAfter step.x1 queue.memory))
-    (compared column.OverMemory step.x2 (unwrap_or queue.over_memory step.x2))
-    else None
-
--- the first difference of an arrival, after which the queue has the numbers `after`
-abbrev pub arrival_difference : QueueNumbers → FlowNumbers → Step → QueueNumbers → Option Difference
-arrival_difference queue flow step after =
-    option_or (option_or (option_or
-    (decision_difference step (cause_of queue flow step) (length_before queue step) (bytes_before queue step) queue.has_flows)
-    (stats_difference step.stats (counted queue.params.marks queue.stats (cause_of queue flow step) (length_before queue step))))
-    (arrival_state_difference step (cause_of queue flow step) queue.has_flows (backlog_of queue flow (bytes_before queue step)) (state_after queue flow step)))
-    (memory_difference after step queue.memory)
+-- the first input that the arrival lacks, in a queue with these numbers after it has its limit
+abbrev pub lack_of_arrival : Bool → QueueNumbers → FlowNumbers → Step → Option Input
+lack_of_arrival change queue flow step =
+    lack_of change (counts_returned queue step) (hides_protocol step && needs_protocol (cause_of queue flow step))
 
 -- ---- a departure
 
@@ -206,40 +206,43 @@ departure_of step params waiting backlog = record {
 }
 
 -- the backlog after a departure
-abbrev pub left_backlog : QueueNumbers → FlowNumbers → Waiting → ℕ
-left_backlog queue flow waiting = backlog_of queue (removed_flow flow waiting) (removed queue waiting).bytes
+abbrev pub left_backlog : QueueNumbers → FlowNumbers → Waiting → Step → ℕ
+left_backlog queue flow waiting step =
+    backlog_of queue (removed_flow flow waiting) (sum_32 (removed queue waiting).bytes step.returned_bytes)
 
-abbrev pub departed_queue : QueueNumbers → Waiting → QueueNumbers
-departed_queue queue waiting = record (removed queue waiting) { peeked = Some waiting.length; peeked_packets = 1 }
+abbrev pub departure : QueueNumbers → FlowNumbers → Waiting → Step → LinuxDeparture
+departure queue flow waiting step = departure_of step (params_at queue step) waiting (left_backlog queue flow waiting step)
+
+-- a departure that a change of the limit dropped is counted until the row of the change
+abbrev pub drop_counted : QueueNumbers → Waiting → Step → QueueNumbers
+drop_counted queue waiting step =
+    if step.is_drop then record queue { drops = sum_32 queue.drops 1; drop_bytes = sum_32 queue.drop_bytes waiting.length } else queue
+
+abbrev pub departed_queue : QueueNumbers → Waiting → Step → QueueNumbers
+departed_queue queue waiting step = drop_counted (removed queue waiting) waiting step
 
 abbrev pub departed_flow : QueueNumbers → FlowNumbers → Waiting → Step → FlowNumbers
-departed_flow queue flow waiting step = record (removed_flow flow waiting) {
-  state = departed queue.params flow.state (departure_of step queue.params waiting (left_backlog queue flow waiting));
-}
+departed_flow queue flow waiting step =
+    record (removed_flow flow waiting) { state = departed (params_at queue step) flow.state (departure queue flow waiting step) }
 
-abbrev pub departure_difference : QueueNumbers → FlowNumbers → Waiting → Step → Option Difference
-departure_difference queue flow waiting step =
-    option_or (option_or (option_or (option_or (option_or (option_or
-    (compared column.Size step.size waiting.size)
-    (compared column.PacketLength step.packet_length waiting.length))
-    (compared column.Enqueued step.enqueued waiting.enqueued))
-    (compared column.Backlog step.backlog (left_backlog queue flow waiting)))
-    (compared column.LengthAfter step.length_after (removed queue waiting).length))
-    (compared column.BytesAfter step.bytes_after (removed queue waiting).bytes))
-    (state_difference step.after (departed_flow queue flow waiting step).state)
+abbrev pub departure_at : QueueNumbers → FlowNumbers → Waiting → Step → Departed
+departure_at queue flow waiting step = record {
+  waiting = waiting;
+  backlog = left_backlog queue flow waiting step;
+  reads = readings (params_at queue step) flow.state (departure queue flow waiting step);
+  is_timed = (params_at queue step).dq_rate_estimator;
+}
 
 -- ---- an update
 
+abbrev pub bytes_at_update : QueueNumbers → Step → ℕ
+bytes_at_update queue step = if lacks_bytes queue step then step.backlog else sum_32 queue.bytes step.returned_bytes
+
 abbrev pub update_backlog : QueueNumbers → FlowNumbers → Step → ℕ
-update_backlog queue flow step = backlog_of queue flow (bytes_at queue (is_taken queue step.backlog))
+update_backlog queue flow step = backlog_of queue flow (bytes_at_update queue step)
 
 abbrev pub updated_flow : QueueNumbers → FlowNumbers → Step → FlowNumbers
 updated_flow queue flow step = record flow { state = updated queue.params flow.state (update_backlog queue flow step) }
-
-abbrev pub update_difference : QueueNumbers → FlowNumbers → Step → Option Difference
-update_difference queue flow step =
-    option_or (compared column.Backlog step.backlog (update_backlog queue flow step))
-    (state_difference step.after (updated_flow queue flow step).state)
 
 -- ---- a round of the timer
 
@@ -247,28 +250,28 @@ update_difference queue flow step =
 abbrev pub recorded_flow : Step → ℕ
 recorded_flow step = unwrap_or step.flow (2 ^ 32 - 1)
 
-abbrev pub round_begun : QueueNumbers → ℕ → Step → QueueNumbers
-round_begun queue flows step = record queue { cursor = Some (next_cursor flows (unwrap_or queue.cursor (recorded_flow step))) }
+abbrev pub cursor_of : QueueNumbers → Step → ℕ
+cursor_of queue step = unwrap_or queue.cursor (recorded_flow step)
 
-abbrev pub round_difference : QueueNumbers → Step → Option Difference
-round_difference queue step = compared column.Flow (recorded_flow step) (unwrap_or queue.cursor (recorded_flow step))
+abbrev pub round_begun : QueueNumbers → Step → QueueNumbers
+round_begun queue step = record queue { cursor = Some (next_cursor queue.flows (cursor_of queue step)) }
 
 -- ---- changes and resets
 
+-- the numbers after a change of the parameters, before packets are dropped
 abbrev pub changed : QueueNumbers → Step → QueueNumbers
 changed queue step =
-    if queue.has_flows then record queue { params = step.params; memory_limit = step.truesize } else record queue { params = step.params }
+    if not queue.has_flows then record queue { params = step.params }
+    else if step.size == 0 then record queue { params = step.params; memory_limit = step.truesize; quantum = step.x2 }
+    else record queue { params = step.params; memory_limit = step.truesize; quantum = step.x2; drops = 0; drop_bytes = 0 }
 
-abbrev pub change_difference : QueueNumbers → FlowNumbers → ℕ → Step → Option Difference
-change_difference queue flow count step =
-    if queue.has_flows then None else option_or (option_or (option_or
-    (compared column.Size step.size count)
-    (compared column.Limit step.limit queue.params.limit))
-    (stats_difference step.stats queue.stats))
-    (state_difference step.after flow.state)
+-- the packets that a lower limit drops from the front of pie. fq_pie's drops are departures
+abbrev pub own_dropped : QueueNumbers → Step → ℕ
+own_dropped queue step =
+    if queue.has_flows then 0 else own_excess queue.length (sum_32 step.returned_packets step.moved) step.params.limit
 
 abbrev pub reset_queue : QueueNumbers → QueueNumbers
-reset_queue queue = record queue { length = 0; bytes = 0; peeked = None }
+reset_queue queue = record queue { length = 0; bytes = 0 }
 
 abbrev pub reset_flow : FlowNumbers → Bool → FlowNumbers
 reset_flow flow has_flows = record {
@@ -276,7 +279,3 @@ reset_flow flow has_flows = record {
   backlog = if has_flows then flow.backlog else 0;
   listed = false;
 }
-
-abbrev pub reset_difference : QueueNumbers → FlowNumbers → Step → Option Difference
-reset_difference queue flow step =
-    if queue.has_flows then None else option_or (stats_difference step.stats queue.stats) (state_difference step.after flow.state)

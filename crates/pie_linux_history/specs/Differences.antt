@@ -1,37 +1,88 @@
--- Comparisons of recorded numbers with those of the rules: the first column, in order, whose number differs.
-use Rattle.std.specs.Prelude.{ℕ, ◌==◌, if◌then◌else◌, Option, Some, None}
+-- A comparison of a recorded step with the step of the rules: the first column, in order, whose number differs.
+use Rattle.std.specs.Prelude.{ℕ, ◌+◌, ◌-◌, ◌^◌, ◌==◌, ◌∷◌, [], if◌then◌else◌, List, Option, Some, None, get_or, unwrap_or}
 use Rattle.std.specs.Option.{option_or}
-use Rattle.pie_linux.specs.declared.state.LinuxState.{LinuxState}
-use Rattle.pie_linux.specs.declared.stats.LinuxStats.{LinuxStats}
-use Rattle.pie_linux_history.specs.declared.difference.Column.{Column}
-use Rattle.pie_linux_history.specs.declared.difference.Column.TheVariants as column
+use Rattle.pie_linux.specs.Enqueue.{one_if}
 use Rattle.pie_linux_history.specs.declared.difference.Difference.{Difference}
+use Rattle.pie_linux_history.specs.declared.step.Step.{Step}
+
+-- the numbers of a step, in the order of the table of columns
+unfoldable pub numbers_of : Step → List ℕ
+numbers_of step =
+    step.number ∷
+    step.length_before ∷
+    step.bytes_before ∷
+    step.limit ∷
+    step.early ∷
+    step.draws ∷
+    step.returned ∷
+    step.size ∷
+    step.packet_length ∷
+    step.stats.packets_in ∷
+    step.stats.dropped ∷
+    step.stats.overlimit ∷
+    step.stats.ecn_mark ∷
+    step.stats.maxq ∷
+    step.backlog ∷
+    step.length_after ∷
+    step.bytes_after ∷
+    step.after.qdelay ∷
+    step.after.qdelay_old ∷
+    step.after.burst_time ∷
+    step.after.dq_tstamp ∷
+    step.after.prob ∷
+    step.after.accu_prob ∷
+    step.after.dq_count ∷
+    step.enqueued ∷
+    step.moment ∷
+    step.word ∷
+    get_or step.readings 0 0 ∷
+    get_or step.readings 1 0 ∷
+    get_or step.readings 2 0 ∷
+    step.params.target ∷
+    step.after.avg_dq_rate ∷
+    step.after.backlog_old ∷
+    step.x0 ∷
+    step.x1 ∷
+    step.x2 ∷
+    step.mtu ∷
+    one_if step.contained ∷
+    step.hash ∷
+    step.truesize ∷
+    step.params.tupdate ∷
+    step.params.limit ∷
+    step.params.alpha ∷
+    step.params.beta ∷
+    one_if step.params.ecn ∷
+    one_if step.params.bytemode ∷
+    one_if step.params.dq_rate_estimator ∷
+    step.priority ∷
+    step.reads ∷
+    step.returned_packets ∷
+    step.returned_bytes ∷
+    one_if step.is_drop ∷
+    step.moved ∷
+    step.protocol ∷
+    step.header ∷ []
+
+-- a flow, 2^32 - 1 for -1
+abbrev pub flow_number : Option ℕ → ℕ
+flow_number flow = unwrap_or flow (2 ^ 32 - 1)
 
 -- the difference of a column: none if the recorded number is the right one
-abbrev pub compared : Column → ℕ → ℕ → Option Difference
-compared column recorded right =
+abbrev pub difference_of : ℕ → ℕ → ℕ → Option Difference
+difference_of column recorded right =
     if recorded == right then None else Some (record { column = column; recorded = recorded; right = right })
 
--- the first difference of a recorded state
-abbrev pub state_difference : LinuxState → LinuxState → Option Difference
-state_difference recorded right =
-    option_or (option_or (option_or (option_or (option_or (option_or (option_or (option_or
-    (compared column.Qdelay recorded.qdelay right.qdelay)
-    (compared column.QdelayOld recorded.qdelay_old right.qdelay_old))
-    (compared column.BurstTime recorded.burst_time right.burst_time))
-    (compared column.DqTstamp recorded.dq_tstamp right.dq_tstamp))
-    (compared column.Prob recorded.prob right.prob))
-    (compared column.AccuProb recorded.accu_prob right.accu_prob))
-    (compared column.DqCount recorded.dq_count right.dq_count))
-    (compared column.AvgDqRate recorded.avg_dq_rate right.avg_dq_rate))
-    (compared column.BacklogOld recorded.backlog_old right.backlog_old)
+-- the first difference of two lists of numbers, which begin with the column of this number
+unfoldable pub first_difference : ℕ → List ℕ → List ℕ → Option Difference
+first_difference column [] rights = None
+first_difference column (recorded ∷ more) [] = None
+first_difference column (recorded ∷ more) (right ∷ rights) =
+    if recorded == right then first_difference (column + 1) more rights
+    else Some (record { column = column; recorded = recorded; right = right })
 
--- the first difference of recorded counters
-abbrev pub stats_difference : LinuxStats → LinuxStats → Option Difference
-stats_difference recorded right =
-    option_or (option_or (option_or (option_or
-    (compared column.PacketsIn recorded.packets_in right.packets_in)
-    (compared column.Dropped recorded.dropped right.dropped))
-    (compared column.OverLimit recorded.overlimit right.overlimit))
-    (compared column.EcnMark recorded.ecn_mark right.ecn_mark))
-    (compared column.GreatestLength recorded.maxq right.maxq)
+-- the first difference of a recorded step: its flow, the 56th column, or another column in the order of the table
+unfoldable pub step_difference : Step → Step → Option Difference
+step_difference recorded right =
+    option_or (difference_of 55 (flow_number recorded.flow) (flow_number right.flow))
+    (first_difference 0 (numbers_of recorded) (numbers_of right))

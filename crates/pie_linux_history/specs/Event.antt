@@ -136,7 +136,7 @@ updated_answer one = answer.Updated (nanos one.after.state.qdelay) (parts one.af
 -- the command and the answer of a step of a kind that reports have
 abbrev pub command_by : Kind → DecidedStep → Option (Command × Answer)
 command_by kind.Enqueue one = arrival_of one
-command_by kind.Dequeue one = Some (Depart one.step.moment, answer.Left (packet_of one NotEct))
+command_by kind.Dequeue one = if one.step.is_drop then None else Some (Depart one.step.moment, answer.Left (packet_of one NotEct))
 command_by kind.Empty one = Some (Depart one.step.moment, answer.Empty)
 command_by kind.Update one = Some (Update one.step.moment, updated_answer one)
 command_by kind.Change one = Some (SetParams one.step.moment (params_of one.after.params), answer.Done)
@@ -149,7 +149,7 @@ command_of one = command_by one.step.kind one
 
 -- ---- the numbers around it
 
--- the packets and the bytes that wait before a step; at an arrival those of the kernel, which may count the last departures again
+-- the packets and the bytes that wait before a step; at an arrival those of the kernel, with the packets that the device returned
 abbrev pub waiting_before_by : Option DecidedPacket → DecidedStep → ℕ × ℕ
 waiting_before_by (Some packet) one = (packet.length, packet.backlog)
 waiting_before_by None one = (one.before.packets, one.before.bytes)

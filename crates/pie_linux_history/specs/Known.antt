@@ -1,5 +1,5 @@
 -- The queues of an audit represent the rows so far: by each name they have the queue that a look-back over the rows finds.
-use Rattle.std.specs.Prelude.{ℕ, ◌+◌, ◌≡◌, ◌++◌, ◌∷◌, if◌then◌else◌, List, [], length, get_or, Bool, true, false, Option, Some, None, IfOk, Result, Ok, Err, suc, zero, ⊤}
+use Rattle.std.specs.Prelude.{ℕ, ◌≡◌, ◌++◌, ◌∷◌, if◌then◌else◌, List, [], true, false, Option, Some, None, IfOk, Result, Ok, Err, suc, zero}
 use Rattle.std.specs.Str.{bytes_eq}
 use Rattle.pie_record.specs.Text.{Row}
 use Rattle.pie_record.specs.declared.fault.RecordFault.{RecordFault}
@@ -12,8 +12,8 @@ use Rattle.pie_linux_history.specs.declared.queues.Queues.{Queues}
 use Rattle.pie_linux_history.specs.declared.queues.StepDifference.{StepDifference}
 use Rattle.pie_linux_history.specs.declared.step.QueueName.{QueueName}
 use Rattle.pie_linux_history.specs.declared.step.Step.{Step}
-use Rattle.pie_linux_history.specs.Audit.{has_failed, next, verdict, verdict_of}
-use Rattle.pie_linux_history.specs.LookBack.{Entry, Followed, Took, Lost, counts_of, decision_by, dropped_by_step, entry_in, followed, is_opening, name_of}
+use Rattle.pie_linux_history.specs.Audit.{next, verdict}
+use Rattle.pie_linux_history.specs.LookBack.{Entry, Followed, Took, counts_of, decision_by, dropped_by_step, entry_in, followed, is_opening, name_of}
 
 abbrev pub tracked : Known → Followed
 tracked known = record { last = known.last; queue = known.queue }

@@ -1,5 +1,6 @@
 pub mod Differences
 pub mod Decisions
+pub mod Right
 pub mod Views
 pub mod Queue
 pub mod LookBack

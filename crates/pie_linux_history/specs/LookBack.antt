@@ -1,5 +1,5 @@
 -- A queue after the rows of a text, by looking back over them: the last row `init` or `resume` of its name, and each later step of this name.
-use Rattle.std.specs.Prelude.{ℕ, ◌+◌, ◌%◌, ◌^◌, ◌≡◌, ◌++◌, ◌∷◌, if◌then◌else◌, List, [], length, take, filter, nat_le, not, Bool, true, false, Option, Some, None, Result, Ok, Err}
+use Rattle.std.specs.Prelude.{ℕ, ◌+◌, ◌%◌, ◌^◌, ◌++◌, ◌∷◌, if◌then◌else◌, List, [], length, take, filter, nat_le, not, Bool, true, false, Option, Some, None, Result, Ok}
 use Rattle.std.specs.List.{filter_map, fold, sum_by}
 use Rattle.std.specs.Option.{ok_or, option_or}
 use Rattle.std.specs.Str.{bytes_eq}
@@ -11,12 +11,14 @@ use Rattle.pie_record.specs.declared.fault.RecordFault.TheVariants as flaw
 use Rattle.pie_linux_history.specs.declared.columns.Columns.{Columns}
 use Rattle.pie_linux_history.specs.declared.explained.DecidedPacket.{DecidedPacket}
 use Rattle.pie_linux_history.specs.declared.explained.Decision.{Decision}
+use Rattle.pie_linux_history.specs.declared.explained.Input.{Input}
+use Rattle.pie_linux_history.specs.declared.explained.Input.TheVariants as input
 use Rattle.pie_linux_history.specs.declared.queues.StepsCounts.{StepsCounts}
 use Rattle.pie_linux_history.specs.declared.step.Kind.{Kind}
 use Rattle.pie_linux_history.specs.declared.step.Kind.TheVariants as kind
 use Rattle.pie_linux_history.specs.declared.step.QueueName.{QueueName}
 use Rattle.pie_linux_history.specs.declared.step.Step.{Step}
-use Rattle.pie_linux_history.specs.Columns.{field_or, lost_in, queue_name, step_in}
+use Rattle.pie_linux_history.specs.Columns.{field_or, handle_of, lost_in, queue_name, step_in}
 use Rattle.pie_linux_history.specs.Queue.{is_part, last_after, next_dropped, next_step, opened}
 use Rattle.pie_linux_history.specs.Views.{QueueView}
 
@@ -80,19 +82,19 @@ pub record Followed : Type 0 where
   pub last : ℕ
   pub queue : QueueView
 
-abbrev pub begun : Step → Followed
-begun step = record { last = step.number; queue = opened step }
+abbrev pub begun : List ℕ → Step → Followed
+begun name step = record { last = step.number; queue = opened (handle_of name) step }
 
 abbrev pub follow : Followed → Step → Followed
 follow was step = record { last = last_after was.last step; queue = (next_step was.last was.queue step).queue }
 
-abbrev pub followed_by : Option (Step × List Step) → Option Followed
-followed_by None = None
-followed_by (Some (first, later)) = Some (fold follow (begun first) later)
+abbrev pub followed_by : List ℕ → Option (Step × List Step) → Option Followed
+followed_by name None = None
+followed_by name (Some (first, later)) = Some (fold follow (begun name first) later)
 
 -- the queue with this name after the rows
 unfoldable pub followed : List ℕ → List Entry → Option Followed
-followed name entries = followed_by (steps_of name entries)
+followed name entries = followed_by name (steps_of name entries)
 
 -- ---- the decision of a row after others
 
@@ -118,10 +120,41 @@ abbrev pub lost_steps : Entry → ℕ
 lost_steps (Lost queue count) = count
 lost_steps _ = 0
 
--- the rows, the steps and the lost steps, in 64 bits
+-- the input that a row after these ones lacks
+abbrev pub lack_by : Option Decision → Option Input
+lack_by None = None
+lack_by (Some decision) = decision.lacks
+
+abbrev pub lack_in : List Entry → Entry → Option Input
+lack_in entries (Took queue step) =
+    if is_opening step.kind then None else lack_by (decision_by step (followed (name_of queue) entries))
+lack_in entries _ = None
+
+abbrev pub is_lack : Input → Option Input → Bool
+is_lack input.Returned (Some input.Returned) = true
+is_lack input.Protocol (Some input.Protocol) = true
+is_lack input.Change (Some input.Change) = true
+is_lack _ _ = false
+
+-- the rows among `rows`, which follow others, that lack this input
+unfoldable pub lack_count : Input → List Entry → List Entry → ℕ
+lack_count which before [] = 0
+lack_count which before (one ∷ rest) = one_if (is_lack which (lack_in before one)) + lack_count which (before ++ one ∷ []) rest
+
+-- the counts with one more step that lacks an input
+abbrev pub lack_counted : StepsCounts → Option Input → StepsCounts
+lack_counted counts None = counts
+lack_counted counts (Some input.Returned) = record counts { without_returned = (counts.without_returned + 1) % 2 ^ 64 }
+lack_counted counts (Some input.Protocol) = record counts { without_protocol = (counts.without_protocol + 1) % 2 ^ 64 }
+lack_counted counts (Some input.Change) = record counts { without_change = (counts.without_change + 1) % 2 ^ 64 }
+
+-- the rows, the steps, the lost steps, and the steps that lack an input, in 64 bits
 abbrev pub counts_of : List Entry → StepsCounts
 counts_of entries = record {
   events = length entries % 2 ^ 64;
   steps = sum_by step_count entries % 2 ^ 64;
   lost = sum_by lost_steps entries % 2 ^ 64;
+  without_returned = lack_count input.Returned [] entries % 2 ^ 64;
+  without_protocol = lack_count input.Protocol [] entries % 2 ^ 64;
+  without_change = lack_count input.Change [] entries % 2 ^ 64;
 }

@@ -1,16 +1,13 @@
--- A queue whose steps are decided again: its numbers, its flows with their waiting packets, and the lengths of its last departures; and each step of it.
-use Rattle.std.specs.Prelude.{ℕ, ◌+◌, ◌-◌, ◌%◌, ◌/◌, ◌^◌, ◌++◌, ◌∷◌, ◌==◌, ◌≡◌, ◌&&◌, if◌then◌else◌, not, nat_le, nat_lt, List, [], length, get_or, min, Option, Some, None, unwrap_or, zero, suc, Bool, true, false, drop, map, replicate, take}
+-- A queue whose steps are decided again: its numbers and its flows with their waiting packets; and each step of it.
+use Rattle.std.specs.Prelude.{ℕ, ◌+◌, ◌-◌, ◌%◌, ◌^◌, ◌++◌, ◌∷◌, ◌==◌, ◌≡◌, if◌then◌else◌, not, List, [], Option, Some, None, unwrap_or, Bool, true, false, drop, map, replicate, take}
 use Rattle.std.specs.List.{flat_map, fold, slice_get}
-use Rattle.std.specs.Option.{option_or}
 use Rattle.std.proofs.Math.ListN.{set}
 use Rattle.pie_linux.specs.Enqueue.{is_queued, one_if}
-use Rattle.pie_linux.specs.Numbers.{full_burst, unset}
-use Rattle.pie_linux.specs.Queue.{excess, flow_of}
 use Rattle.pie_linux.specs.declared.state.LinuxState.{LinuxState}
-use Rattle.pie_linux_history.specs.declared.difference.Column.TheVariants as column
 use Rattle.pie_linux_history.specs.declared.difference.Difference.{Difference}
 use Rattle.pie_linux_history.specs.declared.explained.DecidedPacket.{DecidedPacket}
 use Rattle.pie_linux_history.specs.declared.explained.Decision.{Decision}
+use Rattle.pie_linux_history.specs.declared.explained.Input.{Input}
 use Rattle.pie_linux_history.specs.declared.explained.Fate.{Fate}
 use Rattle.pie_linux_history.specs.declared.explained.Fate.TheVariants as fate
 use Rattle.pie_linux_history.specs.declared.numbers.FlowNumbers.{FlowNumbers}
@@ -19,23 +16,21 @@ use Rattle.pie_linux_history.specs.declared.numbers.Waiting.{Waiting}
 use Rattle.pie_linux_history.specs.declared.step.Kind.{Kind}
 use Rattle.pie_linux_history.specs.declared.step.Kind.TheVariants as kind
 use Rattle.pie_linux_history.specs.declared.step.Step.{Step}
-use Rattle.pie_linux_history.specs.Decisions.{arrival_difference, arrived, arrived_flow, bytes_before, cause_of, change_difference, changed, departed_flow, departed_queue, departure_difference, difference_32, is_taken, length_before, removed, removed_flow, reset_difference, reset_flow, reset_queue, round_begun, round_difference, settled, update_difference, updated_flow, waiting_added, waiting_of}
-use Rattle.pie_linux_history.specs.Resumes.{first_numbers, is_init, resumed}
+use Rattle.pie_linux_history.specs.Decisions.{admitted, arrived, arrived_flow, bytes_before, cause_of, changed, departed_flow, departed_queue, flow_chosen, lack_of, lack_of_arrival, lacks_bytes, lacks_limit, lacks_switch, length_before, own_dropped, removed, removed_flow, reset_flow, reset_queue, round_begun, updated_flow, waiting_added, waiting_of}
+use Rattle.pie_linux_history.specs.Differences.{step_difference}
+use Rattle.pie_linux_history.specs.Right.{arrival_difference, change_difference, departure_difference, reset_difference, right_destroy, right_opening, round_difference, update_difference}
+use Rattle.pie_linux_history.specs.Resumes.{first_flows, first_numbers, is_init, new_state, resumed}
 use Rattle.pie_linux_history.specs.Views.{FlowView, QueueView}
 
 -- ---- flows
 
--- the number of flows
-abbrev pub flow_count : QueueView → ℕ
-flow_count queue = min (length queue.flows) (2 ^ 32 - 1)
+-- the place of a flow, or of the flow that a priority or a hash chooses
+abbrev pub place_at : QueueView → Option ℕ → ℕ → ℕ → ℕ
+place_at queue flow priority hash = if queue.numbers.has_flows then unwrap_or flow (flow_chosen queue.numbers priority hash) else 0
 
--- the place of a flow, or of the flow of a hash
-abbrev pub place_at : QueueView → Option ℕ → ℕ → ℕ
-place_at queue flow hash = if queue.numbers.has_flows then unwrap_or flow (flow_of hash (flow_count queue)) else 0
-
--- the place of the flow of a step: the recorded one, or the hash's if the limit came before it was known
+-- the place of the flow of a step: the recorded one, or the chosen one of an arrival at the limit in a text without the column `rq`
 abbrev pub place_of : QueueView → Step → ℕ
-place_of queue step = place_at queue step.flow step.hash
+place_of queue step = place_at queue step.flow step.priority step.hash
 
 abbrev pub flow_at : QueueView → Step → Option FlowView
 flow_at queue step = slice_get queue.flows (place_of queue step)
@@ -46,41 +41,7 @@ with_flow queue step numbers flow = record queue { numbers = numbers; flows = se
 
 -- the difference of a step of a flow that does not exist
 abbrev pub no_flow : Step → Option Difference
-no_flow step = Some (record { column = column.Flow; recorded = unwrap_or step.flow (2 ^ 32 - 1); right = 0 })
-
--- ---- departures that the kernel counts again
-
--- one more departure of this length: the last 256 are kept
-abbrev pub sent : QueueView → ℕ → QueueView
-sent queue length = record queue { sent = set queue.sent (queue.count % 256) length; count = (queue.count + 1) % 2 ^ 64 }
-
--- the length of the departure after which `packets` others came
-abbrev pub sent_before : QueueView → ℕ → ℕ
-sent_before queue packets = get_or queue.sent ((queue.count + (2 ^ 64 - packets) + (2 ^ 64 - 1)) % 2 ^ 64 % 256) 0
-
--- the number of the last departures that have `more` bytes together: after `packets` of them with `bytes` bytes, among `left` further ones
-unfoldable pub last_departures : QueueView → ℕ → ℕ → ℕ → ℕ → Option ℕ
-last_departures queue more packets bytes zero = None
-last_departures queue more packets bytes (suc left) =
-    if nat_le more bytes then None
-    else let next = min (bytes + sent_before queue packets) (2 ^ 32 - 1) in
-    if next == more then Some (packets + 1)
-    else last_departures queue more (packets + 1) next left
-
--- the number of packets with `more` bytes: the last departures, or segments of the last one, each with the length of the whole
-abbrev pub segments : ℕ → ℕ → Option ℕ
-segments more last = if nat_lt 0 last && nat_lt 0 more && (more % last == 0) then Some (more / last) else None
-
-abbrev pub returned : QueueView → ℕ → Option ℕ
-returned queue more = option_or (last_departures queue more 0 0 256) (segments more (sent_before queue 0))
-
-abbrev pub peeked_again : QueueView → ℕ → Option ℕ → QueueView
-peeked_again queue more None = queue
-peeked_again queue more (Some packets) = record queue { numbers = record queue.numbers { peeked = Some more; peeked_packets = packets } }
-
--- the queue with the packets that the kernel counts again, at these recorded bytes
-abbrev pub counted_again : QueueView → ℕ → QueueView
-counted_again queue recorded = let more = difference_32 recorded queue.numbers.bytes in peeked_again queue more (returned queue more)
+no_flow step = Some (record { column = 55; recorded = unwrap_or step.flow (2 ^ 32 - 1); right = 0 })
 
 -- ---- steps of a flow
 
@@ -95,34 +56,36 @@ dropped why queue flow waiting = record {
   limit = queue.params.limit;
 }
 
--- a step of a flow: the numbers of the queue and the flow after it, the decision, and the length of a departure
+-- a step of a flow: the numbers of the queue and the flow after it, and the decision
 pub record FlowStep : Type 0 where
   pub numbers : QueueNumbers
   pub flow : FlowView
   pub decision : Decision
-  pub sent : Option ℕ
 
 -- the numbers, the flow and the results of a step of a flow
-pub record IsFlowStep (step : FlowStep) (numbers : QueueNumbers) (flow : FlowView) (decision : Decision) (sent : Option ℕ) : Type 0 where
+pub record IsFlowStep (step : FlowStep) (numbers : QueueNumbers) (flow : FlowView) (decision : Decision) : Type 0 where
   pub numbers_are : numbers ≡ step.numbers
   pub flow_is : flow ≡ step.flow
   pub decision_is : decision ≡ step.decision
-  pub sent_is : sent ≡ step.sent
 
 -- the decision of a step that is no arrival
 abbrev pub other : Option Difference → Decision
-other difference = record { difference = difference; arrival = None }
+other difference = record { difference = difference; arrival = None; lacks = None }
 
--- an arrival
-abbrev pub flow_arrived : QueueNumbers → FlowView → Step → FlowStep
-flow_arrived queue flow step = record {
+-- one that lacks an input
+abbrev pub lacking : Option Input → Option Difference → Decision
+lacking lacks difference = record { difference = difference; arrival = None; lacks = lacks }
+
+-- an arrival in a queue with the limit of the arrival
+abbrev pub flow_admitted : Bool → QueueNumbers → FlowView → Step → FlowStep
+flow_admitted change queue flow step = record {
   numbers = arrived queue flow.numbers step;
   flow = record {
     numbers = arrived_flow queue flow.numbers step;
     waiting = if is_queued (cause_of queue flow.numbers step) then flow.waiting ++ waiting_of step ∷ [] else flow.waiting;
   };
   decision = record {
-    difference = arrival_difference queue flow.numbers step (arrived queue flow.numbers step);
+    difference = arrival_difference queue flow.numbers step;
     arrival = Some (record {
       bytes = step.packet_length;
       fate = fate.Arrival (cause_of queue flow.numbers step);
@@ -131,23 +94,25 @@ flow_arrived queue flow step = record {
       backlog = bytes_before queue step;
       limit = queue.params.limit;
     });
+    lacks = lack_of_arrival change queue flow.numbers step;
   };
-  sent = None;
 }
+
+-- an arrival
+abbrev pub flow_arrived : QueueNumbers → FlowView → Step → FlowStep
+flow_arrived queue flow step = flow_admitted (lacks_limit queue step) (admitted queue step) flow step
 
 -- a departure of the first waiting packet
 abbrev pub departed_first : QueueNumbers → FlowNumbers → List Waiting → Step → FlowStep
 departed_first queue flow [] step = record {
   numbers = queue;
   flow = record { numbers = flow; waiting = [] };
-  decision = other (Some (record { column = column.LengthAfter; recorded = step.length_after; right = 0 }));
-  sent = None;
+  decision = other (Some (record { column = 15; recorded = step.length_after; right = 0 }));
 }
 departed_first queue flow (first ∷ rest) step = record {
-  numbers = departed_queue queue first;
+  numbers = departed_queue queue first step;
   flow = record { numbers = departed_flow queue flow first step; waiting = rest };
-  decision = other (departure_difference queue flow first step);
-  sent = Some first.length;
+  decision = lacking (lack_of (lacks_switch queue step) false false) (departure_difference queue flow first step);
 }
 
 abbrev pub flow_departed : QueueNumbers → FlowView → Step → FlowStep
@@ -156,10 +121,9 @@ flow_departed queue flow step = departed_first queue flow.numbers flow.waiting s
 -- an update of the probability
 abbrev pub flow_updated : QueueNumbers → FlowView → Step → FlowStep
 flow_updated queue flow step = record {
-  numbers = settled queue (is_taken queue step.backlog);
+  numbers = queue;
   flow = record flow { numbers = updated_flow queue flow.numbers step };
-  decision = other (update_difference queue flow.numbers step);
-  sent = None;
+  decision = lacking (lack_of false (lacks_bytes queue step) false) (update_difference queue flow.numbers step);
 }
 
 -- the recorded state of a running flow
@@ -168,7 +132,6 @@ flow_resumed queue flow step = record {
   numbers = queue;
   flow = record flow { numbers = record { state = step.after; backlog = step.backlog; listed = not (step.x1 == 0) } };
   decision = other None;
-  sent = None;
 }
 
 -- a waiting packet of a running queue
@@ -177,57 +140,31 @@ flow_waited queue flow step = record {
   numbers = queue;
   flow = record flow { waiting = flow.waiting ++ waiting_of step ∷ [] };
   decision = other None;
-  sent = None;
 }
 
 -- ---- steps of a queue
 
--- the queue after a step, the decision, and the length of a departure that is not kept yet
+-- the queue after a step, and the decision
 pub record Stepped : Type 0 where
   pub queue : QueueView
   pub decision : Decision
-  pub sent : Option ℕ
 
 -- a step of the flow of a step, if there is one; otherwise the queue stays
 abbrev pub stepped_flow : (QueueNumbers → FlowView → Step → FlowStep) → Option Difference → QueueView → Step → Option FlowView → Stepped
-stepped_flow flow_step missing queue step None = record { queue = queue; decision = other missing; sent = None }
+stepped_flow flow_step missing queue step None = record { queue = queue; decision = other missing }
 stepped_flow flow_step missing queue step (Some flow) = record {
   queue = with_flow queue step (flow_step queue.numbers flow step).numbers (flow_step queue.numbers flow step).flow;
   decision = (flow_step queue.numbers flow step).decision;
-  sent = (flow_step queue.numbers flow step).sent;
 }
 
 unfoldable pub flow_stepped : (QueueNumbers → FlowView → Step → FlowStep) → Option Difference → QueueView → Step → Stepped
 flow_stepped flow_step missing queue step = stepped_flow flow_step missing queue step (flow_at queue step)
 
--- an arrival, a departure and an update. The backlog of an update of fq_pie is a flow's
-unfoldable pub arrival : QueueView → Step → Stepped
-arrival queue step = flow_stepped flow_arrived (no_flow step) (counted_again queue step.bytes_before) step
-
--- the step with its departure among the last ones
-abbrev pub keep_sent : QueueView → Decision → Option ℕ → Stepped
-keep_sent queue decision None = record { queue = queue; decision = decision; sent = None }
-keep_sent queue decision (Some length) = record { queue = sent queue length; decision = decision; sent = None }
-
-abbrev pub kept : Stepped → Stepped
-kept step = keep_sent step.queue step.decision step.sent
-
-unfoldable pub departure : QueueView → Step → Stepped
-departure queue step = kept (flow_stepped flow_departed (no_flow step) queue step)
-
-unfoldable pub update : QueueView → Step → Stepped
-update queue step = flow_stepped flow_updated (no_flow step) (if queue.numbers.has_flows then queue else counted_again queue step.backlog) step
-
--- a packet of a running queue: it has departed, it waits in its flow, or the parent has peeked at it
+-- a packet of a running queue: it waits in its flow, or the device returned it
 unfoldable pub waiting_resumed : QueueView → Step → Stepped
 waiting_resumed queue step =
-    if step.x0 == 2 then record { queue = sent queue step.packet_length; decision = other None; sent = None }
-    else if step.x0 == 0 then flow_stepped flow_waited None (record queue { numbers = waiting_added queue.numbers (waiting_of step) }) step
-    else record {
-      queue = sent (record queue { numbers = record queue.numbers { peeked = Some step.packet_length; peeked_packets = 1 } }) step.packet_length;
-      decision = other None;
-      sent = None;
-    }
+    if step.x0 == 0 then flow_stepped flow_waited None (record queue { numbers = waiting_added queue.numbers (waiting_of step) }) step
+    else record { queue = queue; decision = other None }
 
 -- ---- changes and resets
 
@@ -243,21 +180,16 @@ shortened_queue queue waiting count = fold removed queue (take count waiting)
 abbrev pub shortened_flow : FlowNumbers → List Waiting → ℕ → FlowNumbers
 shortened_flow flow waiting count = fold removed_flow flow (take count waiting)
 
--- the number of packets that a lower limit drops: of pie those above it. fq_pie's drops are departures
-abbrev pub excess_of : QueueView → Step → ℕ
-excess_of queue step = if queue.numbers.has_flows then 0 else excess queue.numbers.length step.params.limit
-
 -- a change of the parameters: pie's first packets are dropped
 abbrev pub changed_first : QueueView → Step → Option FlowView → Stepped
-changed_first queue step None = record { queue = record queue { numbers = changed queue.numbers step }; decision = other None; sent = None }
+changed_first queue step None = record { queue = record queue { numbers = changed queue.numbers step }; decision = other None }
 changed_first queue step (Some flow) =
-    let count = excess_of queue step in
+    let count = own_dropped queue.numbers step in
     let numbers = shortened_queue (changed queue.numbers step) flow.waiting count in
     let after = shortened_flow flow.numbers flow.waiting count in
     record {
       queue = record queue { numbers = numbers; flows = set queue.flows 0 (record { numbers = after; waiting = drop count flow.waiting }) };
-      decision = other (change_difference numbers after count step);
-      sent = None;
+      decision = other (change_difference numbers queue.numbers after step);
     }
 
 unfoldable pub change : QueueView → Step → Stepped
@@ -266,7 +198,7 @@ change queue step = changed_first queue step (slice_get queue.flows 0)
 abbrev pub dropped_first : QueueView → Step → Option FlowView → List DecidedPacket
 dropped_first queue step None = []
 dropped_first queue step (Some flow) =
-    dropped_in_turn fate.Change (changed queue.numbers step) flow.numbers (take (excess_of queue step) flow.waiting)
+    dropped_in_turn fate.Change (changed queue.numbers step) flow.numbers (take (own_dropped queue.numbers step) flow.waiting)
 
 unfoldable pub dropped_by_change : QueueView → Step → List DecidedPacket
 dropped_by_change queue step = dropped_first queue step (slice_get queue.flows 0)
@@ -287,9 +219,21 @@ reset queue step =
     let flows = map (emptied_flow queue.numbers.has_flows) queue.flows in
     record {
       queue = record queue { numbers = reset_queue queue.numbers; flows = flows };
-      decision = other (reset_difference_of (reset_queue queue.numbers) (slice_get flows 0) step);
-      sent = None;
+      decision = other (reset_difference_of queue.numbers (slice_get flows 0) step);
     }
+
+-- a departure that a change of fq_pie's limit dropped
+abbrev pub first_dropped : QueueNumbers → Option FlowView → List DecidedPacket
+first_dropped queue None = []
+first_dropped queue (Some flow) = map (dropped fate.Change queue flow.numbers) (take 1 flow.waiting)
+
+unfoldable pub dropped_by_departure : QueueView → Step → List DecidedPacket
+dropped_by_departure queue step = if step.is_drop then first_dropped queue.numbers (flow_at queue step) else []
+
+-- the last step of a queue
+abbrev pub destroy_difference : QueueNumbers → Option FlowView → Step → Option Difference
+destroy_difference queue None step = None
+destroy_difference queue (Some first) step = step_difference step (right_destroy queue first.numbers.state step)
 
 unfoldable pub dropped_by_reset : QueueView → List DecidedPacket
 dropped_by_reset queue = flat_map (dropped_of queue.numbers) queue.flows
@@ -298,28 +242,32 @@ dropped_by_reset queue = flat_map (dropped_of queue.numbers) queue.flows
 
 -- the step of each kind
 abbrev pub unchanged : QueueView → Stepped
-unchanged queue = record { queue = queue; decision = other None; sent = None }
+unchanged queue = record { queue = queue; decision = other None }
 
 abbrev pub round : QueueView → Step → Stepped
 round queue step = record {
-  queue = record queue { numbers = round_begun queue.numbers (flow_count queue) step };
+  queue = record queue { numbers = round_begun queue.numbers step };
   decision = other (round_difference queue.numbers step);
-  sent = None;
 }
 
+unfoldable pub destroyed : QueueView → Step → Stepped
+destroyed queue step = record { queue = queue; decision = other (destroy_difference queue.numbers (slice_get queue.flows 0) step) }
+
 abbrev pub stepped : Kind → QueueView → Step → Stepped
-stepped kind.Enqueue queue step = arrival queue step
-stepped kind.Dequeue queue step = departure queue step
-stepped kind.Update queue step = update queue step
+stepped kind.Enqueue queue step = flow_stepped flow_arrived (no_flow step) queue step
+stepped kind.Dequeue queue step = flow_stepped flow_departed (no_flow step) queue step
+stepped kind.Update queue step = flow_stepped flow_updated (no_flow step) queue step
 stepped kind.Timer queue step = round queue step
 stepped kind.Flow queue step = flow_stepped flow_resumed None queue step
 stepped kind.Wait queue step = waiting_resumed queue step
 stepped kind.Change queue step = change queue step
 stepped kind.Reset queue step = reset queue step
+stepped kind.Destroy queue step = destroyed queue step
 stepped _ queue step = unchanged queue
 
 -- the waiting packets that a step of each kind drops, in order
 abbrev pub dropped_by : Kind → QueueView → Step → List DecidedPacket
+dropped_by kind.Dequeue queue step = dropped_by_departure queue step
 dropped_by kind.Change queue step = dropped_by_change queue step
 dropped_by kind.Reset queue step = dropped_by_reset queue
 dropped_by _ queue step = []
@@ -343,8 +291,7 @@ next_step last queue step =
     if step.number == next_number last step then stepped step.kind queue step
     else record {
       queue = queue;
-      decision = other (Some (record { column = column.Number; recorded = step.number; right = next_number last step }));
-      sent = None;
+      decision = other (Some (record { column = 0; recorded = step.number; right = next_number last step }));
     }
 
 abbrev pub next_dropped : ℕ → QueueView → Step → List DecidedPacket
@@ -352,35 +299,19 @@ next_dropped last queue step = if step.number == next_number last step then drop
 
 -- ---- the first step
 
--- the number of flows: at most 65536 of fq_pie, one of pie
-abbrev pub first_flows : Step → ℕ
-first_flows step = if step.has_flows then min step.x1 65536 else 1
-
 -- the state of each flow: a new one, unless pie runs
-abbrev pub new_state : LinuxState
-new_state = record {
-  qdelay = 0;
-  qdelay_old = 0;
-  burst_time = full_burst;
-  dq_tstamp = unset;
-  prob = 0;
-  accu_prob = 0;
-  dq_count = unset;
-  avg_dq_rate = 0;
-  backlog_old = 0;
-}
-
 abbrev pub first_state : Step → LinuxState
 first_state step = if is_init step.kind then new_state else if step.has_flows then new_state else step.after
 
 abbrev pub first_flow : Step → FlowView
 first_flow step = record { numbers = record { state = first_state step; backlog = 0; listed = false }; waiting = [] }
 
--- a queue after its first step, `init` or `resume`: no packet waits yet
-unfoldable pub opened : Step → QueueView
-opened step = record {
-  numbers = resumed (first_numbers step) step;
+-- a queue with this handle after its first step, `init` or `resume`: no packet waits yet
+unfoldable pub opened : ℕ → Step → QueueView
+opened handle step = record {
+  numbers = resumed (first_numbers handle step) step;
   flows = replicate (first_flows step) (first_flow step);
-  sent = replicate 256 0;
-  count = 0;
 }
+
+abbrev pub opening_difference : Step → Option Difference
+opening_difference step = step_difference step (right_opening step)

@@ -1,5 +1,5 @@
 -- Reports about the decided steps of a text: the selected steps, and the text about them.
-use Rattle.std.specs.Prelude.{ℕ, ◌≡◌, Option, Some, None, List, if◌then◌else◌}
+use Rattle.std.specs.Prelude.{ℕ, Option, Some, None, List, if◌then◌else◌}
 use Rattle.std.specs.List.{filter_map}
 use Rattle.std.specs.Io.KnownBytes.{Appends}
 use Rattle.pie_explain.specs.Selection.{picks}

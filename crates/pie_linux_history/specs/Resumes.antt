@@ -1,5 +1,7 @@
--- The numbers of a running queue and of its flows by their rows. A row `resume` of `pie cut` has numbers beside those that pie-watch writes.
-use Rattle.std.specs.Prelude.{ℕ, ◌+◌, ◌-◌, ◌^◌, ◌==◌, Bool, true, false, if◌then◌else◌, Option, Some, None, get_or, not, nat_lt}
+-- The numbers of a running queue and of its flows by their rows.
+use Rattle.std.specs.Prelude.{ℕ, ◌+◌, ◌-◌, ◌^◌, ◌==◌, Bool, true, false, ◌&&◌, if◌then◌else◌, Option, Some, None, get_or, min, not, nat_lt}
+use Rattle.pie_linux.specs.Numbers.{full_burst, unset}
+use Rattle.pie_linux.specs.declared.state.LinuxState.{LinuxState}
 use Rattle.pie_linux_history.specs.declared.step.Kind.{Kind}
 use Rattle.pie_linux_history.specs.declared.step.Kind.TheVariants.{Init, Resume}
 use Rattle.pie_linux_history.specs.declared.step.Step.{Step}
@@ -14,10 +16,6 @@ number_field (Some number) = number + 1
 
 abbrev pub known_number : ℕ → Option ℕ
 known_number field = if field == 0 then None else if nat_lt (field - 1) (2 ^ 32) then Some (field - 1) else None
-
--- the departures that the kernel may count again: their bytes, if there are some
-abbrev pub peeked_at : ℕ → ℕ → Option ℕ
-peeked_at packets bytes = if packets == 0 then None else Some bytes
 
 -- a memory of 32 bits
 abbrev pub memory_at : ℕ → ℕ
@@ -35,48 +33,54 @@ is_init _ = false
 abbrev pub no_stats : LinuxStats
 no_stats = record { packets_in = 0; dropped = 0; overlimit = 0; ecn_mark = 0; maxq = 0 }
 
-abbrev pub first_numbers : Step → QueueNumbers
-first_numbers step = record {
+-- the state of a new queue or flow
+abbrev pub new_state : LinuxState
+new_state = record {
+  qdelay = 0;
+  qdelay_old = 0;
+  burst_time = full_burst;
+  dq_tstamp = unset;
+  prob = 0;
+  accu_prob = 0;
+  dq_count = unset;
+  avg_dq_rate = 0;
+  backlog_old = 0;
+}
+
+-- the number of flows: at most 65536 of fq_pie, one of pie
+abbrev pub first_flows : Step → ℕ
+first_flows step = if step.has_flows then min step.x1 65536 else 1
+
+-- of a queue with this handle
+abbrev pub first_numbers : ℕ → Step → QueueNumbers
+first_numbers handle step = record {
   has_flows = step.has_flows;
+  handle = handle;
+  flows = first_flows step;
+  quantum = step.x2;
   params = step.params;
   stats = if is_init step.kind then no_stats else step.stats;
   length = 0;
   bytes = 0;
-  peeked = None;
-  peeked_packets = 0;
   memory = 0;
   memory_limit = step.truesize;
-  over_memory = if is_init step.kind then Some 0 else None;
-  cursor = if is_init step.kind then Some 0 else None;
+  over_memory = if is_init step.kind && step.has_flows then Some 0 else None;
+  cursor = if is_init step.kind && step.has_flows then Some 0 else None;
+  drops = 0;
+  drop_bytes = 0;
 }
 
--- with the columns that only `pie cut` writes
+-- with the columns of a running fq_pie, which texts without the column `rq` have as 0
 abbrev pub resumed : QueueNumbers → Step → QueueNumbers
 resumed numbers step = if is_resume step.kind then record numbers {
-  peeked = peeked_at step.length_before step.bytes_before;
-  peeked_packets = step.length_before;
   memory = memory_at (get_or step.readings 2 0);
   over_memory = known_number (get_or step.readings 0 0);
   cursor = known_number (get_or step.readings 1 0);
 } else numbers
 
--- the number of the departures that the kernel may count again; there are some if their bytes are known
-abbrev pub packets_of : Option ℕ → ℕ → ℕ
-packets_of None packets = 0
-packets_of (Some bytes) packets = packets
-
-abbrev pub is_counted : Option ℕ → ℕ → Bool
-is_counted None packets = true
-is_counted (Some bytes) packets = not (packets == 0)
-
 -- the numbers without waiting packets, and with this memory
 abbrev pub emptied : QueueNumbers → ℕ → QueueNumbers
-emptied numbers memory = record numbers {
-  length = 0;
-  bytes = 0;
-  peeked_packets = packets_of numbers.peeked numbers.peeked_packets;
-  memory = memory;
-}
+emptied numbers memory = record numbers { length = 0; bytes = 0; memory = memory; drops = 0; drop_bytes = 0 }
 
 -- the numbers of a flow by its row
 abbrev pub resumed_flow : Step → FlowNumbers

@@ -1,5 +1,5 @@
 -- The views of a queue: lists in place of memory.
-use Rattle.std.specs.Prelude.{ℕ, List}
+use Rattle.std.specs.Prelude.{List}
 use Rattle.pie_linux_history.specs.declared.numbers.FlowNumbers.{FlowNumbers}
 use Rattle.pie_linux_history.specs.declared.numbers.QueueNumbers.{QueueNumbers}
 use Rattle.pie_linux_history.specs.declared.numbers.Waiting.{Waiting}
@@ -9,9 +9,7 @@ pub record FlowView : Type 0 where
   pub numbers : FlowNumbers
   pub waiting : List Waiting
 
--- a queue: its numbers, its flows, and the lengths of the last departures in a ring, with the number of all
+-- a queue: its numbers and its flows
 pub record QueueView : Type 0 where
   pub numbers : QueueNumbers
   pub flows : List FlowView
-  pub sent : List ℕ
-  pub count : ℕ

@@ -3,49 +3,76 @@ ghost use Rattle.std.specs.Prelude.{◌≡◌, ◌<◌, ◌∷◌, codes, get_or
 ghost use Rattle.pie_record.specs.declared.fault.TraceFault.TheVariants.{Memory};
 ghost use Rattle.pie_record.specs.Field.{fault_at};
 ghost use Rattle.pie_linux_history.specs.declared.fault.StepsFault.TheVariants.{Trace};
-ghost use Rattle.pie_linux_history.specs.Columns.{collected, column_at, columns_of, decimal_at, field_or, flow_at, has_flows_at, hex_digit, hexadecimal_after, hexadecimal_at, kind_at, most_of, name_of, narrow, lost_in, moment_of, numbers_of, params_of, place_from, state_of, step_in, step_of};
+ghost use Rattle.pie_linux_history.specs.Columns.{blank, collected, column_at, columns_of, decimal_at, digits_after, field_or, flow_at, handle_of, has_flows_at, has_returned, hex_digit, hexadecimal_after, hexadecimal_at, is_optional, kind_at, most_of, name_of, narrow, lost_in, moment_of, numbers_of, params_of, place_from, state_of, step_in, step_of};
 
 use crate::fault::StepsFault;
-use crate::step::{Kind, QueueName, Step};
+use crate::step::{FlowIn, Kind, QueueName, Step};
 use pie_linux::{LinuxParams, LinuxState, LinuxStats, MarkLimit};
 use pie_record::field::has_word;
 use pie_record::number::number;
 use pie_record::{Record, RecordFault, TraceFault};
 
 /// The number of columns that are read.
-pub(crate) const COUNT: usize = 52;
+pub(crate) const COUNT: usize = 58;
 
-/// The number of columns with decimal numbers, the first ones. The first `WIDE` have 64 bits, the others 32.
-pub(crate) const NUMBERS: usize = 47;
+/// The number of columns with decimal numbers, the first ones.
+pub(crate) const NUMBERS: usize = 53;
 
-const WIDE: usize = 15;
+/// The number of columns whose numbers are compared: those, `proto` and `l3`.
+pub(crate) const COMPARED: usize = 55;
+
+/// The place of the column `seq` in [`NAMES`].
+pub(crate) const NUMBER: usize = 0;
+
+/// The place of the column `qlen1` in [`NAMES`].
+pub(crate) const LENGTH_AFTER: usize = 15;
 
 /// The place of the column `ns` in [`NAMES`].
-const MOMENT: usize = 1;
+const MOMENT: usize = 25;
 
 /// The place of the column `hash` in [`NAMES`].
-const HASH: usize = 28;
+const HASH: usize = 38;
+
+/// The place of the first column that a text may lack, `prio`, in [`NAMES`].
+const PRIORITY: usize = 47;
+
+/// The place of the column `rq` in [`NAMES`].
+const RETURNED: usize = 49;
 
 /// The places of the other columns in [`NAMES`].
-const PROTOCOL: usize = 47;
+const PROTOCOL: usize = 53;
 
-const HEADER: usize = 48;
+const HEADER: usize = 54;
 
-pub(crate) const FLOW: usize = 49;
+pub(crate) const FLOW: usize = 55;
 
-pub(crate) const TYPE: usize = 50;
+pub(crate) const TYPE: usize = 56;
 
-pub(crate) const FAMILY: usize = 51;
+pub(crate) const FAMILY: usize = 57;
 
-/// The names of the columns.
+/// The field `early` of a row without a decision: `pie_drop_early` was not called.
+const NOT_CALLED: u32 = 255;
+
+/// The names of the columns, in the order in which an audit compares them. Those with 64 bits are `seq` and `a_qdelay` to
+/// `target`. A text may lack `prio` to `moved`.
 const NAMES: [&str; COUNT] = [
     "seq",
-    "ns",
-    "rnd",
-    "enq",
-    "t0",
-    "t1",
-    "t2",
+    "qlen0",
+    "bl0",
+    "limit",
+    "early",
+    "nrnd",
+    "ret",
+    "size",
+    "pktlen",
+    "packets_in",
+    "dropped",
+    "overlimit",
+    "ecn_mark",
+    "maxq",
+    "backlog",
+    "qlen1",
+    "bl1",
     "a_qdelay",
     "a_qdelay_old",
     "a_burst_time",
@@ -53,27 +80,22 @@ const NAMES: [&str; COUNT] = [
     "a_prob",
     "a_accu_prob",
     "a_dq_count",
+    "enq",
+    "ns",
+    "rnd",
+    "t0",
+    "t1",
+    "t2",
     "target",
-    "backlog",
-    "size",
-    "pktlen",
-    "mtu",
-    "qlen0",
-    "qlen1",
-    "bl0",
-    "bl1",
-    "limit",
-    "ret",
-    "room",
-    "early",
-    "nrnd",
-    "hash",
-    "truesize",
+    "a_avg_dq_rate",
+    "a_backlog_old",
     "x0",
     "x1",
     "x2",
-    "a_avg_dq_rate",
-    "a_backlog_old",
+    "mtu",
+    "room",
+    "hash",
+    "truesize",
     "tupdate",
     "plimit",
     "alpha",
@@ -81,11 +103,12 @@ const NAMES: [&str; COUNT] = [
     "ecn",
     "bytemode",
     "dqrate",
-    "packets_in",
-    "dropped",
-    "overlimit",
-    "ecn_mark",
-    "maxq",
+    "prio",
+    "nt",
+    "rq",
+    "rqb",
+    "drop",
+    "moved",
     "proto",
     "l3",
     "flow",
@@ -132,19 +155,28 @@ fn place_of(names: &Record, name: &str) -> Option<usize>
     None
 }
 
-/// Returns the place of the column with this number in [`NAMES`].
+/// Returns true if a text may lack this column.
+fn is_optional(column: usize) -> bool
+    ensures { result ≡ is_optional column }
+{
+    PRIORITY <= column && column < NUMBERS
+}
+
+/// Returns the place of the column with this number in [`NAMES`], of an optional one that the text lacks the place behind the
+/// last field.
 fn column_at(names: &Record, column: usize) -> Result<usize, StepsFault>
     ensures { result ≡ column_at names.now column }
 {
     match place_of(names, name_of(column)) {
         Some(place) => Ok(place),
+        None if is_optional(column) => Ok(names.len()),
         None => Err(StepsFault::NoColumn(column)),
     }
 }
 
 /// Returns the place of each column.
 fn places_of(names: &Record) -> Result<[usize; COUNT], StepsFault>
-    ensures { result ≡ collected (column_at names.now) 52 }
+    ensures { result ≡ collected (column_at names.now) 58 }
 {
     let mut places = [0; COUNT];
     for column in 0..COUNT {
@@ -207,15 +239,47 @@ fn hexadecimal_after(value: u16, digits: &[u8]) -> Result<u16, RecordFault>
     }
 }
 
+/// Returns the number that the hexadecimal digits before the first other byte write after those of `value`.
+#[tactic(auto, unfolding(crate::specs::Columns::digits_after))]
+fn digits_after(value: u16, bytes: &[u8]) -> u16
+    ensures { result ≡ digits_after value bytes.now }
+{
+    match bytes {
+        [] => value,
+        [byte, rest @ ..] => match hex_digit(*byte) {
+            Some(digit) => {
+                digits_after(value.wrapping_mul(16).wrapping_add(u16::from(digit)), rest)
+            }
+            None => value,
+        },
+    }
+}
+
+/// Returns the handle in the name of a queue, DEVICE/HANDLE:/NUMBER. It is 0 if the name has none.
+#[tactic(auto, unfolding(crate::specs::Columns::handle_of))]
+pub(crate) fn handle_of(name: &[u8]) -> u32
+    ensures { result ≡ handle_of name.now }
+{
+    match name {
+        [] => 0,
+        [byte, rest @ ..] => {
+            if *byte == b'/' {
+                u32::from(digits_after(0, rest)) * 65536
+            } else {
+                handle_of(rest)
+            }
+        }
+    }
+}
+
 /// Returns the greatest number of a column.
 #[inline(always)]
 fn most_of(column: usize) -> u64
     ensures { result ≡ most_of column }
 {
-    if column < WIDE {
-        u64::MAX
-    } else {
-        u64::from(u32::MAX)
+    match column {
+        0 | 17..=30 => u64::MAX,
+        _ => u64::from(u32::MAX),
     }
 }
 
@@ -330,11 +394,22 @@ impl Columns {
         field_or(fields, self.queue)
     }
 
-    /// Returns the flow and the hash of a row, as far as they can be read.
-    pub(crate) fn flow_and_hash(&self, fields: &Record) -> (Option<u32>, u32) {
-        let flow = flow_at(fields, self.places[FLOW]).unwrap_or(None);
-        let hash = decimal(fields, self.places[HASH], u64::from(u32::MAX)).unwrap_or(0);
-        (flow, narrow(hash))
+    /// Returns the flow, the priority and the hash of a row, as far as they can be read.
+    pub(crate) fn flow_in(&self, fields: &Record) -> FlowIn {
+        let most = u64::from(u32::MAX);
+        FlowIn {
+            flow: flow_at(fields, self.places[FLOW]).unwrap_or(None),
+            priority: narrow(decimal(fields, self.places[PRIORITY], most).unwrap_or(0)),
+            hash: narrow(decimal(fields, self.places[HASH], most).unwrap_or(0)),
+        }
+    }
+
+    /// Returns true if the text has the column `rq`, that is, its rows say which packets the device returned.
+    #[tactic(auto, unfolding(crate::specs::Columns::place_from))]
+    pub(crate) fn has_returned(&self) -> bool
+        ensures { result ≡ has_returned self.now }
+    {
+        self.places[RETURNED] != self.count
     }
 
     /// Returns the moment of a row, and 0 if the row has none.
@@ -392,7 +467,12 @@ impl Columns {
         let protocol = hexadecimal(fields, self.places[PROTOCOL])?;
         let header = hexadecimal(fields, self.places[HEADER])?;
         let numbers = self.numbers(fields)?;
-        Ok(step_of(&numbers, kind, has_flows, flow, protocol, header))
+        Ok(Step {
+            flow,
+            protocol,
+            header,
+            ..step_of(&numbers, kind, has_flows, self.has_returned())
+        })
     }
 }
 
@@ -404,56 +484,72 @@ fn narrow(number: u64) -> u32
     u32::try_from(number).unwrap_or(u32::MAX)
 }
 
-/// Returns the step with these numbers.
+/// Returns the step with these numbers. It has no flow, no protocol and no header.
 #[tactic(auto, unfolding(crate::specs::Columns::place_from, crate::specs::Columns::step_of))]
 pub(crate) fn step_of(
     numbers: &[u64; NUMBERS],
     kind: Kind,
     has_flows: bool,
-    flow: Option<u32>,
-    protocol: u16,
-    header: u16,
+    has_returned: bool,
 ) -> Step
-    ensures { result ≡ step_of numbers.now kind has_flows flow protocol header }
+    ensures { result ≡ step_of numbers.now kind has_flows has_returned }
 {
     Step {
         kind,
         has_flows,
+        has_returned,
         number: numbers[0],
-        moment: numbers[1],
-        flow,
-        backlog: narrow(numbers[15]),
-        size: narrow(numbers[16]),
-        packet_length: narrow(numbers[17]),
-        mtu: narrow(numbers[18]),
-        length_before: narrow(numbers[19]),
-        length_after: narrow(numbers[20]),
-        bytes_before: narrow(numbers[21]),
-        bytes_after: narrow(numbers[22]),
-        limit: narrow(numbers[23]),
-        returned: narrow(numbers[24]),
-        protocol,
-        header,
-        contained: numbers[25] != 0,
-        early: narrow(numbers[26]),
-        draws: narrow(numbers[27]),
-        word: numbers[2],
-        enqueued: numbers[3],
-        readings: [numbers[4], numbers[5], numbers[6]],
-        hash: narrow(numbers[28]),
-        truesize: narrow(numbers[29]),
-        x0: narrow(numbers[30]),
-        x1: narrow(numbers[31]),
-        x2: narrow(numbers[32]),
+        moment: numbers[25],
+        flow: None,
+        backlog: narrow(numbers[14]),
+        size: narrow(numbers[7]),
+        packet_length: narrow(numbers[8]),
+        mtu: narrow(numbers[36]),
+        length_before: narrow(numbers[1]),
+        length_after: narrow(numbers[15]),
+        bytes_before: narrow(numbers[2]),
+        bytes_after: narrow(numbers[16]),
+        limit: narrow(numbers[3]),
+        returned: narrow(numbers[6]),
+        protocol: 0,
+        header: 0,
+        contained: numbers[37] != 0,
+        early: narrow(numbers[4]),
+        draws: narrow(numbers[5]),
+        word: numbers[26],
+        enqueued: numbers[24],
+        readings: [numbers[27], numbers[28], numbers[29]],
+        reads: narrow(numbers[48]),
+        hash: narrow(numbers[38]),
+        priority: narrow(numbers[47]),
+        truesize: narrow(numbers[39]),
+        x0: narrow(numbers[33]),
+        x1: narrow(numbers[34]),
+        x2: narrow(numbers[35]),
         after: state_of(numbers),
         params: params_of(numbers, has_flows),
         stats: LinuxStats {
-            packets_in: narrow(numbers[42]),
-            dropped: narrow(numbers[43]),
-            overlimit: narrow(numbers[44]),
-            ecn_mark: narrow(numbers[45]),
-            maxq: narrow(numbers[46]),
+            packets_in: narrow(numbers[9]),
+            dropped: narrow(numbers[10]),
+            overlimit: narrow(numbers[11]),
+            ecn_mark: narrow(numbers[12]),
+            maxq: narrow(numbers[13]),
         },
+        returned_packets: narrow(numbers[49]),
+        returned_bytes: narrow(numbers[50]),
+        is_drop: numbers[51] != 0,
+        moved: narrow(numbers[52]),
+    }
+}
+
+/// Returns the step whose numbers are 0. Its field `early` says that `pie_drop_early` was not called.
+#[tactic(auto, unfolding(crate::specs::Columns::blank))]
+pub(crate) fn blank(kind: Kind, has_flows: bool, has_returned: bool) -> Step
+    ensures { result ≡ blank kind has_flows has_returned }
+{
+    Step {
+        early: NOT_CALLED,
+        ..step_of(&[0; NUMBERS], kind, has_flows, has_returned)
     }
 }
 
@@ -463,15 +559,15 @@ fn state_of(numbers: &[u64; NUMBERS]) -> LinuxState
     ensures { result ≡ state_of numbers.now }
 {
     LinuxState {
-        qdelay: numbers[7],
-        qdelay_old: numbers[8],
-        burst_time: numbers[9],
-        dq_tstamp: numbers[10],
-        prob: numbers[11],
-        accu_prob: numbers[12],
-        dq_count: numbers[13],
-        avg_dq_rate: narrow(numbers[33]),
-        backlog_old: narrow(numbers[34]),
+        qdelay: numbers[17],
+        qdelay_old: numbers[18],
+        burst_time: numbers[19],
+        dq_tstamp: numbers[20],
+        prob: numbers[21],
+        accu_prob: numbers[22],
+        dq_count: numbers[23],
+        avg_dq_rate: narrow(numbers[31]),
+        backlog_old: narrow(numbers[32]),
     }
 }
 
@@ -481,16 +577,16 @@ fn params_of(numbers: &[u64; NUMBERS], has_flows: bool) -> LinuxParams
     ensures { result ≡ params_of numbers.now has_flows }
 {
     LinuxParams {
-        target: numbers[14],
-        tupdate: narrow(numbers[35]),
-        limit: narrow(numbers[36]),
-        alpha: narrow(numbers[37]),
-        beta: narrow(numbers[38]),
-        ecn: numbers[39] != 0,
-        bytemode: numbers[40] != 0,
-        dq_rate_estimator: numbers[41] != 0,
+        target: numbers[30],
+        tupdate: narrow(numbers[40]),
+        limit: narrow(numbers[41]),
+        alpha: narrow(numbers[42]),
+        beta: narrow(numbers[43]),
+        ecn: numbers[44] != 0,
+        bytemode: numbers[45] != 0,
+        dq_rate_estimator: numbers[46] != 0,
         marks: if has_flows {
-            MarkLimit::Percent(narrow(numbers[30]))
+            MarkLimit::Percent(narrow(numbers[33]))
         } else {
             MarkLimit::Tenth
         },

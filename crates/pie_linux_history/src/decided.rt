@@ -12,7 +12,7 @@ pub(crate) struct StepNumbers {
     pub params: LinuxParams,
     /// The state of the flow.
     pub state: LinuxState,
-    /// The packets that wait in the queue, without those that the kernel may count again.
+    /// The packets that wait in the queue, without those that the device returned.
     pub packets: u32,
     /// Their bytes.
     pub bytes: u32,

@@ -1,172 +1,142 @@
-//! Comparisons of recorded numbers with those of the rules.
+//! Comparisons of a recorded step with the step of the rules.
 ghost use Rattle.std.specs.Prelude.{◌≡◌};
-ghost use Rattle.pie_linux_history.specs.Differences.{compared, state_difference, stats_difference};
+ghost use Rattle.pie_linux_history.specs.Differences.{difference_of, first_difference, flow_number, numbers_of, step_difference};
 
-use pie_linux::{LinuxState, LinuxStats};
-
-/// A column whose number the audit compares.
-#[derive(Clone, Copy, Debug, PartialEq, Eq)]
-pub enum Column {
-    /// The number of the step in its queue.
-    Number,
-    /// The flow at which a round of fq_pie's timer begins, or the flow of a packet.
-    Flow,
-    /// The backlog that the step was given, in bytes.
-    Backlog,
-    /// The packet's length (`skb->len`); at a change the number of dropped packets.
-    Size,
-    /// The packet's length (`qdisc_pkt_len`).
-    PacketLength,
-    /// The packets that waited before the step.
-    LengthBefore,
-    /// The packets that waited after it.
-    LengthAfter,
-    /// The bytes that waited before the step.
-    BytesBefore,
-    /// The bytes that waited after it.
-    BytesAfter,
-    /// The limit in packets.
-    Limit,
-    /// The return value of enqueue.
-    Returned,
-    /// The return value of `pie_drop_early`.
-    Early,
-    /// The number of random words that were drawn.
-    Draws,
-    /// The moment at which the packet was queued, in ticks.
-    Enqueued,
-    /// fq_pie's memory before an arrival, in bytes.
-    MemoryBefore,
-    /// fq_pie's memory after an arrival, in bytes.
-    MemoryAfter,
-    /// The number of arrivals at which fq_pie's memory exceeded its limit.
-    OverMemory,
-    /// The state's delay after the step.
-    Qdelay,
-    /// The state's delay of the update before.
-    QdelayOld,
-    /// The state's burst allowance.
-    BurstTime,
-    /// The state's moment of the last departure.
-    DqTstamp,
-    /// The state's probability.
-    Prob,
-    /// The state's accumulated probability.
-    AccuProb,
-    /// The state's bytes of the measurement.
-    DqCount,
-    /// The state's average departure rate.
-    AvgDqRate,
-    /// The state's backlog of the last update.
-    BacklogOld,
-    /// The counter of queued packets.
-    PacketsIn,
-    /// The counter of dropped packets.
-    Dropped,
-    /// The counter of packets that the limit dropped.
-    OverLimit,
-    /// The counter of marked packets.
-    EcnMark,
-    /// The greatest number of waiting packets.
-    GreatestLength,
-}
-
-impl Column {
-    /// Returns the column's name in the first row.
-    pub(crate) fn name(self) -> &'static str {
-        match self {
-            Column::Number => "seq",
-            Column::Flow => "flow",
-            Column::Backlog => "backlog",
-            Column::Size => "size",
-            Column::PacketLength => "pktlen",
-            Column::LengthBefore => "qlen0",
-            Column::LengthAfter => "qlen1",
-            Column::BytesBefore => "bl0",
-            Column::BytesAfter => "bl1",
-            Column::Limit => "limit",
-            Column::Returned => "ret",
-            Column::Early => "early",
-            Column::Draws => "nrnd",
-            Column::Enqueued => "enq",
-            Column::MemoryBefore => "x0",
-            Column::MemoryAfter => "x1",
-            Column::OverMemory => "x2",
-            Column::Qdelay => "a_qdelay",
-            Column::QdelayOld => "a_qdelay_old",
-            Column::BurstTime => "a_burst_time",
-            Column::DqTstamp => "a_dq_tstamp",
-            Column::Prob => "a_prob",
-            Column::AccuProb => "a_accu_prob",
-            Column::DqCount => "a_dq_count",
-            Column::AvgDqRate => "a_avg_dq_rate",
-            Column::BacklogOld => "a_backlog_old",
-            Column::PacketsIn => "packets_in",
-            Column::Dropped => "dropped",
-            Column::OverLimit => "overlimit",
-            Column::EcnMark => "ecn_mark",
-            Column::GreatestLength => "maxq",
-        }
-    }
-}
+use crate::columns::{COMPARED, FLOW, name_of};
+use crate::step::Step;
 
 /// A recorded number that differs from the number of the rules.
 #[derive(Clone, Copy, PartialEq, Eq)]
 pub struct Difference {
-    /// The column of the recorded number.
-    pub column: Column,
+    /// The place of its column in the table of columns.
+    pub(crate) column: usize,
     /// The recorded number.
     pub recorded: u64,
     /// The number by the rules.
     pub right: u64,
 }
 
-/// Compares a recorded number with the number of the rules.
-pub(crate) fn compared(column: Column, recorded: u64, right: u64) -> Option<Difference>
-    ensures { result ≡ compared column recorded right }
-{
-    if recorded == right {
-        None
-    } else {
-        Some(Difference {
-            column,
-            recorded,
-            right,
-        })
+impl Difference {
+    /// Returns the name of the column in the first row.
+    pub(crate) fn name(&self) -> &'static str {
+        name_of(self.column)
     }
 }
 
-/// Compares two numbers of 32 bits.
-pub(crate) fn compared_32(column: Column, recorded: u32, right: u32) -> Option<Difference>
-    ensures { result ≡ compared column recorded right }
+/// Returns the numbers of a step, in the order of the table of columns.
+#[tactic(auto, unfolding(crate::specs::Differences::numbers_of))]
+pub(crate) fn numbers_of(step: &Step) -> [u64; COMPARED]
+    ensures { result ≡ numbers_of step.now }
 {
-    compared(column, u64::from(recorded), u64::from(right))
+    [
+        step.number,
+        u64::from(step.length_before),
+        u64::from(step.bytes_before),
+        u64::from(step.limit),
+        u64::from(step.early),
+        u64::from(step.draws),
+        u64::from(step.returned),
+        u64::from(step.size),
+        u64::from(step.packet_length),
+        u64::from(step.stats.packets_in),
+        u64::from(step.stats.dropped),
+        u64::from(step.stats.overlimit),
+        u64::from(step.stats.ecn_mark),
+        u64::from(step.stats.maxq),
+        u64::from(step.backlog),
+        u64::from(step.length_after),
+        u64::from(step.bytes_after),
+        step.after.qdelay,
+        step.after.qdelay_old,
+        step.after.burst_time,
+        step.after.dq_tstamp,
+        step.after.prob,
+        step.after.accu_prob,
+        step.after.dq_count,
+        step.enqueued,
+        step.moment,
+        step.word,
+        step.readings[0],
+        step.readings[1],
+        step.readings[2],
+        step.params.target,
+        u64::from(step.after.avg_dq_rate),
+        u64::from(step.after.backlog_old),
+        u64::from(step.x0),
+        u64::from(step.x1),
+        u64::from(step.x2),
+        u64::from(step.mtu),
+        u64::from(step.contained),
+        u64::from(step.hash),
+        u64::from(step.truesize),
+        u64::from(step.params.tupdate),
+        u64::from(step.params.limit),
+        u64::from(step.params.alpha),
+        u64::from(step.params.beta),
+        u64::from(step.params.ecn),
+        u64::from(step.params.bytemode),
+        u64::from(step.params.dq_rate_estimator),
+        u64::from(step.priority),
+        u64::from(step.reads),
+        u64::from(step.returned_packets),
+        u64::from(step.returned_bytes),
+        u64::from(step.is_drop),
+        u64::from(step.moved),
+        u64::from(step.protocol),
+        u64::from(step.header),
+    ]
 }
 
-/// Compares the recorded state after a step with the state of the rules.
-#[inline(never)]
-pub(crate) fn state_difference(recorded: &LinuxState, right: &LinuxState) -> Option<Difference>
-    ensures { result ≡ state_difference recorded.now right.now }
+/// Returns the number of a step's flow, 2^32 - 1 for -1.
+pub(crate) fn flow_number(flow: Option<u32>) -> u64
+    ensures { result ≡ flow_number flow }
 {
-    compared(Column::Qdelay, recorded.qdelay, right.qdelay)
-        .or(compared(Column::QdelayOld, recorded.qdelay_old, right.qdelay_old))
-        .or(compared(Column::BurstTime, recorded.burst_time, right.burst_time))
-        .or(compared(Column::DqTstamp, recorded.dq_tstamp, right.dq_tstamp))
-        .or(compared(Column::Prob, recorded.prob, right.prob))
-        .or(compared(Column::AccuProb, recorded.accu_prob, right.accu_prob))
-        .or(compared(Column::DqCount, recorded.dq_count, right.dq_count))
-        .or(compared_32(Column::AvgDqRate, recorded.avg_dq_rate, right.avg_dq_rate))
-        .or(compared_32(Column::BacklogOld, recorded.backlog_old, right.backlog_old))
+    match flow {
+        Some(flow) => u64::from(flow),
+        None => u64::from(u32::MAX),
+    }
 }
 
-/// Compares the recorded counters after a step with the counters of the rules.
-#[inline(never)]
-pub(crate) fn stats_difference(recorded: &LinuxStats, right: &LinuxStats) -> Option<Difference>
-    ensures { result ≡ stats_difference recorded.now right.now }
+/// Compares two numbers of a column.
+fn difference_of(column: usize, recorded: u64, right: u64) -> Option<Difference>
+    ensures { result ≡ difference_of column recorded right }
 {
-    compared_32(Column::PacketsIn, recorded.packets_in, right.packets_in)
-        .or(compared_32(Column::Dropped, recorded.dropped, right.dropped))
-        .or(compared_32(Column::OverLimit, recorded.overlimit, right.overlimit))
-        .or(compared_32(Column::EcnMark, recorded.ecn_mark, right.ecn_mark))
-        .or(compared_32(Column::GreatestLength, recorded.maxq, right.maxq))
+    if recorded == right {
+        return None;
+    }
+    Some(Difference {
+        column,
+        recorded,
+        right,
+    })
+}
+
+/// Returns the first of two rows of numbers that differ.
+fn first_difference(
+    recorded: &[u64; COMPARED],
+    right: &[u64; COMPARED],
+) -> Option<Difference>
+    ensures { result ≡ first_difference 0 recorded.now right.now }
+{
+    for column in 0..COMPARED {
+        if recorded[column] != right[column] {
+            return Some(Difference {
+                column,
+                recorded: recorded[column],
+                right: right[column],
+            });
+        }
+    }
+    None
+}
+
+/// Compares a recorded step with the step of the rules, first its flow, then each column in the order of the table. The text
+/// of a queue's name, the kind and the type are not compared.
+#[inline(never)]
+#[tactic(auto, unfolding(crate::specs::Differences::step_difference))]
+pub(crate) fn step_difference(recorded: &Step, right: &Step) -> Option<Difference>
+    ensures { result ≡ step_difference recorded.now right.now }
+{
+    difference_of(FLOW, flow_number(recorded.flow), flow_number(right.flow))
+        .or(first_difference(&numbers_of(recorded), &numbers_of(right)))
 }

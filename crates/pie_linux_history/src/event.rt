@@ -217,17 +217,22 @@ fn updated(one: &DecidedStep) -> Answer
 }
 
 /// Returns the command and the answer of a step, if reports have its kind: an arrival, a departure, an update, a change of the
-/// parameters, a reset or the end of the queue.
+/// parameters, a reset or the end of the queue. A departure that a change of the limit dropped is none.
 fn command_of(one: &DecidedStep) -> Option<(Command, Answer)>
     ensures { result ≡ command_of one.now }
 {
     let moment = one.step.moment;
     match one.step.kind {
         Kind::Enqueue => arrival_of(one),
-        Kind::Dequeue => Some((
-            Command::Depart { moment },
-            Answer::Left(packet_of(one, Ecn::NotEct)),
-        )),
+        Kind::Dequeue => {
+            if one.step.is_drop {
+                return None;
+            }
+            Some((
+                Command::Depart { moment },
+                Answer::Left(packet_of(one, Ecn::NotEct)),
+            ))
+        }
         Kind::Empty => Some((Command::Depart { moment }, Answer::Empty)),
         Kind::Update => Some((Command::Update { moment }, updated(one))),
         Kind::Change => {
@@ -239,8 +244,8 @@ fn command_of(one: &DecidedStep) -> Option<(Command, Answer)>
     }
 }
 
-/// Returns the packets and the bytes that wait before a step. At an arrival they are the kernel's, which may count the last
-/// departures again.
+/// Returns the packets and the bytes that wait before a step. At an arrival they are the kernel's, with the
+/// packets that the device returned.
 fn waiting_before(one: &DecidedStep) -> (u64, u64)
     ensures { result ≡ waiting_before one.now }
 {

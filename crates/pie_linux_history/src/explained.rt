@@ -1,6 +1,6 @@
 //! The decision of a step, and the explanation of a packet.
 ghost use Rattle.std.specs.Prelude.{◌≡◌};
-ghost use Rattle.pie_linux_history.specs.Queue.{other};
+ghost use Rattle.pie_linux_history.specs.Queue.{lacking, other};
 
 use crate::difference::Difference;
 use crate::step::QueueName;
@@ -42,6 +42,17 @@ pub(crate) struct DecidedPacket {
     pub limit: u32,
 }
 
+/// An input of a decision that a row lacks.
+#[derive(Clone, Copy, Debug, PartialEq, Eq)]
+pub(crate) enum Input {
+    /// The packets that the device returned: the text has no column `rq`.
+    Returned,
+    /// The protocol behind a VLAN tag.
+    Protocol,
+    /// A change that was refused, or whose row comes later.
+    Change,
+}
+
 /// The decision of a step.
 #[derive(Clone, Copy)]
 pub(crate) struct Decision {
@@ -49,17 +60,31 @@ pub(crate) struct Decision {
     pub difference: Option<Difference>,
     /// The packet, if the step is its arrival.
     pub arrival: Option<DecidedPacket>,
+    /// The first input that the row lacks. Its value is taken from the recorded results.
+    pub lacks: Option<Input>,
 }
 
 impl Decision {
-    /// Returns the decision of a step that is no arrival.
+    /// Returns the decision of a step that is no arrival and lacks no input.
     pub(crate) fn other(difference: Option<Difference>) -> Decision
         ensures { result ≡ other difference }
     {
         Decision {
             difference,
             arrival: None,
+            lacks: None,
         }
+    }
+}
+
+/// Returns the decision of a step that is no arrival, and that lacks this input.
+pub(crate) fn lacking(lacks: Option<Input>, difference: Option<Difference>) -> Decision
+    ensures { result ≡ lacking lacks difference }
+{
+    Decision {
+        difference,
+        arrival: None,
+        lacks,
     }
 }
 

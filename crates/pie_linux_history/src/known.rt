@@ -7,7 +7,8 @@ ghost use Rattle.pie_linux_history.specs.Known.{IsPlaceOf, looked_up};
 ghost use Rattle.pie_linux_history.specs.LookBack.{begun, decision_by, dropped_by_step, follow, name_of};
 ghost use Rattle.pie_linux_history.specs.Queue.{last_after, next_dropped, next_step, opened};
 
-use crate::difference::{Column, Difference};
+use crate::columns::{NUMBER, handle_of};
+use crate::difference::Difference;
 use crate::explained::{DecidedPacket, Decision};
 use crate::queue::Queue;
 use crate::step::{QueueName, Step};
@@ -28,14 +29,14 @@ impl Known {
         ensures name { OnOk result (self.new.name ≡ self.old.name) }
         ensures last { OnOk result (self.new.last ≡ last_after self.old.last step.now) }
         ensures made { IfOk result (λ decision. next_step self.old.last self.old.queue step.now
-            ≡ record { queue = self.new.queue; decision = decision; sent = None }) }
+            ≡ record { queue = self.new.queue; decision = decision }) }
         ensures lost { OnOk result (lost.new.items
             ≡ lost.old.items ++ next_dropped self.old.last self.old.queue step.now) }
     {
         let next = self.last.wrapping_add(u64::from(!step.kind.is_part()));
         if step.number != next {
             return Ok(Decision::other(Some(Difference {
-                column: Column::Number,
+                column: NUMBER,
                 recorded: step.number,
                 right: next,
             })));
@@ -115,12 +116,12 @@ impl KnownQueues {
         step: &Step,
     ) -> Result<(), AllocError>
         ensures { OnOk result ((other : List ℕ) → looked_up other self.new.all.items
-            ≡ (if bytes_eq (name_of name) other then Some (begun step.now) else looked_up other self.old.all.items)) }
+            ≡ (if bytes_eq (name_of name) other then Some (begun (name_of name) step.now) else looked_up other self.old.all.items)) }
     {
         let made = Known {
             name,
             last: step.number,
-            queue: Queue::open(alloc, step)?,
+            queue: Queue::open(alloc, handle_of(name.bytes()), step)?,
         };
         let Some(place) = self.find(name.bytes()) else {
             self.all.push(made)?;

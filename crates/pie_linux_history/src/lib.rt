@@ -14,11 +14,13 @@
 //!   (specs/LookBack.antt): the last row `init` or `resume` of the name, and each later step of the name. There is none if
 //!   steps of the name were lost later. `KnownQueues` represents these queues (specs/Known.antt).
 //! - The fields of a row by the names of its columns, and each fault of a row (specs/Columns.antt).
-//! - In a queue: its first state, the number of its next step, the flow of a step, the waiting packets of the flow, the
-//!   packets that the kernel counts again, and those that a change or a reset drops (specs/Queue.antt).
+//! - In a queue: its first state, the number of its next step, the flow of a step, the waiting packets of the flow, and those
+//!   that a change or a reset drops (specs/Queue.antt).
 //! - Each decision. `QueueNumbers::arrive`, `depart`, `update`, `begin_round`, `change` and `reset` give the numbers of
-//!   the queue and of the flow after the step, and the first recorded number that differs from them, exactly as
-//!   specs/Decisions.antt defines them over the rules of pie_linux.
+//!   the queue and of the flow after the step, exactly as specs/Decisions.antt defines them over the rules of pie_linux.
+//! - The comparison. Each recorded number is an input of its step, or it is compared with the number of the rules
+//!   (specs/Right.antt, specs/Differences.antt). A text without the column `rq` is compared in fewer columns, and some of its
+//!   steps lack an input. The input is then taken from the recorded results, and the step is counted.
 //! - The event of a decided step is exactly `explained_of` (specs/Event.antt), and the output of `report` is the
 //!   report's whole text for the selected events of decided steps, in order (specs/Reports.antt).
 //!
@@ -39,6 +41,7 @@ mod queue;
 mod queues;
 mod reports;
 mod resume;
+mod right;
 mod row;
 mod step;
 mod steps;
@@ -46,7 +49,7 @@ mod text;
 mod words;
 
 pub use cutter::{RowSpan, StepPieces, count_rows, cut};
-pub use difference::{Column, Difference};
+pub use difference::Difference;
 pub use fault::StepsFault;
 pub use queues::{StepDifference, StepsCounts};
 pub use reports::{StepsExplained, explain, report};

@@ -1,18 +1,20 @@
 //! The numbers of a queue that its decisions depend on, and the decision of each step over them.
 //!
 //! specs/Decisions.antt defines each decision by the rules of pie_linux. The recorded numbers after a step are compared
-//! only; no decision reads them, with the exception of the clock of a departure (`a_dq_tstamp`).
-ghost use Rattle.std.specs.Prelude.{◌≡◌, if◌then◌else◌};
-ghost use Rattle.pie_linux.specs.Queue.{excess};
-ghost use Rattle.pie_linux_history.specs.Decisions.{arrival_difference, arrival_of, arrival_state_difference, arrived, arrived_by, arrived_flow, bytes_at, bytes_before, cause_of, change_difference, changed, counts_memory, decision_difference, departed_flow, departed_queue, departure_difference, departure_of, early_result, flow_arrived_by, is_taken, length_at, length_before, memory_difference, memory_exceeded, over_memory_after, removed, removed_flow, reset_difference, reset_flow, reset_queue, returned_value, round_begun, round_difference, settled, update_difference, updated_flow, waiting_added, waiting_of};
+//! only; no decision reads them, with the exception of the clock of a departure (`a_dq_tstamp`). In a text without the column
+//! `rq` some inputs are not recorded. A decision that needs one takes it from the recorded results, and names it.
+ghost use Rattle.std.specs.Prelude.{◌≡◌, ◌&&◌};
+ghost use Rattle.pie_linux_history.specs.Decisions.{admitted, arrival_at, arrival_of, arrived, arrived_by, arrived_flow, bytes_at_update, bytes_before, cause_of, changed, counts_memory, counts_returned, departed_flow, departed_queue, departure_at, departure_of, drop_counted, flow_arrived_by, flow_chosen, hides_protocol, lack_of, lack_of_arrival, lacks_bytes, lacks_limit, lacks_switch, left_backlog, length_before, markable, memory_exceeded, needs_protocol, over_memory_after, own_dropped, params_at, removed, removed_flow, reset_flow, reset_queue, round_begun, update_backlog, updated_flow, waiting_added, waiting_of};
+ghost use Rattle.pie_linux_history.specs.Right.{arrival_difference, change_difference, departure_difference, reset_difference, round_difference, update_difference};
 
-use crate::difference::{
-    Column, Difference, compared, compared_32, state_difference, stats_difference,
-};
+use crate::difference::{Difference, step_difference};
+use crate::explained::Input;
+use crate::right::{Arrived, Departed, right_arrival, right_change, right_departure, right_reset, right_round, right_update};
 use crate::step::Step;
 use pie_linux::{
-    LinuxArrival, LinuxCause, LinuxDeparture, LinuxParams, LinuxState, LinuxStats, excess,
-    flow_backlog, is_markable, is_over_memory, next_cursor, ticks,
+    LinuxArrival, LinuxCause, LinuxDeparture, LinuxParams, LinuxState, LinuxStats, Picked,
+    flow_backlog, flow_of, is_markable, is_over_memory, is_tag, named_flow, next_cursor, own_excess,
+    ticks,
 };
 
 /// A waiting packet.
@@ -59,72 +61,36 @@ pub(crate) struct FlowNumbers {
 pub(crate) struct QueueNumbers {
     /// True for fq_pie.
     pub has_flows: bool,
+    /// The queue's handle, 0 if it has none.
+    pub handle: u32,
+    /// The number of flows, 1 of pie.
+    pub flows: u32,
+    /// fq_pie's quantum. It decides nothing.
+    pub quantum: u32,
     /// The parameters.
     pub params: LinuxParams,
     /// The counters.
     pub stats: LinuxStats,
-    /// The packets that wait, without those that may be counted again.
+    /// The packets that wait, without those that the device returned.
     pub length: u32,
     /// Their bytes.
     pub bytes: u32,
-    /// The bytes of the last departures, if the parent may only have peeked at the last one, or the device may have returned
-    /// them. The kernel counts these packets until they leave.
-    pub peeked: Option<u32>,
-    /// The number of these departures.
-    pub peeked_packets: u32,
     /// The memory of the waiting packets, in bytes.
     pub memory: u32,
     /// The limit of fq_pie's memory.
     pub memory_limit: u32,
-    /// The number of arrivals at which the memory exceeded its limit. `None` for a running queue, until the first arrival.
+    /// The number of arrivals at which fq_pie's memory exceeded its limit. `None` for a running queue, until the first arrival.
     pub over_memory: Option<u32>,
     /// The first flow of the next round. `None` for a running queue, until the first round.
     pub cursor: Option<u32>,
-}
-
-/// The decision of an arrival.
-#[derive(Clone, Copy)]
-pub(crate) struct Arrived {
-    /// The cause.
-    pub cause: LinuxCause,
-    /// The packets that waited.
-    pub length: u32,
-    /// The bytes that waited.
-    pub bytes: u32,
-    /// The first recorded number that differs.
-    pub difference: Option<Difference>,
-}
-
-/// Returns the return value of enqueue.
-fn returned_value(cause: LinuxCause, has_flows: bool) -> u64
-    ensures { result ≡ returned_value cause has_flows }
-{
-    if cause.is_queued() {
-        0
-    } else if has_flows {
-        2
-    } else {
-        1
-    }
-}
-
-/// Returns the return value of `pie_drop_early`, 255 if it is not called.
-fn early_result(cause: LinuxCause) -> u64
-    ensures { result ≡ early_result cause }
-{
-    match cause {
-        LinuxCause::OverLimit => 255,
-        LinuxCause::SumAbove(_) | LinuxCause::WordBelow(_) => 1,
-        LinuxCause::BurstTime
-        | LinuxCause::LowDelay
-        | LinuxCause::ShortQueue
-        | LinuxCause::SumBelow
-        | LinuxCause::WordNotBelow => 0,
-    }
+    /// The departures of fq_pie that a change of the limit dropped, until its row.
+    pub drops: u32,
+    /// Their bytes.
+    pub drop_bytes: u32,
 }
 
 /// Returns true unless the limit in packets dropped the packet, which comes before the limit of memory.
-fn counts_memory(cause: LinuxCause) -> bool
+pub(crate) fn counts_memory(cause: LinuxCause) -> bool
     ensures { result ≡ counts_memory cause }
 {
     !matches!(cause, LinuxCause::OverLimit)
@@ -141,6 +107,61 @@ fn over_memory_after(count: Option<u32>, is_over: bool, recorded: u32) -> Option
     }
 }
 
+/// Returns true if a VLAN tag hides the protocol that says if the packet can be marked.
+fn hides_protocol(step: &Step) -> bool
+    ensures { result ≡ hides_protocol step.now }
+{
+    is_tag(step.protocol)
+        && step.contained
+        && !(step.header % 4 == 0 && step.header / 16 % 4 == 0)
+}
+
+/// Returns true if the packet of an arrival can be marked. If its protocol is hidden, the return value says so.
+fn markable(step: &Step) -> bool
+    ensures { result ≡ markable step.now }
+{
+    if hides_protocol(step) {
+        step.returned == 0
+    } else {
+        is_markable(step.protocol, step.header, step.contained)
+    }
+}
+
+/// Returns true if a packet with this cause was picked, and its protocol decides if it is marked.
+fn needs_protocol(cause: LinuxCause) -> bool
+    ensures { result ≡ needs_protocol cause }
+{
+    matches!(
+        cause,
+        LinuxCause::SumAbove(Picked::NotCapable | Picked::Marked)
+            | LinuxCause::WordBelow(Picked::NotCapable | Picked::Marked)
+    )
+}
+
+/// Returns the first input that a step lacks.
+pub(crate) fn lack_of(change: bool, returned: bool, protocol: bool) -> Option<Input>
+    ensures { result ≡ lack_of change returned protocol }
+{
+    match (change, returned, protocol) {
+        (true, _, _) => Some(Input::Change),
+        (false, true, _) => Some(Input::Returned),
+        (false, false, true) => Some(Input::Protocol),
+        (false, false, false) => None,
+    }
+}
+
+/// Returns the first input that an arrival with this cause lacks.
+pub(crate) fn lack_of_arrival(
+    change: bool,
+    returned: bool,
+    cause: LinuxCause,
+    step: &Step,
+) -> Option<Input>
+    ensures { result ≡ lack_of change returned (hides_protocol step.now && needs_protocol cause) }
+{
+    lack_of(change, returned, hides_protocol(step) && needs_protocol(cause))
+}
+
 /// Returns the arrival of a step.
 fn arrival_of(step: &Step, length: u32, backlog: u32) -> LinuxArrival
     ensures { result ≡ arrival_of step.now length backlog }
@@ -150,7 +171,7 @@ fn arrival_of(step: &Step, length: u32, backlog: u32) -> LinuxArrival
         backlog,
         size: step.size,
         mtu: step.mtu,
-        markable: is_markable(step.protocol, step.header, step.contained),
+        markable: markable(step),
         word: step.word,
     }
 }
@@ -179,44 +200,108 @@ fn departure_of(
 }
 
 impl QueueNumbers {
-    /// Returns true if the kernel no longer counts a peeked packet: none was peeked at, or the recorded bytes are those
-    /// without it.
-    fn is_taken(&self, recorded: u32) -> bool
-        ensures { result ≡ is_taken self.now recorded }
+    /// Returns true if an arrival's text does not say which packets the device returned, and the kernel counts more packets and
+    /// more bytes than the queue has.
+    pub(crate) fn counts_returned(&self, step: &Step) -> bool
+        ensures { result ≡ counts_returned self.now step.now }
     {
-        match self.peeked {
-            Some(_) => recorded == self.bytes,
-            None => true,
-        }
+        !step.has_returned && (step.length_before > self.length && step.bytes_before > self.bytes)
     }
 
-    /// Returns the kernel's number of waiting packets.
-    fn length_at(&self, is_taken: bool) -> u32
-        ensures { result ≡ length_at self.now is_taken }
+    /// Returns the kernel's number of packets before an arrival.
+    fn length_before(&self, step: &Step) -> u32
+        ensures { result ≡ length_before self.now step.now }
     {
-        if is_taken {
-            self.length
+        if self.counts_returned(step) {
+            step.length_before
         } else {
-            self.length.wrapping_add(self.peeked_packets)
+            self.length.wrapping_add(step.returned_packets)
         }
     }
 
-    /// Returns the kernel's number of waiting bytes.
-    fn bytes_at(&self, is_taken: bool) -> u32
-        ensures { result ≡ bytes_at self.now is_taken }
+    /// Returns the kernel's number of bytes before an arrival.
+    fn bytes_before(&self, step: &Step) -> u32
+        ensures { result ≡ bytes_before self.now step.now }
     {
-        match (self.peeked, is_taken) {
-            (Some(bytes), false) => self.bytes.wrapping_add(bytes),
-            _ => self.bytes,
+        if self.counts_returned(step) {
+            step.bytes_before
+        } else {
+            self.bytes.wrapping_add(step.returned_bytes)
         }
     }
 
-    /// Forgets a peeked packet that was taken.
-    fn settle(&mut self, is_taken: bool)
-        ensures { self.new ≡ settled self.old is_taken }
+    /// Returns true if the text of an update of pie does not say which packets the device returned, and the kernel counts more
+    /// bytes than the queue has.
+    pub(crate) fn lacks_bytes(&self, step: &Step) -> bool
+        ensures { result ≡ lacks_bytes self.now step.now }
     {
-        if is_taken {
-            self.peeked = None;
+        !self.has_flows && (!step.has_returned && step.backlog > self.bytes)
+    }
+
+    /// Returns the kernel's number of bytes at an update.
+    fn bytes_at_update(&self, step: &Step) -> u32
+        ensures { result ≡ bytes_at_update self.now step.now }
+    {
+        if self.lacks_bytes(step) {
+            step.backlog
+        } else {
+            self.bytes.wrapping_add(step.returned_bytes)
+        }
+    }
+
+    /// Returns true if an arrival at fq_pie has a limit that no row of the text set: that of a refused change.
+    fn lacks_limit(&self, step: &Step) -> bool
+        ensures { result ≡ lacks_limit self.now step.now }
+    {
+        self.has_flows && (!step.has_returned && step.limit != self.params.limit)
+    }
+
+    /// Takes the limit of an arrival that no row of the text set. Returns true if there is one.
+    pub(crate) fn admit(&mut self, step: &Step) -> bool
+        ensures queue { self.new ≡ admitted self.old step.now }
+        ensures lacks { result ≡ lacks_limit self.old step.now }
+    {
+        let lacks = self.lacks_limit(step);
+        if lacks {
+            self.params.limit = step.limit;
+        }
+        lacks
+    }
+
+    /// Returns true if a departure from fq_pie is one of a change of the rate estimator whose row comes later.
+    pub(crate) fn lacks_switch(&self, step: &Step) -> bool
+        ensures { result ≡ lacks_switch self.now step.now }
+    {
+        self.has_flows
+            && (!step.has_returned
+                && if step.readings[0] == 0 {
+                    self.params.dq_rate_estimator
+                } else {
+                    !self.params.dq_rate_estimator
+                })
+    }
+
+    /// Returns the parameters of a departure.
+    fn params_at(&self, step: &Step) -> LinuxParams
+        ensures { result ≡ params_at self.now step.now }
+    {
+        if self.lacks_switch(step) {
+            LinuxParams {
+                dq_rate_estimator: step.readings[0] != 0,
+                ..self.params
+            }
+        } else {
+            self.params
+        }
+    }
+
+    /// Returns the flow of fq_pie that a packet's priority names, or else the flow of its hash.
+    pub(crate) fn flow_chosen(&self, priority: u32, hash: u32) -> u32
+        ensures { result ≡ flow_chosen self.now priority hash }
+    {
+        match named_flow(priority, self.handle, self.flows) {
+            Some(flow) => flow,
+            None => flow_of(hash, self.flows),
         }
     }
 
@@ -252,37 +337,47 @@ impl QueueNumbers {
         }
     }
 
+    /// Returns the numbers by which an arrival with this cause was decided.
+    fn arrived(&self, step: &Step, cause: LinuxCause, backlog: u32) -> Arrived
+        ensures { result ≡ record { cause = cause; length = length_before self.now step.now; bytes = bytes_before self.now step.now; backlog = backlog; memory = self.now.memory } }
+    {
+        Arrived {
+            cause,
+            length: self.length_before(step),
+            bytes: self.bytes_before(step),
+            backlog,
+            memory: self.memory,
+        }
+    }
+
     /// Decides an arrival (`pie_qdisc_enqueue`, `fq_pie_qdisc_enqueue`) by the numbers of the queue and of the packet's
     /// flow.
     #[inline(never)]
-    pub(crate) fn arrive(&mut self, flow: &mut FlowNumbers, step: &Step) -> Arrived
-        ensures cause { result.cause ≡ cause_of self.old flow.old step.now }
-        ensures length { result.length ≡ length_before self.old step.now }
-        ensures bytes { result.bytes ≡ bytes_before self.old step.now }
-        ensures difference { result.difference ≡ arrival_difference self.old flow.old step.now self.new }
+    pub(crate) fn arrive(
+        &mut self,
+        flow: &mut FlowNumbers,
+        step: &Step,
+    ) -> (Arrived, Option<Difference>)
+        ensures arrived { result.0 ≡ arrival_at self.old flow.old step.now }
+        ensures difference { result.1 ≡ arrival_difference self.old flow.old step.now }
         ensures queue { self.new ≡ arrived self.old flow.old step.now }
         ensures flow { flow.new ≡ arrived_flow self.old flow.old step.now }
     {
-        let is_taken = self.is_taken(step.bytes_before);
-        let (length, bytes) = (self.length_at(is_taken), self.bytes_at(is_taken));
-        let (has_flows, memory) = (self.has_flows, self.memory);
-        let backlog = if has_flows { flow.backlog } else { bytes };
+        let backlog = if self.has_flows {
+            flow.backlog
+        } else {
+            self.bytes_before(step)
+        };
+        let length = self.length_before(step);
         let cause = flow
             .state
             .enqueue(&self.params, arrival_of(step, length, backlog));
+        let arrived = self.arrived(step, cause, backlog);
         self.stats.count(self.params.marks, cause, length);
-        let decided = decision_difference(step, cause, length, bytes, has_flows)
-            .or(stats_difference(&step.stats, &self.stats))
-            .or(arrival_state_difference(step, cause, has_flows, backlog, &flow.state));
-        self.settle(is_taken);
         self.count_memory(step, cause);
         self.queue(flow, step, cause);
-        Arrived {
-            cause,
-            length,
-            bytes,
-            difference: decided.or(self.memory_difference(step, memory)),
-        }
+        let right = right_arrival(self, &flow.state, &arrived, step);
+        (arrived, step_difference(step, &right))
     }
 
     /// Adds the packet of an arrival with this cause to the queue and to its flow, if it is queued.
@@ -296,72 +391,19 @@ impl QueueNumbers {
             self.add(&waiting_of(step));
         }
     }
-
-    /// Compares fq_pie's memory before and after an arrival.
-    fn memory_difference(&self, step: &Step, before: u32) -> Option<Difference>
-        ensures { result ≡ memory_difference self.now step.now before }
-    {
-        if !self.has_flows {
-            return None;
-        }
-        compared_32(Column::MemoryBefore, step.x0, before)
-            .or(compared_32(Column::MemoryAfter, step.x1, self.memory))
-            .or(compared_32(
-                Column::OverMemory,
-                step.x2,
-                self.over_memory.unwrap_or(step.x2),
-            ))
-    }
-}
-
-/// Compares the recorded decision of an arrival at `length` packets and `bytes` bytes with this cause.
-#[inline(never)]
-fn decision_difference(
-    step: &Step,
-    cause: LinuxCause,
-    length: u32,
-    bytes: u32,
-    has_flows: bool,
-) -> Option<Difference>
-    ensures { result ≡ decision_difference step.now cause length bytes has_flows }
-{
-    compared_32(Column::LengthBefore, step.length_before, length)
-        .or(compared_32(Column::BytesBefore, step.bytes_before, bytes))
-        .or(compared(Column::Early, u64::from(step.early), early_result(cause)))
-        .or(compared(
-            Column::Draws,
-            u64::from(step.draws),
-            u64::from(cause.draws()),
-        ))
-        .or(compared(
-            Column::Returned,
-            u64::from(step.returned),
-            returned_value(cause, has_flows),
-        ))
-}
-
-/// Compares the recorded backlog and state of an arrival with those of the rules. At the limit the kernel records no
-/// backlog, and of fq_pie no state.
-fn arrival_state_difference(
-    step: &Step,
-    cause: LinuxCause,
-    has_flows: bool,
-    backlog: u32,
-    state: &LinuxState,
-) -> Option<Difference>
-    ensures { result ≡ arrival_state_difference step.now cause has_flows backlog state.now }
-{
-    match (cause, has_flows) {
-        (LinuxCause::OverLimit, true) => None,
-        (LinuxCause::OverLimit, false) => state_difference(&step.after, state),
-        _ => compared_32(Column::Backlog, step.backlog, backlog).or(state_difference(
-            &step.after,
-            state,
-        )),
-    }
 }
 
 impl QueueNumbers {
+    /// Counts a departure that a change of the limit dropped.
+    fn count_drop(&mut self, waiting: &Waiting, step: &Step)
+        ensures { self.new ≡ drop_counted self.old waiting.now step.now }
+    {
+        if step.is_drop {
+            self.drops = self.drops.wrapping_add(1);
+            self.drop_bytes = self.drop_bytes.wrapping_add(waiting.length);
+        }
+    }
+
     /// Takes the departure of a packet into account (`pie_process_dequeue`).
     pub(crate) fn depart(
         &mut self,
@@ -370,88 +412,88 @@ impl QueueNumbers {
         step: &Step,
     ) -> Option<Difference>
         ensures difference { result ≡ departure_difference self.old flow.old waiting.now step.now }
-        ensures queue { self.new ≡ departed_queue self.old waiting.now }
+        ensures queue { self.new ≡ departed_queue self.old waiting.now step.now }
         ensures flow { flow.new ≡ departed_flow self.old flow.old waiting.now step.now }
     {
+        let params = self.params_at(step);
         self.remove(flow, waiting);
-        self.peeked = Some(waiting.length);
-        self.peeked_packets = 1;
+        self.count_drop(waiting, step);
         let backlog = if self.has_flows {
             flow.backlog
         } else {
-            self.bytes
+            self.bytes.wrapping_add(step.returned_bytes)
         };
-        flow.state.depart(
-            &self.params,
-            departure_of(step, &self.params, waiting, backlog),
-        );
-        compared_32(Column::Size, step.size, waiting.size)
-            .or(compared_32(Column::PacketLength, step.packet_length, waiting.length))
-            .or(compared(Column::Enqueued, step.enqueued, waiting.enqueued))
-            .or(compared_32(Column::Backlog, step.backlog, backlog))
-            .or(compared_32(Column::LengthAfter, step.length_after, self.length))
-            .or(compared_32(Column::BytesAfter, step.bytes_after, self.bytes))
-            .or(state_difference(&step.after, &flow.state))
+        let departure = departure_of(step, &params, waiting, backlog);
+        let reads = flow.state.readings(&params, departure);
+        flow.state.depart(&params, departure);
+        let departed = Departed {
+            waiting: *waiting,
+            backlog,
+            reads,
+            is_timed: params.dq_rate_estimator,
+        };
+        let right = right_departure(self, &flow.state, &departed, step);
+        step_difference(step, &right)
     }
 
     /// Updates the probability (`pie_calculate_probability`).
-    pub(crate) fn update(&mut self, flow: &mut FlowNumbers, step: &Step) -> Option<Difference>
-        ensures difference { result ≡ update_difference self.old flow.old step.now }
-        ensures queue { self.new ≡ settled self.old (is_taken self.old step.now.backlog) }
-        ensures flow { flow.new ≡ updated_flow self.old flow.old step.now }
+    pub(crate) fn update(&self, flow: &mut FlowNumbers, step: &Step) -> Option<Difference>
+        ensures difference { result ≡ update_difference self.now flow.old step.now }
+        ensures flow { flow.new ≡ updated_flow self.now flow.old step.now }
     {
-        let is_taken = self.is_taken(step.backlog);
-        let bytes = self.bytes_at(is_taken);
-        self.settle(is_taken);
-        let backlog = if self.has_flows { flow.backlog } else { bytes };
+        let backlog = if self.has_flows {
+            flow.backlog
+        } else {
+            self.bytes_at_update(step)
+        };
         flow.state.update(&self.params, backlog);
-        compared_32(Column::Backlog, step.backlog, backlog).or(state_difference(
-            &step.after,
-            &flow.state,
-        ))
+        step_difference(step, &right_update(self, &flow.state, backlog, step))
     }
 
-    /// Begins a round of the timer over `flows` flows (`fq_pie_timer`).
-    pub(crate) fn begin_round(&mut self, flows: u32, step: &Step) -> Option<Difference>
+    /// Begins a round of the timer (`fq_pie_timer`).
+    pub(crate) fn begin_round(&mut self, step: &Step) -> Option<Difference>
         ensures difference { result ≡ round_difference self.old step.now }
-        ensures queue { self.new ≡ round_begun self.old flows step.now }
+        ensures queue { self.new ≡ round_begun self.old step.now }
     {
-        let recorded = step.flow.unwrap_or(u32::MAX);
-        let cursor = self.cursor.unwrap_or(recorded);
-        self.cursor = Some(next_cursor(flows, cursor));
-        compared_32(Column::Flow, recorded, cursor)
+        let cursor = self.cursor.unwrap_or(step.flow.unwrap_or(u32::MAX));
+        self.cursor = Some(next_cursor(self.flows, cursor));
+        step_difference(step, &right_round(cursor, step))
     }
 
     /// Changes the parameters (`pie_change`, `fq_pie_change`), and returns the number of packets that pie's lower limit
     /// drops from the front. fq_pie's drops are departures.
     pub(crate) fn change(&mut self, step: &Step) -> u32
-        ensures count { result ≡ (if self.old.has_flows then 0 else excess self.old.length step.now.params.limit) }
+        ensures count { result ≡ own_dropped self.old step.now }
         ensures queue { self.new ≡ changed self.old step.now }
     {
         self.params = step.params;
         if self.has_flows {
             self.memory_limit = step.truesize;
+            self.quantum = step.x2;
+            if step.size != 0 {
+                self.drops = 0;
+                self.drop_bytes = 0;
+            }
             return 0;
         }
-        excess(self.length, self.params.limit)
+        let returned = step.returned_packets.wrapping_add(step.moved);
+        own_excess(self.length, returned, self.params.limit)
     }
 
-    /// Compares pie's numbers after a change, which dropped `count` packets.
+    /// Compares the numbers of a queue that had those of `was` before a change. A text without the column `rq` has none of
+    /// fq_pie.
     pub(crate) fn change_difference(
         &self,
+        was: &QueueNumbers,
         flow: &FlowNumbers,
-        count: u32,
         step: &Step,
     ) -> Option<Difference>
-        ensures { result ≡ change_difference self.now flow.now count step.now }
+        ensures { result ≡ change_difference self.now was.now flow.now step.now }
     {
-        if self.has_flows {
+        if self.has_flows && !step.has_returned {
             return None;
         }
-        compared_32(Column::Size, step.size, count)
-            .or(compared_32(Column::Limit, step.limit, self.params.limit))
-            .or(stats_difference(&step.stats, &self.stats))
-            .or(state_difference(&step.after, &flow.state))
+        step_difference(step, &right_change(self, was, &flow.state, step))
     }
 
     /// Resets the queue: no packet waits (`pie_reset`, `fq_pie_reset`). fq_pie's memory is unchanged.
@@ -460,17 +502,21 @@ impl QueueNumbers {
     {
         self.length = 0;
         self.bytes = 0;
-        self.peeked = None;
     }
 
-    /// Compares pie's numbers after a reset.
-    pub(crate) fn reset_difference(&self, flow: &FlowNumbers, step: &Step) -> Option<Difference>
+    /// Compares the numbers of a queue that had those of `was` before a reset. A text without the column `rq` has none of
+    /// fq_pie.
+    pub(crate) fn reset_difference(
+        &self,
+        flow: &FlowNumbers,
+        step: &Step,
+    ) -> Option<Difference>
         ensures { result ≡ reset_difference self.now flow.now step.now }
     {
-        if self.has_flows {
+        if self.has_flows && !step.has_returned {
             return None;
         }
-        stats_difference(&step.stats, &self.stats).or(state_difference(&step.after, &flow.state))
+        step_difference(step, &right_reset(self, &flow.state, step))
     }
 }
 

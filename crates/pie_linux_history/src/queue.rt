@@ -3,25 +3,25 @@ ghost use Rattle.std.specs.Prelude.{◌≡◌, ◌++◌, [], IfOk, OnOk, None, d
 ghost use Rattle.std.specs.List.{flat_map};
 ghost use Rattle.pie_linux_history.specs.declared.explained.Fate.TheVariants.{Change, Reset};
 ghost use Rattle.pie_linux_history.specs.declared.numbers.QueueNumbers.{QueueNumbers};
-ghost use Rattle.pie_linux_history.specs.Queue.{arrival, change, counted_again, departure, dropped_by, dropped_by_change, dropped_by_reset, dropped_in_turn, dropped_of, emptied_flow, first_flow, first_flows, first_state, opened, reset, shortened_flow, shortened_queue, stepped, update, waiting_resumed, dropped, IsFlowStep, flow_arrived, flow_count, flow_departed, flow_resumed, flow_stepped, flow_updated, flow_waited, last_departures, no_flow, other, place_at, place_of, sent, sent_before};
-ghost use Rattle.pie_linux_history.specs.Resumes.{first_numbers};
+ghost use Rattle.pie_linux_history.specs.Decisions.{admitted, lacks_limit};
+ghost use Rattle.pie_linux_history.specs.Queue.{IsFlowStep, change, destroyed, dropped, dropped_by, dropped_by_change, dropped_by_departure, dropped_by_reset, dropped_in_turn, dropped_of, emptied_flow, first_dropped, first_flow, first_state, flow_admitted, flow_arrived, flow_departed, flow_resumed, flow_stepped, flow_updated, flow_waited, lacking, no_flow, opened, opening_difference, other, place_at, place_of, reset, shortened_flow, shortened_queue, stepped, waiting_resumed};
+ghost use Rattle.pie_linux_history.specs.Resumes.{first_flows, first_numbers};
 
 use crate::decided::StepNumbers;
-use crate::difference::{Column, Difference};
-use crate::explained::{DecidedPacket, Decision, Fate};
-use crate::numbers::{FlowNumbers, QueueNumbers, Waiting, waiting_of};
-use crate::resume::{DEPARTED, resumed, resumed_flow};
-use crate::step::{Kind, Step};
-use pie_linux::{LinuxState, LinuxStats, flow_of};
+use crate::columns::{FLOW, LENGTH_AFTER};
+use crate::difference::{Difference, flow_number, step_difference};
+use crate::explained::{DecidedPacket, Decision, Fate, lacking};
+use crate::numbers::{FlowNumbers, QueueNumbers, Waiting, lack_of, lack_of_arrival, waiting_of};
+use crate::resume::{resumed, resumed_flow};
+use crate::right::{right_destroy, right_opening};
+use crate::step::{FlowIn, Kind, Step};
+use pie_linux::{LinuxState, LinuxStats};
 use std::alloc::{AllocError, Global};
 use std::collections::VecDeque;
 use std::marker::Model;
 
 /// The most flows of fq_pie (`fq_pie_init`).
 const MAX_FLOWS: u32 = 65536;
-
-/// The departures that a device can return at once.
-pub(crate) const RETURNED: usize = 256;
 
 /// A flow of fq_pie, or all of pie: its numbers and its waiting packets.
 #[derive(Drop)]
@@ -43,9 +43,6 @@ impl Model for Flow {
 pub(crate) struct Queue {
     pub(crate) numbers: QueueNumbers,
     pub(crate) flows: Vec<Flow>,
-    /// The lengths of the last departures, and the number of all.
-    pub(crate) sent: [u32; RETURNED],
-    pub(crate) count: usize,
     /// True after the row `destroy`.
     pub(crate) has_ended: bool,
 }
@@ -55,21 +52,35 @@ impl Model for Queue {
 
     ghost Value = { QueueView };
 
-    ghost view = { λ queue. record { numbers = queue.numbers; flows = queue.flows.items; sent = queue.sent; count = queue.count } };
+    ghost view = { λ queue. record { numbers = queue.numbers; flows = queue.flows.items } };
 }
 
 impl Flow {
     /// Decides an arrival in this flow of a queue with the numbers `queue` again.
     fn arrive(&mut self, queue: &mut QueueNumbers, step: &Step) -> Result<Decision, AllocError>
-        ensures { IfOk result (λ decision. IsFlowStep (flow_arrived queue.old self.old step.now) queue.new self.new decision None) }
+        ensures { IfOk result (λ decision. IsFlowStep (flow_arrived queue.old self.old step.now) queue.new self.new decision) }
+    {
+        let change = queue.admit(step);
+        self.arrive_admitted(change, queue, step)
+    }
+
+    /// Decides an arrival in this flow of a queue with the limit of the arrival.
+    fn arrive_admitted(
+        &mut self,
+        change: bool,
+        queue: &mut QueueNumbers,
+        step: &Step,
+    ) -> Result<Decision, AllocError>
+        ensures { IfOk result (λ decision. IsFlowStep (flow_admitted change queue.old self.old step.now) queue.new self.new decision) }
     {
         let (state, limit) = (self.numbers.state, queue.params.limit);
-        let arrived = queue.arrive(&mut self.numbers, step);
+        let returned = queue.counts_returned(step);
+        let (arrived, difference) = queue.arrive(&mut self.numbers, step);
         if arrived.cause.is_queued() {
             self.waiting.push_back(waiting_of(step))?;
         }
         Ok(Decision {
-            difference: arrived.difference,
+            difference,
             arrival: Some(DecidedPacket {
                 bytes: step.packet_length,
                 fate: Fate::Arrival(arrived.cause),
@@ -78,39 +89,50 @@ impl Flow {
                 backlog: arrived.bytes,
                 limit,
             }),
+            lacks: lack_of_arrival(change, returned, arrived.cause, step),
         })
     }
 
-    /// Takes the departure of the first waiting packet into account again. Returns the difference, and its length.
-    fn depart(&mut self, queue: &mut QueueNumbers, step: &Step) -> (Option<Difference>, Option<u32>)
-        ensures { IsFlowStep (flow_departed queue.old self.old step.now) queue.new self.new (other result.0) result.1 }
+    /// Takes the departure of the first waiting packet into account again.
+    fn depart(&mut self, queue: &mut QueueNumbers, step: &Step) -> Decision
+        ensures { IsFlowStep (flow_departed queue.old self.old step.now) queue.new self.new result }
     {
         match self.waiting.pop_front() {
-            Some(waiting) => (
-                queue.depart(&mut self.numbers, &waiting, step),
-                Some(waiting.length),
-            ),
-            None => (
-                Some(Difference {
-                    column: Column::LengthAfter,
-                    recorded: u64::from(step.length_after),
-                    right: 0,
-                }),
-                None,
-            ),
+            Some(waiting) => {
+                let change = queue.lacks_switch(step);
+                let difference = queue.depart(&mut self.numbers, &waiting, step);
+                lacking(lack_of(change, false, false), difference)
+            }
+            None => Decision::other(Some(Difference {
+                column: LENGTH_AFTER,
+                recorded: u64::from(step.length_after),
+                right: 0,
+            })),
         }
     }
 
-    /// Makes an update of the probability again.
-    fn update(&mut self, queue: &mut QueueNumbers, step: &Step) -> Option<Difference>
-        ensures { IsFlowStep (flow_updated queue.old self.old step.now) queue.new self.new (other result) None }
+    /// Returns the first waiting packet as one that a change dropped.
+    fn first_dropped(&self, queue: &QueueNumbers, lost: &mut Vec<DecidedPacket>) -> Result<(), AllocError>
+        ensures { OnOk result (lost.new.items ≡ lost.old.items ++ map (dropped Change queue.now self.now.numbers) (take 1 self.now.waiting)) }
     {
-        queue.update(&mut self.numbers, step)
+        if let Some(waiting) = self.waiting.front() {
+            lost.push(dropped(Fate::Change, queue, &self.numbers, waiting))?;
+        }
+        Ok(())
+    }
+
+    /// Makes an update of the probability again.
+    fn update(&mut self, queue: &QueueNumbers, step: &Step) -> Decision
+        ensures { IsFlowStep (flow_updated queue.now self.old step.now) queue.now self.new result }
+    {
+        let returned = queue.lacks_bytes(step);
+        let difference = queue.update(&mut self.numbers, step);
+        lacking(lack_of(false, returned, false), difference)
     }
 
     /// Takes over the recorded state of a running flow.
     fn resume(&mut self, step: &Step) -> Decision
-        ensures { (queue : QueueNumbers) → IsFlowStep (flow_resumed queue self.old step.now) queue self.new result None }
+        ensures { (queue : QueueNumbers) → IsFlowStep (flow_resumed queue self.old step.now) queue self.new result }
     {
         self.numbers = resumed_flow(step);
         Decision::other(None)
@@ -150,20 +172,28 @@ impl Flow {
 
     /// Adds the packet of a step at the end.
     fn push(&mut self, step: &Step) -> Result<Decision, AllocError>
-        ensures { IfOk result (λ decision. (queue : QueueNumbers) → IsFlowStep (flow_waited queue self.old step.now) queue self.new decision None) }
+        ensures { IfOk result (λ decision. (queue : QueueNumbers) → IsFlowStep (flow_waited queue self.old step.now) queue self.new decision) }
     {
         self.waiting.push_back(waiting_of(step))?;
         Ok(Decision::other(None))
     }
 }
 
-/// Returns the numbers of a queue after its first step, by the columns that pie-watch writes.
-fn first_numbers(step: &Step) -> QueueNumbers
-    ensures { result ≡ first_numbers step.now }
+/// Returns the numbers of a queue with this handle after its first step.
+fn first_numbers(handle: u32, step: &Step) -> QueueNumbers
+    ensures { result ≡ first_numbers handle step.now }
 {
     let is_new = step.kind == Kind::Init;
+    let known = if is_new && step.has_flows {
+        Some(0)
+    } else {
+        None
+    };
     QueueNumbers {
         has_flows: step.has_flows,
+        handle,
+        flows: first_count(step),
+        quantum: step.x2,
         params: step.params,
         stats: if is_new {
             LinuxStats::new()
@@ -172,12 +202,12 @@ fn first_numbers(step: &Step) -> QueueNumbers
         },
         length: 0,
         bytes: 0,
-        peeked: None,
-        peeked_packets: 0,
         memory: 0,
         memory_limit: step.truesize,
-        over_memory: if is_new { Some(0) } else { None },
-        cursor: if is_new { Some(0) } else { None },
+        over_memory: known,
+        cursor: known,
+        drops: 0,
+        drop_bytes: 0,
     }
 }
 
@@ -223,18 +253,16 @@ fn first_flows(alloc: Global, step: &Step) -> Result<Vec<Flow>, AllocError>
 }
 
 impl Queue {
-    /// Makes a queue from its first step, a new one or a running one. Of a running one, steps for its flows and waiting
-    /// packets follow.
+    /// Makes a queue with this handle from its first step, a new one or a running one. Of a running one, steps for its flows and
+    /// waiting packets follow.
     #[inline(never)]
     #[tactic(auto, unfolding(crate::specs::Queue::opened))]
-    pub(crate) fn open(alloc: Global, step: &Step) -> Result<Queue, AllocError>
-        ensures { IfOk result (λ queue. queue ≡ opened step.now) }
+    pub(crate) fn open(alloc: Global, handle: u32, step: &Step) -> Result<Queue, AllocError>
+        ensures { IfOk result (λ queue. queue ≡ opened handle step.now) }
     {
         Ok(Queue {
-            numbers: resumed(first_numbers(step), step),
+            numbers: resumed(first_numbers(handle, step), step),
             flows: first_flows(alloc, step)?,
-            sent: [0; RETURNED],
-            count: 0,
             has_ended: false,
         })
     }
@@ -245,32 +273,29 @@ impl Queue {
         step: &Step,
         lost: &mut Vec<DecidedPacket>,
     ) -> Result<Decision, AllocError>
-        ensures made { IfOk result (λ decision. stepped step.now.kind self.old step.now ≡ record { queue = self.new; decision = decision; sent = None }) }
+        ensures made { IfOk result (λ decision. stepped step.now.kind self.old step.now ≡ record { queue = self.new; decision = decision }) }
         ensures lost { OnOk result (lost.new.items ≡ lost.old.items ++ dropped_by step.now.kind self.old step.now) }
     {
         match step.kind {
             Kind::Enqueue => self.arrive(step),
-            Kind::Dequeue => Ok(Decision::other(self.depart(step))),
-            Kind::Update => Ok(Decision::other(self.update(step))),
-            Kind::Timer => {
-                let flows = self.flow_count();
-                Ok(Decision::other(self.numbers.begin_round(flows, step)))
+            Kind::Dequeue => {
+                self.drop_departing(step, lost)?;
+                Ok(self.depart(step))
             }
+            Kind::Update => Ok(self.update(step)),
+            Kind::Timer => Ok(Decision::other(self.numbers.begin_round(step))),
             Kind::Change => self.change(step, lost),
             Kind::Reset => self.reset(step, lost),
             Kind::Flow => Ok(self.resume_flow(step)),
             Kind::Wait => self.resume_packet(step),
-            Kind::Destroy => {
-                self.has_ended = true;
-                Ok(Decision::other(None))
-            }
+            Kind::Destroy => Ok(self.destroy(step)),
             Kind::Init | Kind::Resume | Kind::Empty => Ok(Decision::other(None)),
         }
     }
 
     /// Takes over the recorded state of a running flow.
     fn resume_flow(&mut self, step: &Step) -> Decision
-        ensures { flow_stepped flow_resumed None self.old step.now ≡ record { queue = self.new; decision = result; sent = None } }
+        ensures { flow_stepped flow_resumed None self.old step.now ≡ record { queue = self.new; decision = result } }
     {
         let place = self.place(step);
         let Some(flow) = self.flows.get_mut(place) else {
@@ -282,49 +307,42 @@ impl Queue {
     /// Takes over a waiting packet of a running queue.
     #[tactic(auto, unfolding(crate::specs::Queue::waiting_resumed))]
     fn resume_packet(&mut self, step: &Step) -> Result<Decision, AllocError>
-        ensures { IfOk result (λ decision. waiting_resumed self.old step.now ≡ record { queue = self.new; decision = decision; sent = None }) }
+        ensures { IfOk result (λ decision. waiting_resumed self.old step.now ≡ record { queue = self.new; decision = decision }) }
     {
-        if step.x0 == DEPARTED {
-            self.send(step.packet_length);
-            return Ok(Decision::other(None));
-        }
         if step.x0 != 0 {
-            self.numbers.peeked = Some(step.packet_length);
-            self.numbers.peeked_packets = 1;
-            self.send(step.packet_length);
             return Ok(Decision::other(None));
         }
         self.numbers.add(&waiting_of(step));
         self.queue(step)
     }
 
-    /// Returns the number of flows.
-    fn flow_count(&self) -> u32
-        ensures { result ≡ flow_count self.now }
-    {
-        u32::try_from(self.flows.len()).unwrap_or(u32::MAX)
-    }
-
-    /// Returns the place of the flow of a step: the recorded one, or the hash's if the limit came before it was known.
+    /// Returns the place of the flow of a step: the recorded one, or the one that its priority or its hash chooses.
     fn place(&self, step: &Step) -> usize
         ensures { result ≡ place_of self.now step.now }
     {
-        self.place_at(step.flow, step.hash)
+        self.place_at(FlowIn {
+            flow: step.flow,
+            priority: step.priority,
+            hash: step.hash,
+        })
     }
 
-    /// Returns the place of this flow, or of the flow of this hash.
-    fn place_at(&self, flow: Option<u32>, hash: u32) -> usize
-        ensures { result ≡ place_at self.now flow hash }
+    /// Returns the place of this flow, or of the one that the priority or the hash chooses.
+    fn place_at(&self, which: FlowIn) -> usize
+        ensures { result ≡ place_at self.now which.flow which.priority which.hash }
     {
         if !self.numbers.has_flows {
             return 0;
         }
-        flow.unwrap_or(flow_of(hash, self.flow_count())) as usize
+        match which.flow {
+            Some(flow) => flow as usize,
+            None => self.numbers.flow_chosen(which.priority, which.hash) as usize,
+        }
     }
 
-    /// Returns the numbers of the queue and of this flow, or of the flow of this hash.
-    pub(crate) fn numbers_at(&self, flow: Option<u32>, hash: u32) -> Option<StepNumbers> {
-        let place = self.place_at(flow, hash);
+    /// Returns the numbers of the queue and of this flow, or of the one that the priority or the hash chooses.
+    pub(crate) fn numbers_at(&self, which: FlowIn) -> Option<StepNumbers> {
+        let place = self.place_at(which);
         let flow = self.flows.get(place)?;
         Some(StepNumbers {
             place: u32::try_from(place).unwrap_or(u32::MAX),
@@ -341,7 +359,7 @@ impl Queue {
 
     /// Adds the packet of a step at the end of its flow.
     fn queue(&mut self, step: &Step) -> Result<Decision, AllocError>
-        ensures { IfOk result (λ decision. flow_stepped flow_waited None self.old step.now ≡ record { queue = self.new; decision = decision; sent = None }) }
+        ensures { IfOk result (λ decision. flow_stepped flow_waited None self.old step.now ≡ record { queue = self.new; decision = decision }) }
     {
         let place = self.place(step);
         let Some(flow) = self.flows.get_mut(place) else {
@@ -350,59 +368,9 @@ impl Queue {
         flow.push(step)
     }
 
-    /// Keeps the length of a departure.
-    fn send(&mut self, length: u32)
-        ensures { self.new ≡ sent self.old length }
-    {
-        self.sent[self.count % RETURNED] = length;
-        self.count = self.count.wrapping_add(1);
-    }
-
-    /// Returns the length of the departure after which `packets` others came.
-    fn sent_before(&self, packets: usize) -> u32
-        ensures { result ≡ sent_before self.now packets }
-    {
-        self.sent[self.count.wrapping_sub(packets).wrapping_sub(1) % RETURNED]
-    }
-
-    /// Returns the number of the last departures that have `more` bytes together.
-    fn last_departures(&self, more: u32) -> Option<u32>
-        ensures { result ≡ last_departures self.now more 0 0 256 }
-    {
-        let mut bytes: u32 = 0;
-        for packets in 0..RETURNED {
-            if bytes >= more {
-                return None;
-            }
-            bytes = bytes.saturating_add(self.sent_before(packets));
-            if bytes == more {
-                return Some(packets as u32 + 1);
-            }
-        }
-        None
-    }
-
-    /// Finds the packets that the kernel counts again, since the device returned them, from the recorded bytes: the last
-    /// departures, or segments of the last one, of which the kernel gives each the length of the whole.
-    fn count_again(&mut self, recorded: u32)
-        ensures { self.new ≡ counted_again self.old recorded }
-    {
-        let more = recorded.wrapping_sub(self.numbers.bytes);
-        let last = self.sent_before(0);
-        let segments = if last > 0 && more > 0 && more % last == 0 {
-            Some(more / last)
-        } else {
-            None
-        };
-        if let Some(packets) = self.last_departures(more).or(segments) {
-            self.numbers.peeked = Some(more);
-            self.numbers.peeked_packets = packets;
-        }
-    }
-
-    /// Decides an arrival again, whose counted packets are known.
-    fn arrive_counted(&mut self, step: &Step) -> Result<Decision, AllocError>
-        ensures { IfOk result (λ decision. flow_stepped flow_arrived (no_flow step.now) self.old step.now ≡ record { queue = self.new; decision = decision; sent = None }) }
+    /// Decides an arrival again.
+    fn arrive(&mut self, step: &Step) -> Result<Decision, AllocError>
+        ensures { IfOk result (λ decision. flow_stepped flow_arrived (no_flow step.now) self.old step.now ≡ record { queue = self.new; decision = decision }) }
     {
         let place = self.place(step);
         match self.flows.get_mut(place) {
@@ -411,86 +379,85 @@ impl Queue {
         }
     }
 
-    /// Decides an arrival again.
-    #[tactic(auto, unfolding(crate::specs::Queue::arrival))]
-    fn arrive(&mut self, step: &Step) -> Result<Decision, AllocError>
-        ensures { IfOk result (λ decision. arrival self.old step.now ≡ record { queue = self.new; decision = decision; sent = None }) }
+    /// Adds the first packet of the flow of a departure to `lost`, if a change of the limit drops it.
+    #[tactic(auto, unfolding(crate::specs::Queue::dropped_by_departure))]
+    fn drop_departing(&self, step: &Step, lost: &mut Vec<DecidedPacket>) -> Result<(), AllocError>
+        ensures { OnOk result (lost.new.items ≡ lost.old.items ++ dropped_by_departure self.now step.now) }
     {
-        self.count_again(step.bytes_before);
-        self.arrive_counted(step)
-    }
-
-    /// Takes a departure into account again. Returns the difference, and the length of the packet.
-    fn depart_counted(&mut self, step: &Step) -> (Option<Difference>, Option<u32>)
-        ensures { flow_stepped flow_departed (no_flow step.now) self.old step.now ≡ record { queue = self.new; decision = other result.0; sent = result.1 } }
-    {
-        let place = self.place(step);
-        match self.flows.get_mut(place) {
-            Some(flow) => flow.depart(&mut self.numbers, step),
-            None => (no_flow(step), None),
+        if !step.is_drop {
+            return Ok(());
+        }
+        match self.flows.get(self.place(step)) {
+            Some(flow) => flow.first_dropped(&self.numbers, lost),
+            None => Ok(()),
         }
     }
 
     /// Takes a departure into account again.
-    #[tactic(auto, unfolding(crate::specs::Queue::departure))]
-    fn depart(&mut self, step: &Step) -> Option<Difference>
-        ensures { departure self.old step.now ≡ record { queue = self.new; decision = other result; sent = None } }
-    {
-        let (difference, sent) = self.depart_counted(step);
-        if let Some(length) = sent {
-            self.send(length);
-        }
-        difference
-    }
-
-    /// Makes an update of the probability again, whose counted packets are known.
-    fn update_counted(&mut self, step: &Step) -> Option<Difference>
-        ensures { flow_stepped flow_updated (no_flow step.now) self.old step.now ≡ record { queue = self.new; decision = other result; sent = None } }
+    fn depart(&mut self, step: &Step) -> Decision
+        ensures { flow_stepped flow_departed (no_flow step.now) self.old step.now ≡ record { queue = self.new; decision = result } }
     {
         let place = self.place(step);
         match self.flows.get_mut(place) {
-            Some(flow) => flow.update(&mut self.numbers, step),
-            None => no_flow(step),
+            Some(flow) => flow.depart(&mut self.numbers, step),
+            None => Decision::other(no_flow(step)),
         }
     }
 
     /// Makes an update of the probability again.
-    #[tactic(auto, unfolding(crate::specs::Queue::update))]
-    fn update(&mut self, step: &Step) -> Option<Difference>
-        ensures { update self.old step.now ≡ record { queue = self.new; decision = other result; sent = None } }
+    fn update(&mut self, step: &Step) -> Decision
+        ensures { flow_stepped flow_updated (no_flow step.now) self.old step.now ≡ record { queue = self.new; decision = result } }
     {
-        if !self.numbers.has_flows {
-            self.count_again(step.backlog);
+        let place = self.place(step);
+        let Some(flow) = self.flows.get_mut(place) else {
+            return Decision::other(no_flow(step));
+        };
+        flow.update(&self.numbers, step)
+    }
+
+    /// Ends the queue.
+    #[tactic(auto, unfolding(crate::specs::Queue::destroyed))]
+    fn destroy(&mut self, step: &Step) -> Decision
+        ensures { destroyed self.old step.now ≡ record { queue = self.new; decision = result } }
+    {
+        self.has_ended = true;
+        match self.flows.first() {
+            Some(flow) => {
+                let right = right_destroy(&self.numbers, &flow.numbers.state, step);
+                Decision::other(step_difference(step, &right))
+            }
+            None => Decision::other(None),
         }
-        self.update_counted(step)
     }
 
     /// Changes the parameters, and drops pie's packets above a lower limit. Adds them to `lost`.
     #[tactic(auto, unfolding(crate::specs::Queue::change, crate::specs::Queue::dropped_by_change))]
     fn change(&mut self, step: &Step, lost: &mut Vec<DecidedPacket>) -> Result<Decision, AllocError>
-        ensures made { IfOk result (λ decision. change self.old step.now ≡ record { queue = self.new; decision = decision; sent = None }) }
+        ensures made { IfOk result (λ decision. change self.old step.now ≡ record { queue = self.new; decision = decision }) }
         ensures lost { OnOk result (lost.new.items ≡ lost.old.items ++ dropped_by_change self.old step.now) }
     {
+        let was = self.numbers;
         let count = self.numbers.change(step);
         let Some(flow) = self.flows.get_mut(0) else {
             return Ok(Decision::other(None));
         };
         flow.shorten(&mut self.numbers, count, lost)?;
         let numbers = flow.numbers;
-        Ok(Decision::other(self.numbers.change_difference(&numbers, count, step)))
+        Ok(Decision::other(self.numbers.change_difference(&was, &numbers, step)))
     }
 
     /// Resets the queue: all packets are dropped, and the flows keep the numbers that a reset does not change. Adds the
     /// packets to `lost`.
     #[tactic(auto, unfolding(crate::specs::Queue::reset, crate::specs::Queue::dropped_by_reset))]
     fn reset(&mut self, step: &Step, lost: &mut Vec<DecidedPacket>) -> Result<Decision, AllocError>
-        ensures made { IfOk result (λ decision. reset self.old step.now ≡ record { queue = self.new; decision = decision; sent = None }) }
+        ensures made { IfOk result (λ decision. reset self.old step.now ≡ record { queue = self.new; decision = decision }) }
         ensures lost { OnOk result (lost.new.items ≡ lost.old.items ++ dropped_by_reset self.old) }
     {
-        empty_flows(&mut self.flows, &self.numbers, lost)?;
+        let was = self.numbers;
+        empty_flows(&mut self.flows, &was, lost)?;
         self.numbers.reset();
         let difference = match self.flows.first() {
-            Some(flow) => self.numbers.reset_difference(&flow.numbers, step),
+            Some(flow) => was.reset_difference(&flow.numbers, step),
             None => None,
         };
         Ok(Decision::other(difference))
@@ -571,8 +538,15 @@ fn no_flow(step: &Step) -> Option<Difference>
     ensures { result ≡ no_flow step.now }
 {
     Some(Difference {
-        column: Column::Flow,
-        recorded: u64::from(step.flow.unwrap_or(u32::MAX)),
+        column: FLOW,
+        recorded: flow_number(step.flow),
         right: 0,
     })
+}
+
+/// Compares the first step of a queue with that of a new queue, or of a running one.
+pub(crate) fn opening_difference(step: &Step) -> Option<Difference>
+    ensures { result ≡ opening_difference step.now }
+{
+    step_difference(step, &right_opening(step))
 }

@@ -3,16 +3,17 @@ ghost use Rattle.std.specs.Prelude.{◌≡◌, ◌+◌, ◌%◌, ◌^◌, ◌++�
 ghost use Rattle.pie_linux.specs.Enqueue.{one_if};
 ghost use Rattle.pie_linux_history.specs.Audit.{difference_at, has_failed, verdict_of};
 ghost use Rattle.pie_linux_history.specs.Known.{HasRead, Leaves, Represents, Takes};
-ghost use Rattle.pie_linux_history.specs.LookBack.{Entry, Lost, Took, entry_in, is_opening, is_step};
+ghost use Rattle.pie_linux_history.specs.LookBack.{Entry, Lost, Took, entry_in, is_opening, is_step, lack_counted, lack_in};
 
 use crate::columns::{Columns, fault_at, lost_at, out_of_memory};
 use crate::decided::StepNumbers;
 use crate::difference::Difference;
-use crate::explained::{DecidedPacket, Explained};
+use crate::explained::{DecidedPacket, Explained, Input};
 use crate::fault::StepsFault;
 use crate::known::KnownQueues;
+use crate::queue::opening_difference;
 use crate::resume::QueueRows;
-use crate::step::{Kind, QueueName, Step};
+use crate::step::{FlowIn, Kind, QueueName, Step};
 use pie_record::{Record, RecordFault};
 use std::alloc::Global;
 use std::io::Write;
@@ -27,6 +28,41 @@ pub struct StepsCounts {
     pub steps: u64,
     /// The steps that the recorder lost.
     pub lost: u64,
+    /// The steps whose row does not say which packets the device returned. They were decided with the recorded numbers before
+    /// the step.
+    pub without_returned: u64,
+    /// The steps whose row lacks a protocol behind a VLAN tag. They were decided with the recorded return value.
+    pub without_protocol: u64,
+    /// The steps with parameters that no earlier row has. They were decided with those of the step.
+    pub without_change: u64,
+}
+
+impl StepsCounts {
+    /// Returns the counts of no rows.
+    fn new() -> StepsCounts
+        ensures { result ≡ record { events = 0; steps = 0; lost = 0; without_returned = 0; without_protocol = 0; without_change = 0 } }
+    {
+        StepsCounts {
+            events: 0,
+            steps: 0,
+            lost: 0,
+            without_returned: 0,
+            without_protocol: 0,
+            without_change: 0,
+        }
+    }
+
+    /// Counts a step that lacks this input.
+    fn count_lack(&mut self, lacks: Option<Input>)
+        ensures { self.new ≡ lack_counted self.old lacks }
+    {
+        match lacks {
+            Some(Input::Returned) => self.without_returned = self.without_returned.wrapping_add(1),
+            Some(Input::Protocol) => self.without_protocol = self.without_protocol.wrapping_add(1),
+            Some(Input::Change) => self.without_change = self.without_change.wrapping_add(1),
+            None => {}
+        }
+    }
 }
 
 /// A step with a number that differs from the rules.
@@ -44,7 +80,7 @@ pub struct StepDifference {
 
 impl fmt::Display for StepDifference {
     fn fmt<W: fmt::Write>(&self, f: &mut fmt::Formatter<W>) -> fmt::Result {
-        let (queue, step, column) = (&self.queue, self.step, self.difference.column.name());
+        let (queue, step, column) = (&self.queue, self.step, self.difference.name());
         let (recorded, right) = (self.difference.recorded, self.difference.right);
         write!(
             f,
@@ -76,11 +112,7 @@ impl Queues {
         Queues {
             alloc,
             known,
-            counts: StepsCounts {
-                events: 0,
-                steps: 0,
-                lost: 0,
-            },
+            counts: StepsCounts::new(),
             last: None,
             arrival: None,
             lost: Vec::new(alloc),
@@ -111,14 +143,9 @@ impl Queues {
         })
     }
 
-    /// Returns the numbers of this flow of a queue, or of the flow of this hash.
-    pub(crate) fn numbers_at(
-        &self,
-        name: &[u8],
-        flow: Option<u32>,
-        hash: u32,
-    ) -> Option<StepNumbers> {
-        self.known.get(name)?.numbers_at(flow, hash)
+    /// Returns the numbers of a queue and of this flow, or of the one that the priority or the hash chooses.
+    pub(crate) fn numbers_at(&self, name: &[u8], which: FlowIn) -> Option<StepNumbers> {
+        self.known.get(name)?.numbers_at(which)
     }
 
     /// Returns the queue of the last step, the step, and its packet if it is an arrival.
@@ -200,7 +227,9 @@ impl Queues {
         step: &Step,
     ) -> Result<Option<StepDifference>, StepsFault>
         requires fresh { (self.old.arrival ≡ None) × (self.old.lost.items ≡ []) }
-        ensures counts { self.new.counts ≡ record self.old.counts { steps = (self.old.counts.steps + one_if (is_step (Took queue step.now))) % 2 ^ 64 } }
+        ensures counts { (entries : List Entry) → Represents self.old.known.all.items entries → has_failed result ≡ false
+            → self.new.counts ≡ lack_counted (record self.old.counts { steps = (self.old.counts.steps + one_if (is_step (Took queue step.now))) % 2 ^ 64 })
+            (lack_in entries (Took queue step.now)) }
         ensures takes { (entries : List Entry) → Represents self.old.known.all.items entries → has_failed result ≡ false
             → (result ≡ verdict_of entries self.old.counts.events (Took queue step.now)) × Leaves self.new entries (Took queue step.now) }
     {
@@ -221,7 +250,8 @@ impl Queues {
     ) -> Result<Option<StepDifference>, StepsFault>
         requires fresh { (self.old.arrival ≡ None) × (self.old.lost.items ≡ []) × (self.old.last ≡ Some (queue, step.now)) }
         requires later { is_opening step.now.kind ≡ false }
-        ensures counts { self.new.counts ≡ self.old.counts }
+        ensures counts { (entries : List Entry) → Represents self.old.known.all.items entries → has_failed result ≡ false
+            → self.new.counts ≡ lack_counted self.old.counts (lack_in entries (Took queue step.now)) }
         ensures takes { (entries : List Entry) → Represents self.old.known.all.items entries → has_failed result ≡ false
             → (result ≡ verdict_of entries self.old.counts.events (Took queue step.now)) × Leaves self.new entries (Took queue step.now) }
     {
@@ -229,6 +259,7 @@ impl Queues {
         match self.known.take(queue.bytes(), step, &mut self.lost) {
             Ok(Some(decision)) => {
                 self.arrival = decision.arrival;
+                self.counts.count_lack(decision.lacks);
                 Ok(difference_at(event, queue, step, decision.difference))
             }
             Ok(None) => Err(StepsFault::NoStart {
@@ -249,7 +280,12 @@ impl Queues {
             → (result ≡ verdict_of entries self.old.counts.events (Took queue step.now)) × Leaves self.new entries (Took queue step.now) }
     {
         match self.known.open(self.alloc, queue, step) {
-            Ok(()) => Ok(None),
+            Ok(()) => Ok(difference_at(
+                self.counts.events,
+                queue,
+                step,
+                opening_difference(step),
+            )),
             Err(_) => Err(out_of_memory()),
         }
     }

@@ -5,37 +5,30 @@
 //!
 //! | numbers | row | columns |
 //! |---|---|---|
-//! | family, last step, parameters, counters, limit of memory, flows | `resume` | `kind`, `seq`, `target` to `dqrate` and `x0`, `packets_in` to `maxq`, `truesize`, `x1` |
+//! | family, last step, parameters, counters, limit of memory, flows, quantum | `resume` | `kind`, `seq`, `target` to `dqrate` and `x0`, `packets_in` to `maxq`, `truesize`, `x1`, `x2` |
 //! | state of pie | `resume` | `a_qdelay` to `a_backlog_old` |
 //! | state, backlog and `listed` of each flow of fq_pie that is not as a new one | `flow` | `a_qdelay` to `a_backlog_old`, `backlog`, `x1` |
 //! | waiting packets | `wait` | `size`, `pktlen`, `truesize`, `enq`, `ns`, `flow` |
-//! | lengths of the last departures, from the oldest | `wait` | `pktlen`; `x0` is 2 |
-//! | departures that the kernel may count again | `resume` | `qlen0`, `bl0` |
 //! | arrivals above the limit of memory, plus 1 | `resume` | `t0` |
 //! | first flow of the next round, plus 1 | `resume` | `t1` |
 //! | memory beyond that of the waiting packets: fq_pie's reset keeps it | `resume` | `t2` |
 //!
-//! pie-watch leaves the columns of the last four lines at 0: an audit then learns the numbers of two of them from the next
-//! arrival and round, and takes the others to be none. The quantum, the deficits, and the order of the flows do not decide any
-//! step, and are 0.
-ghost use Rattle.std.specs.Prelude.{◌≡◌, false, true};
+//! A text of pie-watch without the column `rq` has 0 in the columns of the last three lines: an audit then learns the numbers
+//! of two of them from the next arrival and round, and takes the memory to be 0. The deficits and the order of the flows do
+//! not decide any step, and are 0. The packets that a change of fq_pie has dropped before its row are not kept.
+ghost use Rattle.std.specs.Prelude.{◌≡◌, ◌≤◌, false, true};
 ghost use Rattle.pie_linux_history.specs.Decisions.{waiting_of};
-ghost use Rattle.pie_linux_history.specs.Resumes.{emptied, first_numbers, is_counted, known_number, memory_at, number_field, packets_of, peeked_at, resumed, resumed_flow};
+ghost use Rattle.pie_linux_history.specs.Resumes.{emptied, first_numbers, known_number, memory_at, number_field, resumed, resumed_flow};
 
-use crate::columns::{Columns, NUMBERS, step_of};
+use crate::columns::{Columns, blank};
 use crate::numbers::{FlowNumbers, QueueNumbers, Waiting};
-use crate::queue::{Flow, Queue, RETURNED};
+use crate::queue::{Flow, Queue};
 use crate::row::write_step;
 use crate::step::{Kind, QueueName, Step};
-use pie_linux::{LinuxState, MarkLimit};
+use crate::right::percent_of;
+use pie_linux::LinuxState;
 use std::io;
 use std::io::Write;
-
-/// The field `x0` of a row `wait` for a packet that departed, and of which only the length is kept.
-pub(crate) const DEPARTED: u32 = 2;
-
-/// The field `early` of a row without a decision: `pie_drop_early` was not called.
-const NOT_CALLED: u32 = 255;
 
 /// Returns the number of a field that is one higher, and `None` for 0.
 fn known_number(field: u64) -> Option<u32>
@@ -67,12 +60,6 @@ pub(crate) fn resumed(numbers: QueueNumbers, step: &Step) -> QueueNumbers
         return numbers;
     }
     QueueNumbers {
-        peeked: if step.length_before == 0 {
-            None
-        } else {
-            Some(step.bytes_before)
-        },
-        peeked_packets: step.length_before,
         memory: u32::try_from(step.readings[2]).unwrap_or(0),
         over_memory: known_number(step.readings[0]),
         cursor: known_number(step.readings[1]),
@@ -96,25 +83,6 @@ fn is_new(numbers: &FlowNumbers) -> bool {
     numbers.state == LinuxState::new() && numbers.backlog == 0 && !numbers.listed
 }
 
-/// Returns a step of this kind whose other numbers are 0.
-fn blank(kind: Kind, has_flows: bool) -> Step {
-    Step {
-        early: NOT_CALLED,
-        ..step_of(&[0; NUMBERS], kind, has_flows, None, 0, 0)
-    }
-}
-
-/// Returns the number of the departures that the kernel may count again, and their bytes.
-fn peeked_fields(numbers: &QueueNumbers) -> (u32, u32)
-    ensures packets { result.0 ≡ packets_of numbers.now.peeked numbers.now.peeked_packets }
-    ensures peeked { is_counted numbers.now.peeked numbers.now.peeked_packets ≡ true → peeked_at result.0 result.1 ≡ numbers.now.peeked }
-{
-    match numbers.peeked {
-        Some(bytes) => (numbers.peeked_packets, bytes),
-        None => (0, 0),
-    }
-}
-
 /// Returns the field of a memory.
 fn memory_field(memory: u32) -> u64
     ensures { memory_at result ≡ memory }
@@ -124,19 +92,15 @@ fn memory_field(memory: u32) -> u64
 
 /// Returns the row `resume` of a queue with these numbers and `flows` flows, the state of pie, and the memory that is not of
 /// its waiting packets.
-fn resume_step(numbers: &QueueNumbers, memory: u32, flows: u32, state: &LinuxState) -> Step
-    ensures numbers { is_counted numbers.now.peeked numbers.now.peeked_packets ≡ true
-        → resumed (first_numbers result) result ≡ emptied numbers.now memory }
+fn resume_step(numbers: &QueueNumbers, memory: u32, state: &LinuxState) -> Step
+    ensures numbers { (numbers.now.has_flows ≡ true → numbers.now.flows ≤ 65536) → (numbers.now.has_flows ≡ false → numbers.now.flows ≡ 1)
+        → resumed (first_numbers numbers.now.handle result) result ≡ emptied numbers.now memory }
     ensures state { numbers.now.has_flows ≡ false → result.after ≡ state.now }
-    ensures flows { numbers.now.has_flows ≡ true → result.x1 ≡ flows }
 {
     let has_flows = numbers.has_flows;
-    let (length_before, bytes_before) = peeked_fields(numbers);
     Step {
         kind: Kind::Resume,
         has_flows,
-        length_before,
-        bytes_before,
         length_after: numbers.length,
         bytes_after: numbers.bytes,
         limit: numbers.params.limit,
@@ -146,31 +110,17 @@ fn resume_step(numbers: &QueueNumbers, memory: u32, flows: u32, state: &LinuxSta
             memory_field(memory),
         ],
         truesize: numbers.memory_limit,
-        x0: match numbers.params.marks {
-            MarkLimit::Percent(percent) => percent,
-            MarkLimit::Tenth => 0,
-        },
-        x1: if has_flows { flows } else { 0 },
+        x0: percent_of(numbers.params.marks),
+        x1: if has_flows { numbers.flows } else { 0 },
+        x2: numbers.quantum,
         after: if has_flows {
-            blank(Kind::Resume, true).after
+            blank(Kind::Resume, true, true).after
         } else {
             *state
         },
         params: numbers.params,
         stats: numbers.stats,
-        ..blank(Kind::Resume, has_flows)
-    }
-}
-
-/// Returns the row of a departed packet with this length.
-fn departed_step(has_flows: bool, length: u32) -> Step
-    ensures length { result.packet_length ≡ length }
-    ensures departed { result.x0 ≡ 2 }
-{
-    Step {
-        packet_length: length,
-        x0: DEPARTED,
-        ..blank(Kind::Wait, has_flows)
+        ..blank(Kind::Resume, has_flows, true)
     }
 }
 
@@ -183,7 +133,7 @@ fn flow_step(numbers: &FlowNumbers, length: u32) -> Step
         length_after: length,
         x1: u32::from(numbers.listed),
         after: numbers.state,
-        ..blank(Kind::Flow, true)
+        ..blank(Kind::Flow, true, true)
     }
 }
 
@@ -199,7 +149,7 @@ fn wait_step(has_flows: bool, waiting: &Waiting) -> Step
         enqueued: waiting.enqueued,
         moment: waiting.moment,
         x0: 0,
-        ..blank(Kind::Wait, has_flows)
+        ..blank(Kind::Wait, has_flows, true)
     }
 }
 
@@ -235,25 +185,11 @@ impl QueueRows<'_> {
             None => LinuxState::new(),
         };
         let flows = u32::try_from(queue.flows.len()).unwrap_or(u32::MAX);
-        let resume = resume_step(&queue.numbers, other_memory(queue), flows, &state);
+        let resume = resume_step(&queue.numbers, other_memory(queue), &state);
         self.write_row(None, self.moment, resume, output)?;
-        self.write_departed(queue, output)?;
         for place in 0..flows {
             if let Some(flow) = queue.flows.get(place as usize) {
                 self.write_flow(queue.numbers.has_flows, place, flow, output)?;
-            }
-        }
-        Ok(())
-    }
-
-    /// Writes the rows of the last departures.
-    fn write_departed<W: Write>(&self, queue: &Queue, output: &mut W) -> io::Result<()> {
-        let has_flows = queue.numbers.has_flows;
-        for back in 0..RETURNED {
-            let before = RETURNED - back;
-            if before <= queue.count {
-                let length = queue.sent[queue.count.wrapping_sub(before) % RETURNED];
-                self.write_row(None, self.moment, departed_step(has_flows, length), output)?;
             }
         }
         Ok(())

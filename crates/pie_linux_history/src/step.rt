@@ -5,7 +5,6 @@ ghost use Rattle.pie_linux_history.specs.Columns.{padded, queue_name};
 ghost use Rattle.pie_linux_history.specs.LookBack.{name_of};
 ghost use Rattle.pie_linux_history.specs.Queue.{is_part};
 
-use crate::difference::Column;
 use pie_linux::{LinuxParams, LinuxState, LinuxStats};
 use std::fmt;
 
@@ -131,6 +130,8 @@ pub(crate) struct Step {
     pub kind: Kind,
     /// True for fq_pie.
     pub has_flows: bool,
+    /// True if the text has the columns `rq`, `rqb`, `drop` and `moved`, that is, each input of a step.
+    pub has_returned: bool,
     /// The number of the step in its queue.
     pub number: u64,
     /// The time since the kernel's boot, in nanoseconds.
@@ -157,11 +158,11 @@ pub(crate) struct Step {
     pub limit: u32,
     /// The return value of enqueue.
     pub returned: u32,
-    /// The packet's protocol.
+    /// The packet's protocol, behind its VLAN tags if the text has it.
     pub protocol: u16,
     /// The first two bytes of the packet's network header.
     pub header: u16,
-    /// True if the packet contains the network header.
+    /// True if the packet's first part contains the network header.
     pub contained: bool,
     /// The return value of `pie_drop_early`, 255 if it was not called.
     pub early: u32,
@@ -173,15 +174,19 @@ pub(crate) struct Step {
     pub enqueued: u64,
     /// Readings of the clock in a departure with the rate estimator, in nanoseconds.
     pub readings: [u64; 3],
+    /// The number of these readings.
+    pub reads: u32,
     /// The hash of fq_pie.
     pub hash: u32,
+    /// The priority of fq_pie's packet, which may be a class of the queue.
+    pub priority: u32,
     /// The packet's memory in bytes; at `init`, `resume` and `change` fq_pie's memory limit.
     pub truesize: u32,
-    /// fq_pie's memory before an arrival; at `wait` 1 for a packet at which the parent has peeked, 2 for one that departed; at `init`, `resume` and `change` fq_pie's `ecn_prob`.
+    /// fq_pie's memory before an arrival; at `wait` 0 for a packet that waits; at other rows of a queue fq_pie's `ecn_prob`.
     pub x0: u32,
-    /// fq_pie's memory after an arrival; at `flow` 1 if packets wait; at `init` and `resume` the number of flows.
+    /// fq_pie's memory after an arrival and a departure; at `flow` 1 if packets wait; at other rows of a queue the number of flows.
     pub x1: u32,
-    /// The number of arrivals at which fq_pie's memory exceeded its limit.
+    /// The number of arrivals at which fq_pie's memory exceeded its limit; at other rows of a queue fq_pie's quantum.
     pub x2: u32,
     /// The state after the step.
     pub after: LinuxState,
@@ -189,4 +194,23 @@ pub(crate) struct Step {
     pub params: LinuxParams,
     /// The counters after the step.
     pub stats: LinuxStats,
+    /// The packets that the device returned, or at which the parent peeked. The kernel counts them beside those that wait.
+    pub returned_packets: u32,
+    /// Their bytes (`qdisc_pkt_len`).
+    pub returned_bytes: u32,
+    /// True for a departure that a change of fq_pie's limit dropped.
+    pub is_drop: bool,
+    /// The returned packets that a change dropped.
+    pub moved: u32,
+}
+
+/// The flow of a row, and the priority and the hash that choose it if the row has none.
+#[derive(Clone, Copy)]
+pub(crate) struct FlowIn {
+    /// The flow, if the row has it.
+    pub flow: Option<u32>,
+    /// The priority.
+    pub priority: u32,
+    /// The hash.
+    pub hash: u32,
 }

@@ -5,7 +5,7 @@ use crate::explained::{DecidedPacket, Explained};
 use crate::fault::StepsFault;
 use crate::queues::{Queues, StepDifference};
 use crate::reports::StepsExplained;
-use crate::step::{Kind, QueueName, Step};
+use crate::step::{FlowIn, Kind, QueueName, Step};
 use crate::text::{StepsFinding, StepsReader, read_columns};
 use pie_record::{Record, Records};
 use std::alloc::{AllocError, Global};
@@ -166,14 +166,14 @@ impl<'q, R: Read + Drop> DecidedSteps<'q, R> {
             self.queues.counts.events = self.queues.counts.events.wrapping_add(1);
             return Ok(None);
         }
-        let (flow, hash) = self.columns.flow_and_hash(&self.fields);
-        let before = self.numbers_at(flow, hash);
+        let which = self.columns.flow_in(&self.fields);
+        let before = self.numbers_at(which);
         match self.queues.take(&self.columns, &self.fields) {
             Ok(None) => {}
             Ok(Some(found)) => return Ok(Some(NextStep::Differs(found))),
             Err(why) => return Err(why),
         }
-        let after = self.numbers_at(flow, hash);
+        let after = self.numbers_at(which);
         let Some((queue, step, arrival)) = self.queues.last_step() else {
             return Ok(None);
         };
@@ -183,10 +183,10 @@ impl<'q, R: Read + Drop> DecidedSteps<'q, R> {
         }
     }
 
-    /// Returns the numbers of the row's queue, and of this flow or of the flow of this hash.
-    fn numbers_at(&self, flow: Option<u32>, hash: u32) -> Option<StepNumbers> {
+    /// Returns the numbers of the row's queue and of this flow, or of the one that the priority or the hash chooses.
+    fn numbers_at(&self, which: FlowIn) -> Option<StepNumbers> {
         let queue = self.columns.queue(&self.fields);
-        self.queues.numbers_at(queue, flow, hash)
+        self.queues.numbers_at(queue, which)
     }
 
     /// Returns the place of a queue's updates.

@@ -7,9 +7,9 @@ pub loop-column-init : goal.loop-column-init
 loop-column-init c = filled-none (column_at c.args.names.now) _
 
 pub loop-column-preserved : goal.loop-column-preserved
-loop-column-preserved c = filled-more (column_at c.args.names.now) 52 c.loop-column.column c.loop-column.places c.in-Ok.place
+loop-column-preserved c = filled-more (column_at c.args.names.now) 58 c.loop-column.column c.loop-column.places c.in-Ok.place
     c.loop-column.invariant c.loop-column-test.true cc
 
 pub returns-in-Err : goal.returns-in-Err
-returns-in-Err c = sym (filled-first (column_at c.args.names.now) 52 c.loop-column.column c.loop-column.places c.in-Err.why
+returns-in-Err c = sym (filled-first (column_at c.args.names.now) 58 c.loop-column.column c.loop-column.places c.in-Err.why
     c.loop-column.invariant c.loop-column-test.true cc)

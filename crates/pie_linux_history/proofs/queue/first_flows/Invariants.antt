@@ -1,5 +1,4 @@
 use Rattle.std.proofs.Common.{◌≡◌, replicate}
-use Rattle.pie_linux_history.specs.declared.numbers.FlowNumbers.{FlowNumbers}
 use Rattle.pie_linux_history.specs.Queue.{first_flow}
 use Rattle.pie_linux_history.proofs.queue.first_flows.Given as goal
 

@@ -7,10 +7,10 @@ pub loop-column-init : goal.loop-column-init
 loop-column-init c = filled-none (number_in c.args.self.now c.args.fields.now) _
 
 pub loop-column-preserved : goal.loop-column-preserved
-loop-column-preserved c = filled-more (number_in c.args.self.now c.args.fields.now) 47 c.loop-column.column c.loop-column.numbers c.in-Ok.number
+loop-column-preserved c = filled-more (number_in c.args.self.now c.args.fields.now) 53 c.loop-column.column c.loop-column.numbers c.in-Ok.number
     c.loop-column.invariant c.loop-column-test.true cc
 
 pub returns-in-Err : goal.returns-in-Err
 unfolding numbers_of
-returns-in-Err c = sym (filled-first (number_in c.args.self.now c.args.fields.now) 47 c.loop-column.column c.loop-column.numbers c.in-Err.why
+returns-in-Err c = sym (filled-first (number_in c.args.self.now c.args.fields.now) 53 c.loop-column.column c.loop-column.numbers c.in-Err.why
     c.loop-column.invariant c.loop-column-test.true cc)

@@ -6,7 +6,7 @@ use Rattle.pie_linux_history.proofs.queue.Queue.queue.Goals as goal
 
 pub returns : goal.returns
 returns c = IfOk-weaker c.push.result _ _ (λ decision took. rw (← c.self.view_is) (steps-flow flow_waited None _ c.args.step.now
-    c.place-place.result c.in-Some.flow.now c.self.inside.numbers c.push.new.self decision _ (rw (← c.self.view_is) at c.place-place.ensures) c.in-Some.ensures.item.3.0
+    c.place-place.result c.in-Some.flow.now c.self.inside.numbers c.push.new.self decision (rw (← c.self.view_is) at c.place-place.ensures) c.in-Some.ensures.item.3.0
     c.in-Some.ensures.value (took c.self.inside.numbers))) c.push.ensures
 
 pub returns-in_default : goal.returns-in_default

@@ -50,7 +50,7 @@ for name in veth sch_netem sch_htb virtio virtio_ring virtio_pci_legacy_dev virt
 done
 find "$work/root/mods" -name '*.xz' -exec xz -d {} +
 cp "$(command -v busybox)" "$work/root/bin/"
-for path in "$(command -v tc)" "$(command -v ip)" "$(command -v iperf3)" "$work/built/pie-qdisc"; do
+for path in "$(command -v tc)" "$(command -v ip)" "$(command -v iperf3)" "$(PATH=$PATH:/usr/sbin command -v bpftool)" "$work/built/pie-qdisc"; do
     cp -n "$path" "$work/root/bin/"
     for library in $(ldd "$path" | grep -o '/[^ ]*'); do
         mkdir -p "$work/root${library%/*}"

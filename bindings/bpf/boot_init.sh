@@ -7,6 +7,16 @@ finds_disk
 $box mount -t bpf bpf /bpf
 $box sysctl -q -w net.ipv6.conf.default.disable_ipv6=1
 connects 4
+# (a packet of at most 65535 bytes is recorded with its size)
+/bin/ip -n a link set a0 gso_max_size 32768
+# knows NAMESPACE DEVICE ADDRESS OTHER ITS: the namespace knows the address of the device ITS in OTHER, so that no ARP packet comes later
+knows() {
+    /bin/ip -n $1 neigh replace $3 lladdr $(/bin/ip netns exec $4 $box cat /sys/class/net/$5/address) dev $2 nud permanent
+}
+knows a a0 10.0.1.2 r ra
+knows r ra 10.0.1.1 a a0
+knows r rb 10.0.2.1 b b0
+knows b b0 10.0.2.2 r rb
 /bin/tc -n b qdisc add dev b0 root netem delay 10ms limit 10000
 /bin/ip netns exec b /bin/iperf3 -s -D
 /bin/ip netns exec b /bin/iperf3 -s -D -p 5202
@@ -37,11 +47,26 @@ records() {
     $box sleep 0.1
 }
 
-# keeps NAME NAMESPACE DEVICE: keeps the statistics of the kernel and of pie-qdisc while no packet comes
+# keeps NAME NAMESPACE DEVICE: keeps the statistics of the kernel and of pie-qdisc when their numbers rest. No packet comes before `joins`, also none that TCP
+# sends again
 keeps() {
-    $box sleep 0.5
-    /bin/tc -n $2 -s -j qdisc show dev $3 > /tmp/$1.tc
+    /bin/ip -n a route replace blackhole 10.0.2.1
+    /bin/ip -n b route replace blackhole 10.0.1.1
+    until /bin/tc -n $2 -s -j qdisc show dev $3 > /tmp/earlier && $box sleep 0.4 && /bin/tc -n $2 -s -j qdisc show dev $3 > /tmp/$1.tc &&
+        $box cmp -s /tmp/earlier /tmp/$1.tc; do :; done
     within $2 show $3 --json > /tmp/$1.show
+}
+
+# joins NAME NAMESPACE DEVICE ADDRESS: records a packet to ADDRESS, from the state with which the record before must end
+joins() {
+    /bin/ip netns exec $2 $program --pins /bpf/pie record $3 > /tmp/$1.next 2> /tmp/$1.said &
+    reader=$!
+    $box sleep 0.1
+    /bin/ip netns exec $2 $box ping -q -c 1 -W 1 $4 > /dev/null || $box echo "$failing: no answer after $1"
+    $box kill $reader
+    wait $reader || $box echo "$failing: the reader after $1: $($box cat /tmp/$1.said)"
+    /bin/ip -n a route del blackhole 10.0.2.1 2> /dev/null
+    /bin/ip -n b route del blackhole 10.0.1.1 2> /dev/null
 }
 
 # ends STATUS: ends the reader, which has this status
@@ -89,6 +114,7 @@ udp 14M 1
 wait $sender
 keeps flows r rb
 ends 0
+joins flows r rb 10.0.2.1
 q show
 records killed rb
 tcp -t 2 &
@@ -100,6 +126,7 @@ records again rb
 wait $sender
 keeps again r rb
 ends 0
+joins again r rb 10.0.2.1
 
 # changed parameters and another rate, while packets are queued
 records changed rb
@@ -112,6 +139,7 @@ q change rb alpha 4 beta 30 max_burst 10ms || echo "FAILED change"
 wait $sender
 keeps changed r rb
 ends 0
+joins changed r rb 10.0.2.1
 refuses 'cannot change' change rb limit 10
 
 # a ring buffer that is too small for the pauses of its reader: each excerpt is clean, and the lost events are counted
@@ -128,6 +156,7 @@ tcp -t 1
 keeps small r rb
 name=small
 ends 2
+joins small r rb 10.0.2.1
 
 # detached under traffic: the record ends with the departures and the reset
 records detached rb
@@ -157,6 +186,8 @@ keeps choices r ra
 ends 0
 $box kill $second
 wait $second || echo "FAILED: the reader of choices"
+joins packets r rb 10.0.2.1
+joins choices r ra 10.0.1.1
 /bin/tc -n r -s qdisc show dev ra
 q show
 q detach ra
@@ -169,17 +200,41 @@ records plain rb
 tcp -n 6M
 keeps plain r rb
 ends 0
+joins plain r rb 10.0.2.1
 /bin/tc -n r qdisc del dev rb root
 /bin/tc -n r qdisc add dev rb root handle 1: htb default 1
 /bin/tc -n r class add dev rb parent 1: classid 1:1 htb rate 10mbit
 refuses 'only supported on root or mq' attach rb parent 1:1
 /bin/tc -n r qdisc del dev rb root
 
+# costs NAME: prints the time of a call of each program for the packets of UDP without a queue. In simulated time a nanosecond is an instruction
+costs() {
+    $box sysctl -q -w kernel.bpf_stats_enabled=1
+    udp 20M 1
+    $box sysctl -q -w kernel.bpf_stats_enabled=0
+    for call in enqueue dequeue; do
+        /bin/bpftool prog show name qdisc_op_$call > /tmp/$1.$call || echo "FAILED bpftool"
+        set -- $1 $($box sed -n 's/.*run_time_ns \([0-9]*\) run_cnt \([0-9]*\).*/\1 \2/p' /tmp/$1.$call)
+        [ $# = 3 ] || { echo "FAILED: no time of $call"; return; }
+        $box echo "TOLD $1: $(($2 / $3)) instructions for a call of $call, $3 calls"
+    done
+}
+attaches rb
+costs unrecorded
+q detach rb
+attaches rb
+records recorded rb
+costs recorded
+keeps recorded r rb
+ends 0
+joins recorded r rb 10.0.2.1
+q detach rb
+
 # four queues below mq
 /bin/ip -n r link add m0 numtxqueues 4 numrxqueues 4 type veth peer name m1 netns b
 /bin/ip -n r addr add 10.0.4.2/24 dev m0
 /bin/ip -n b addr add 10.0.4.1/24 dev m1
-/bin/ip -n r link set m0 up
+/bin/ip -n r link set m0 gso_max_size 32768 up
 /bin/ip -n b link set m1 up
 attaches m0 mq rate 3mbit
 for child in 1 2 3 4; do
@@ -201,6 +256,7 @@ $box sleep 0.1
 keeps segments b lo
 for pid in $($box pidof pie-qdisc); do $box kill $pid; done
 wait
+joins segments b lo 127.0.0.1
 [ "$($box grep -c '^arrive,.*,65[0-9][0-9][0-9],' /tmp/segments.history)" -gt 5 ] || echo "FAILED: no segment of 64 KiB"
 within b detach lo
 
@@ -210,12 +266,14 @@ for fault in $($box cat /mods/mutants); do
     program=/bin/pie-qdisc-$fault
     attaches rb rate 5mbit
     records mutant_$fault rb
-    tcp -t 1 &
+    # (a fault may stop TCP, and then iperf3's servers are busy)
+    /bin/ip netns exec a $box ping -q -i 0.001 -s 1400 -c 1500 -W 1 10.0.2.1 > /dev/null &
     sender=$!
-    udp 4M 1
+    /bin/ip netns exec a $box ping -q -i 0.003 -s 300 -c 500 -W 1 10.0.2.1 > /dev/null
     wait $sender
     keeps mutant_$fault r rb
     ends 0
+    joins mutant_$fault r rb 10.0.2.1
     q detach rb
 done
 cd /tmp

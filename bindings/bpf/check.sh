@@ -1,6 +1,6 @@
 #!/usr/bin/env bash
 # Builds pie-qdisc and its BPF programs without warnings, and runs it without a queue: --version prints the version of pie.h, and wrong words and options are
-# refused before a program is loaded. boot.sh runs it with a kernel.
+# refused before a program is loaded. The completion for bash offers the words of the usage. boot.sh runs it with a kernel.
 #
 # usage: bindings/bpf/check.sh
 # needs: nothing
@@ -53,4 +53,19 @@ for command in show "change lo" "record lo" "detach lo"; do
     # shellcheck disable=SC2086
     refuses 1 "pie-qdisc: no queue is attached ($work/pins/queues: No such file or directory)" $command
 done
+# completed WORD..: prints what the completion offers after these words
+completed() {
+    # shellcheck disable=SC2016
+    bash -c '. completions/pie-qdisc.bash; COMP_WORDS=(pie-qdisc "$@" "") COMP_CWORD=$(($# + 1)); _pie_qdisc; printf "%s\n" "${COMPREPLY[@]}"' completion "$@" | sort
+}
+"$work/pie-qdisc" > "$work/usage" 2>&1 || true
+# offers WANTED WORD..: the completion after these words is WANTED
+offers() {
+    [ "$(completed "${@:2}")" = "$1" ] || { echo "$me: the completion after ${*:2} is $(completed "${@:2}" | xargs), and not $(xargs <<< "$1")" >&2; exit 1; }
+}
+options=$(sed -n '/^options:/,$p' "$work/usage" | grep -o '\[ [a-z_]*' | cut -c3-)
+offers "$({ echo "$options"; printf '%s\n' mq parent; } | sort)" attach lo
+offers "$({ sed -n '/^options:/,/overhead/p' "$work/usage" | grep -o '\[ [a-z_]*' | cut -c3- | grep -v '^limit$'; echo parent; } | sort)" change lo
+offers "$({ sed -n 's/^.*pie-qdisc \([a-z]*\).*/\1/p' "$work/usage"; printf '%s\n' --pins --version; } | sort)"
+offers "$(sed -n 's/^.*pie-qdisc record DEV//p' "$work/usage" | grep -o -e '\[[a-z-]*' | tr -d '[' | sort)" record lo
 echo "$me: pie-qdisc $version builds without warnings, and refuses wrong words"

@@ -3,8 +3,9 @@
 
 FOLDER/NAME.history is a record, FOLDER/NAME.tc the output of `tc -s -j qdisc show` and FOLDER/NAME.show that of `pie-qdisc show --json`, both after the last
 packet. The record must be clean, and its last numbers of packets, bytes, drops by cause, and events must be those of NAME.show. The drops, the bytes and the
-length of the queue must be those of NAME.tc. mutant_NAME must have a fault. small.part and small.part.2 and so on are the excerpts of one record, whose lost
-events are between them.
+length of the queue must be those of NAME.tc. NAME.next is a record from the next packet on, which must begin with exactly the state that ends NAME.history.
+mutant_NAME must have a fault. small.part and small.part.2 and so on are the excerpts of one record, whose lost events are between them. mq.show and mq.tc are
+of four queues, whose records are mq1.history and so on.
 
 FOLDER/verified has the number of instructions that the kernel's verifier processed for each program. Each must be at most half more than that in verified.txt.
 
@@ -19,6 +20,10 @@ HERE = Path(__file__).parent
 PIE, FOLDER, FAULTS = sys.argv[1], Path(sys.argv[2]), sys.argv[3:]
 STATISTICS = ("arrivals", "enqueued", "marked", "early", "over_bytes", "over_packets", "left", "left_bytes", "empty", "updates", "resets", "changes")
 VERDICTS = {"enqueue": "enqueued", "mark": "marked", "early": "early", "bytes": "over_bytes", "packets": "over_packets"}
+ME = "bindings/bpf/sums.py"
+ALONE = ("killed", "detached")  # records without statistics
+CAP = 65535  # the greatest size of an event
+MOST = 1 << 17  # bytes of a packet
 problems = []
 
 
@@ -33,6 +38,7 @@ class Record:
         self.sums = dict(zip(STATISTICS, map(int, first[-15:])))
         self.begins = self.events = int(first[29 + (len(first) == 61)])
         self.queued = int(first[31 + (len(first) == 61)])
+        self.capped = 0  # departures that were counted with 65535 bytes
         for row in rows[1:]:
             self.add(row)
 
@@ -47,6 +53,7 @@ class Record:
         elif row[0] == "depart":
             self.sums["left"] += 1
             self.sums["left_bytes"] += int(row[5])
+            self.capped += int(row[5]) == CAP
             self.queued -= 1
         else:
             self.sums[{"update": "updates", "reset": "resets", "params": "changes"}[row[0]]] += 1
@@ -66,27 +73,42 @@ def faults_of(name, path):
         return [f"{answer}; {why}"], None
     if answer.rsplit(": ", 1)[-1] != f"clean,{record.events - record.begins}" and answer.rsplit(": ", 1)[-1] != f"clean,{record.events}":
         found.append(answer)
-    return found + compared(name, record), record
+    return found + compared(name, record) + joined(name, path), record
+
+
+def joined(name, path):
+    """Compares the state at the end of a record with that at the beginning of the next one."""
+    after = FOLDER / f"{name}.next"
+    if not after.exists():
+        return []
+    done = subprocess.run([PIE, "audit", "--joined", path, after], stdout=subprocess.PIPE, stderr=subprocess.STDOUT, text=True, check=False)
+    return [] if f"{after}: follows\n" in done.stdout else [done.stdout.strip().replace("\n", "; ")]
+
+
+def queue_of(name, ending):
+    """Returns the statistics of the queue of a record."""
+    child = re.fullmatch(r"(mq)(\d)", name)
+    queues = json.loads((FOLDER / f"{child[1] if child else name}.{ending}").read_text())
+    found = [it for it in queues if it["kind"] == "bpf_pie" and (not child or it["parent"] == f"1:{child[2]}")]
+    return found[0] if len(found) == 1 else sys.exit(f"{ME}: {name}.{ending} has {len(found)} queues")
 
 
 def compared(name, record):
     """Compares the sums of a record with those of the kernel and of pie-qdisc."""
-    if not (FOLDER / f"{name}.show").exists():
+    if name in ALONE:
         return []
-    shown = json.loads((FOLDER / f"{name}.show").read_text())
-    kernel = [it for it in json.loads((FOLDER / f"{name}.tc").read_text()) if it["kind"] == "bpf_pie"]
-    if len(shown) != 1 or len(kernel) != 1:
-        return [f"{len(shown)} and {len(kernel)} queues"]
-    shown, kernel, sums = shown[0], kernel[0], record.sums
+    shown, kernel = queue_of(name, "show"), queue_of(name, "tc")
+    sums = record.sums
     drops = sums["early"] + sums["over_bytes"] + sums["over_packets"]
     mine = {"events": record.events, "packets": sums["left"], "bytes": sums["left_bytes"], "drops": drops, "early": sums["early"], "over_bytes": sums["over_bytes"],
             "over_packets": sums["over_packets"], "qlen": record.queued, "refused": 0, "lost": 0}
     found = [f"{key} {value}, and pie-qdisc has {shown[key]}" for key, value in mine.items() if shown[key] != value and (name, key) != ("small", "lost")]
     kernels = {"drops": drops, "qlen": record.queued, "backlog": shown["backlog"], "handle": shown["handle"]}
-    if name not in ("plain", "segments"):
-        # (there, `tc` has more bytes of packets above 65535)
-        kernels["bytes"] = sums["left_bytes"]
-    return found + [f"{key} {value}, and tc has {kernel[key]}" for key, value in kernels.items() if kernel[key] != value]
+    found += [f"{key} {value}, and tc has {kernel[key]}" for key, value in kernels.items() if kernel[key] != value]
+    # (the kernel counts each byte of a longer packet)
+    if not sums["left_bytes"] <= kernel["bytes"] <= sums["left_bytes"] + record.capped * (MOST - CAP):
+        found.append(f"bytes {sums['left_bytes']}, {record.capped} packets of at least {CAP} among them, and tc has {kernel['bytes']}")
+    return found
 
 
 def small():
@@ -95,7 +117,7 @@ def small():
     before, after = (json.loads((FOLDER / f"small.{it}").read_text())[0] for it in ("before", "show"))
     kept, end = 0, None
     for number, part in enumerate(parts, 1):
-        found, record = faults_of(f"part {number}", part)
+        found, record = faults_of("small" if number == len(parts) else "killed", part)
         problems.extend(f"small: excerpt {number}: {it}" for it in found)
         if record:
             kept += record.events - record.begins
@@ -119,19 +141,11 @@ def mutants():
 
 
 def multiqueue():
-    """Compares the sums of the four queues below mq with those of the kernel."""
-    shown = {it["parent"]: it for it in json.loads((FOLDER / "mq.show").read_text())}
-    kernel = {it["parent"]: it for it in json.loads((FOLDER / "mq.tc").read_text()) if it["kind"] == "bpf_pie"}
-    if shown.keys() != kernel.keys() or len(shown) != 4:
-        problems.append(f"mq: {sorted(shown)} and {sorted(kernel)}")
-    busy = 0
-    for parent in sorted(shown.keys() & kernel.keys()):
-        busy += shown[parent]["packets"] > 20
-        for key in ("bytes", "drops", "qlen", "backlog"):
-            if shown[parent][key] != kernel[parent][key]:
-                problems.append(f"mq: {parent} has {key} {shown[parent][key]}, and tc {kernel[parent][key]}")
-    if busy < 2:
-        problems.append(f"mq: packets in {busy} queues")
+    """Checks that packets came to several of the four queues below mq."""
+    shown = json.loads((FOLDER / "mq.show").read_text())
+    busy = sum(it["packets"] > 20 for it in shown)
+    if len(shown) != 4 or busy < 2:
+        problems.append(f"mq: packets in {busy} of {len(shown)} queues")
 
 
 def verified():
@@ -162,5 +176,5 @@ small()
 multiqueue()
 mutants()
 for problem in problems:
-    print(f"bindings/bpf/sums.py: {problem}", file=sys.stderr)
+    print(f"{ME}: {problem}", file=sys.stderr)
 sys.exit(1 if problems else 0)

@@ -21,6 +21,9 @@ fi
 version=$(sed -n 's/^#define PIE_VERSION "\(.*\)"$/\1/p' include/pie.h)
 [ "$("$work/pie-watch" --version)" = "pie-watch $version" ] || { echo "$me: another version than $version" >&2; exit 1; }
 
+diff <("$work/pie-watch" --help | grep -o -e '--[a-z-]*' | sort -u) <(sed -n '/^[.]SH OPTIONS/,/^[.]SH PRIV/s/\\-/-/gp' man/pie-watch.1 | grep -o -e '--[a-z-]*' | sort -u) ||
+    { echo "$me: man/pie-watch.1 has other options than pie-watch --help" >&2; exit 1; }
+
 # refuses TEXT WORD..: pie-watch with these words prints one line with this text, and writes no file
 refuses() {
     local text=$1
@@ -37,6 +40,11 @@ refuses '--segments needs --rotate' --segments 2 -o "$work/steps.csv" lo
 touch "$work/steps.csv.07"
 refuses 'steps.csv.07: the file exists' --rotate 64kb -o "$work/steps.csv" lo
 refuses '--duration is a number of seconds from 1 on: 0' --duration 0 lo
+for trigger in 'wait > 50' 'wait > 0ms' 'wait > 5xs' 'wait > 5ms ' 'wait > -1s' waits; do
+    refuses "--trigger is drop, or a time such as 'wait > 50ms': $trigger\$" --trigger "$trigger" lo
+done
+refuses '--after is a number of seconds from 1 on: 0' --after 0 lo
+refuses 'no such device' --trigger 'wait > 50ms' no_such_device
 refuses 'no such device' no_such_device -o "$work/steps.csv"
 printf 'pie-watch steps1' > "$work/old.steps"
 refuses 'another version of pie-watch wrote this file' text "$work/old.steps"

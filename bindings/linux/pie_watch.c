@@ -11,6 +11,7 @@
 #include <bpf/bpf.h>
 #include <errno.h>
 #include <getopt.h>
+#include <inttypes.h>
 #include <net/if.h>
 #include <signal.h>
 #include <stdlib.h>
@@ -21,8 +22,13 @@
 
 #define PROGRAM "pie-watch"
 #define MOST_RING 2048 /* MiB */
+#define LEAST_RING 32  /* MiB, by default */
+#define MOST_DEFAULT_RING 512
+#define MBIT_OF_MIB 80 /* the Mbit/s of a device for each MiB of the ring */
+#define MOST_SPEED 10000000 /* Mbit/s; some devices report another number if they have none */
 #define LEAST_SEGMENT 65536 /* bytes */
 #define MOST_SEGMENT (1ull << 50)
+#define SECOND 1000000000ull /* in nanoseconds */
 #define VERIFIER_COUNTS 4 /* log level: the verifier prints the instructions that it processed */
 
 static const char usage[] =
@@ -46,7 +52,11 @@ static const char usage[] =
     "      --segments N    Keep N segments, and remove older ones. Default: all\n"
     "  -d, --duration SECONDS\n"
     "                      End after this time. Default: at a signal\n"
-    "  -r, --ring MIB      Size of the ring buffer, a power of two. A larger one loses no steps when this program has to wait. Default: 32\n"
+    "  -t, --trigger EVENT End soon after the first packet that waited longer ('wait > 50ms', also us and s) or was dropped (drop). With --rotate and\n"
+    "                      --segments, the steps before it remain\n"
+    "      --after SECONDS Time from this packet to the end. Default: 1\n"
+    "  -r, --ring MIB      Size of the ring buffer, a power of two. A larger one loses no steps when this program has to wait. Default: 32, and up to 512\n"
+    "                      for network cards above 2.5 Gbit/s: 0.1 s of packets of 300 bytes\n"
     "      --anyway        Record on a kernel that is not known\n"
     "      --force         Replace an existing file\n"
     "  -v, --verbose       Print what libbpf says\n"
@@ -63,7 +73,9 @@ struct options {
     unsigned handle, ring, part;
     u64 rotate, segments; /* bytes of a segment, and the number of last ones that are kept; 0: one file, and all */
     u64 duration; /* in seconds; 0: until a signal */
-    bool is_all, is_compact, is_anyway, is_forced, is_verbose, is_text, has_clock;
+    u64 after;    /* in seconds, from the trigger to the end */
+    u64 most_wait; /* the trigger: a packet that waited more nanoseconds than this, or else a dropped one */
+    bool has_trigger, is_drop, is_all, is_compact, is_anyway, is_forced, is_verbose, is_text, has_clock;
 };
 
 /* A recording. */
@@ -75,6 +87,8 @@ struct recording {
     size_t links_count;
     struct watch_output output;
     bool has_fq_pie, has_ring_message;
+    u64 end; /* the moment at which it ends, in nanoseconds; 0: at a signal */
+    bool is_triggered;
     const char *fault;
 };
 
@@ -96,7 +110,40 @@ static void fail_file(const char *name) {
     exit(1);
 }
 
+static u64 nanoseconds(void) {
+    struct timespec time;
+    clock_gettime(CLOCK_MONOTONIC, &time);
+    return (u64)time.tv_sec * SECOND + (u64)time.tv_nsec;
+}
+
 /* ---- records */
+
+/* Returns the nanoseconds that the packet of a dequeue waited; with the rate estimator, which keeps no time of the enqueue, the estimated delay. */
+static u64 wait_of(const struct watch_dequeue *record) {
+    return (record->head.bits & WATCH_HAS_CLOCK ? record->vars.qdelay : record->vars.dq_tstamp - record->enqueued) << 6;
+}
+
+/* Returns true if the record has the packet that `options` describe. */
+static bool is_trigger(const struct options *options, const struct watch_head *head) {
+    if (options->is_drop)
+        return head->type == WATCH_ENQUEUE && head->ret != 0;
+    return head->type == WATCH_DEQUEUE && wait_of((const struct watch_dequeue *)head) > options->most_wait;
+}
+
+/* Lets the recording end some time after its trigger. */
+static void end_later(struct recording *recording, const struct watch_head *head) {
+    const struct options *options = recording->options;
+    u64 end = nanoseconds() + options->after * SECOND;
+    recording->is_triggered = true;
+    if (recording->end == 0 || end < recording->end)
+        recording->end = end;
+    fprintf(stderr, PROGRAM ": %s: step %u ", watch_text_name(&recording->output.text, head->queue), head->seq);
+    if (options->is_drop)
+        fprintf(stderr, "dropped a packet");
+    else
+        fprintf(stderr, "has a packet that waited %.3f ms", (double)wait_of((const struct watch_dequeue *)head) / 1e6);
+    fprintf(stderr, "; the recording ends in %llu s\n", (unsigned long long)options->after);
+}
 
 /* Writes a record to the output. */
 static void take_record(struct recording *recording, const struct watch_head *head, size_t bytes) {
@@ -108,6 +155,8 @@ static void take_record(struct recording *recording, const struct watch_head *he
     if (head->type == WATCH_QUEUE)
         fprintf(stderr, PROGRAM ": %s: %s\n", watch_text_name(&recording->output.text, head->queue),
                 ((const struct watch_queue *)head)->kind == WATCH_PIE ? "pie" : "fq_pie");
+    if (recording->options->has_trigger && !recording->is_triggered && is_trigger(recording->options, head))
+        end_later(recording, head);
     if (head->type == WATCH_DESTROY)
         fprintf(stderr, PROGRAM ": %s: removed\n", watch_text_name(&recording->output.text, head->queue));
 }
@@ -384,24 +433,21 @@ static void follow(struct recording *recording) {
     recording->has_ring_message |= needed != 0;
 }
 
-static u64 seconds(void) {
-    struct timespec time;
-    clock_gettime(CLOCK_MONOTONIC, &time);
-    return (u64)time.tv_sec;
-}
-
 /* Reads records from the ring until a signal comes, the time is over or an error occurs. */
 static void read_ring_buffer(struct recording *recording, struct ring_buffer *ring) {
-    u64 duration = recording->options->duration, begun = seconds(), last = begun;
-    while (!is_ended && recording->fault == NULL && recording->output.fault == 0 && (duration == 0 || seconds() - begun < duration)) {
+    u64 last = nanoseconds();
+    if (recording->options->duration != 0)
+        recording->end = last + recording->options->duration * SECOND;
+    while (!is_ended && recording->fault == NULL && recording->output.fault == 0 && (recording->end == 0 || nanoseconds() < recording->end)) {
         int count = ring_buffer__consume(ring);
         follow(recording);
         if (count > 0)
             continue;
         watch_output_flush(&recording->output);
-        if (seconds() != last)
+        if (nanoseconds() - last >= SECOND) {
             load_later(recording);
-        last = seconds();
+            last = nanoseconds();
+        }
         nanosleep(&(struct timespec){.tv_nsec = 2000000}, NULL);
     }
 }
@@ -471,6 +517,51 @@ static u64 read_size(const char *text) {
     return size << shift;
 }
 
+/* Reads the event that ends a recording: `drop`, or `wait > ` and a time as tc writes it. */
+static void read_trigger(struct options *options, const char *text) {
+    static const struct {
+        const char *name;
+        u64 nanoseconds;
+    } units[] = {{"us", 1000}, {"ms", 1000000}, {"s", SECOND}};
+    u64 number = 0;
+    char unit[3] = "";
+    int end = 0;
+    options->has_trigger = true;
+    options->is_drop = strcmp(text, "drop") == 0;
+    if (options->is_drop || (sscanf(text, "wait > %9" SCNu64 "%2[mus]%n", &number, unit, &end) == 2 && text[end] == '\0' && strchr(text, '-') == NULL)) {
+        for (size_t i = 0; i < sizeof units / sizeof *units; i++) {
+            if (strcmp(unit, units[i].name) == 0)
+                options->most_wait = number * units[i].nanoseconds;
+        }
+    }
+    if (!options->is_drop && options->most_wait == 0)
+        fail("--trigger is drop, or a time such as 'wait > 50ms': ", text);
+}
+
+/* Returns the ring's default size for a device of this namespace (NULL: all), by the greatest speed that they report, in MiB. The speed of a virtual device
+ * says nothing. */
+static unsigned ring_for(const char *device) {
+    struct if_nameindex *names = if_nameindex();
+    unsigned fastest = 0, ring = LEAST_RING;
+    for (const struct if_nameindex *it = names; it != NULL && it->if_index != 0; it++) {
+        char path[64];
+        unsigned speed; /* in Mbit/s */
+        snprintf(path, sizeof path, "/sys/class/net/%s/device", it->if_name);
+        bool is_asked = (device == NULL || strcmp(device, it->if_name) == 0) && access(path, F_OK) == 0;
+        snprintf(path, sizeof path, "/sys/class/net/%s/speed", it->if_name);
+        FILE *file = is_asked ? fopen(path, "r") : NULL;
+        if (file != NULL && fscanf(file, "%u", &speed) == 1 && speed <= MOST_SPEED && speed > fastest)
+            fastest = speed;
+        if (file != NULL)
+            fclose(file);
+    }
+    if (names != NULL)
+        if_freenameindex(names);
+    while (ring < MOST_DEFAULT_RING && ring * MBIT_OF_MIB < fastest)
+        ring *= 2;
+    return ring;
+}
+
 static void read_options(struct options *options, int count, char **words) {
     static const struct option names[] = {{"queue", required_argument, NULL, 'q'},
                                           {"all", no_argument, NULL, 'a'},
@@ -478,10 +569,12 @@ static void read_options(struct options *options, int count, char **words) {
                                           {"output", required_argument, NULL, 'o'},
                                           {"compact", no_argument, NULL, 'c'},
                                           {"rate-estimator", no_argument, NULL, 'e'},
-                                          {"rotate", required_argument, NULL, 't'},
+                                          {"rotate", required_argument, NULL, 'R'},
                                           {"segments", required_argument, NULL, 's'},
                                           {"ring", required_argument, NULL, 'r'},
                                           {"duration", required_argument, NULL, 'd'},
+                                          {"trigger", required_argument, NULL, 't'},
+                                          {"after", required_argument, NULL, 'A'},
                                           {"anyway", no_argument, NULL, 'w'},
                                           {"force", no_argument, NULL, 'f'},
                                           {"verbose", no_argument, NULL, 'v'},
@@ -489,13 +582,13 @@ static void read_options(struct options *options, int count, char **words) {
                                           {"version", no_argument, NULL, 'V'},
                                           {NULL, 0, NULL, 0}};
     int letter;
-    *options = (struct options){.ring = 32, .part = 1};
+    *options = (struct options){.part = 1, .after = 1};
     if (count > 1 && strcmp(words[1], "text") == 0) {
         options->is_text = true;
         words++;
         count--;
     }
-    while ((letter = getopt_long(count, words, "q:an:o:cer:d:vhV", names, NULL)) != -1) {
+    while ((letter = getopt_long(count, words, "q:an:o:cer:d:t:vhV", names, NULL)) != -1) {
         switch (letter) {
         case 'q':
             options->handle = read_handle(optarg);
@@ -515,7 +608,7 @@ static void read_options(struct options *options, int count, char **words) {
         case 'e':
             options->has_clock = true;
             break;
-        case 't':
+        case 'R':
             options->rotate = read_size(optarg);
             break;
         case 's':
@@ -526,6 +619,12 @@ static void read_options(struct options *options, int count, char **words) {
             break;
         case 'd':
             options->duration = read_number(optarg, UINT32_MAX, "--duration is a number of seconds from 1 on: ");
+            break;
+        case 't':
+            read_trigger(options, optarg);
+            break;
+        case 'A':
+            options->after = read_number(optarg, UINT32_MAX, "--after is a number of seconds from 1 on: ");
             break;
         case 'w':
             options->is_anyway = true;
@@ -599,6 +698,8 @@ int main(int count, char **words) {
     signal(SIGTERM, end);
     signal(SIGHUP, end);
     signal(SIGPIPE, SIG_IGN);
+    if (options.ring == 0)
+        options.ring = ring_for(options.device);
     if (!watch_can_record() || !wait_for_module())
         return 1;
     if (!watch_check(&checked, options.is_anyway))

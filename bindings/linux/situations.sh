@@ -32,7 +32,8 @@ LIMIT=${LIMIT:-1500} boot "net.ifnames=0 no_timer_check nowatchdog rcupdate.rcu_
 mkdir -p "$work/steps"
 tar -C "$work/steps" -xf "$work/disk"
 grep -E '^TOLD' "$work/console" | tr -d '\r' | sed 's/^TOLD/ /'
-"$watch" text --force -o "$work/steps/all.csv" "$work/steps/all.steps"
+# (a queue with the rate estimator loses its first steps)
+"$watch" text --force -o "$work/steps/all.csv" "$work/steps/all.steps" || [ $? = 2 ]
 # a file for each queue, whose number ends its name
 awk -F, -v folder="$work/steps" 'NR == 1 { names = $0; next } { n = $1 == "lost" ? $3 : $1; sub(".*/", "", n); file = folder "/queue_" n ".csv" }
     !(n in begun) { begun[n]; print names > file } { print > file }' "$work/steps/all.csv"

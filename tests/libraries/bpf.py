@@ -9,7 +9,9 @@ Numbers of 128 bits: the lines of dist/bpf/pie_c.ll that compute a product and a
 processor, and wide_numbers.c compares their results with gcc's __int128: 20 million random cases, and all pairs of odd ones.
 
 Decisions: bpf_calls.c makes 10 million random calls of dist/bpf/pie_c.ll, compiled for this processor, and of dist/'s assembly, over the ranges of all
-parameters, with each profile and all choices. The results must be equal.
+parameters, with each profile and all choices. The results must be equal. bpf_decides.c makes random histories of 10 million enqueues, and decides each
+event again by rules of its own (bpf_rules.h). bpf_qdisc.c runs pie_qdisc.bpf.c of bindings/bpf in the same way, as a kernel would, with 2.5 million
+packets.
 
 Faults are planted in each: they must be found.
 
@@ -180,15 +182,21 @@ def numbers(text, work, cases):
     return done.stdout or run([f"{work}/numbers", cases]).stdout
 
 
-def calls(text, work, count):
-    """Compares random calls of the module with those of libpie_c.a. Returns what bpf_calls.c prints, or the error."""
+def calls(text, work, program, count, qdisc="bindings/bpf/pie_qdisc.bpf.c"):
+    """Runs a program with the module, compiled for this processor, and the file of the queue discipline. Returns what it prints, or the error."""
     text = re.sub(r"^target datalayout = .*$", "", text.replace('target triple = "bpf"', 'target triple = "x86_64-unknown-linux-gnu"'), flags=re.M)
     text = re.sub(r"@(pie_(?!div_low)\w+)", r"@bpf_\1", text.replace('"target-cpu"="v4"', ""))
     done = run(["clang-19", "-O2", "-w", "-x", "ir", "-", "-c", "-o", f"{work}/calls.o"], text)
     if done.returncode:
         return done.stdout
-    words = ["gcc", "-O2", "-Wall", "-Wextra", "-Werror", "-Iinclude", "-Idist/bpf", "-o", f"{work}/calls", "tests/libraries/bpf_calls.c", f"{work}/calls.o", "dist/x86_64/pie_c.S"]
-    return run(words).stdout or run([f"{work}/calls", count]).stdout
+    words = ["gcc", "-O2", "-Wall", "-Wextra", "-Werror", "-Iinclude", "-Idist/bpf"]
+    if program == "bpf_qdisc":
+        words += ["-I.", "-Ibindings/bpf", f'-DQDISC="{qdisc}"', "-Wno-unknown-pragmas", "-Wno-attributes", "-Wno-unused-parameter"]
+    done = run([*words, "-o", f"{work}/calls", f"tests/libraries/{program}.c", f"{work}/calls.o", "dist/x86_64/pie_c.S"])
+    if done.stdout:
+        return done.stdout
+    done = run([f"{work}/calls", count])
+    return done.stdout if done.returncode == 0 or not done.stdout.startswith("equal: ") else f"too few of a kind: {done.stdout}"
 
 
 def main():
@@ -206,11 +214,15 @@ def main():
         for pattern, replacement in FAULTS[:FAULTS.index(None)]:
             wrong = re.sub(pattern, replacement, text)
             check(wrong != text and not numbers(wrong, work, "100000").startswith("equal: "), f"wide_numbers.c does not find the fault {pattern}")
-        found = calls(text, work, sys.argv[2] if len(sys.argv) > 2 else "10000000")
-        check(found.startswith("equal: "), f"decisions: {found}")
-        print(f"{NAME}: decisions: {found.strip()}")
-        for old, new in DECISIONS:
-            check(text.count(old) == 1 and not calls(text.replace(old, new), work, "200000").startswith("equal: "), f"bpf_calls.c does not find {new}")
+        for program, share in (("bpf_calls", 1), ("bpf_decides", 1), ("bpf_qdisc", 4)):
+            found = calls(text, work, program, int(sys.argv[2] if len(sys.argv) > 2 else 10_000_000) // share)
+            check(found.startswith("equal: "), f"{program}: {found}")
+            print(f"{NAME}: {program}: {found.strip()}")
+            for old, new in DECISIONS:
+                check(text.count(old) == 1 and not calls(text.replace(old, new), work, program, 200_000).startswith("equal: "), f"{program}.c does not find {new}")
+        for name in run(["bindings/bpf/mutant.py", f"{work}/mutants"]).stdout.split():
+            found = calls(text, work, "bpf_qdisc", 200_000, f"{work}/mutants/{name}/pie_qdisc.bpf.c")
+            check(name == "decision" or re.match(r"after \d+ events: ", found), f"bpf_qdisc.c does not find {name} of mutants.txt: {found}")
         if not module.exists():
             print(f"NOT RUN: {NAME}: no {module.relative_to(ROOT)} here (bindings/c/library.py writes it), so the lowering was not compared")
             finish()

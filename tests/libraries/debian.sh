@@ -59,6 +59,7 @@ root/usr/bin/pie audit < "$repository/bindings/c/example.history" | grep '^clean
 root/usr/bin/pie-tap --help > tap
 [ "$(root/usr/bin/pie-watch --version)" = "pie-watch $version" ] || fail "pie-watch has another version than $version"
 [ "$(root/usr/sbin/pie-qdisc --version)" = "pie-qdisc $version" ] || fail "pie-qdisc has another version than $version"
+cmp root/usr/share/bash-completion/completions/pie-qdisc "$repository/completions/pie-qdisc.bash"
 ! root/usr/sbin/pie-qdisc attach no_such_device 2> refused || fail "pie-qdisc attaches to a device that does not exist"
 ! root/usr/bin/pie-watch no_such_device 2> refused || fail "pie-watch records a device that does not exist"
 root/usr/bin/pie audit "$repository/tests/rows/linux_steps.csv" > found 2> lost || fail "the program does not audit recorded steps of Linux: $(cat found lost)"

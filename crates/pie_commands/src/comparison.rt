@@ -171,9 +171,9 @@ fn write_omitted<W: Write>(
     Ok(())
 }
 
-/// Returns the next number of a record. A field without a number is 0.
-fn next_number<'a, I: Iterator<Item = &'a str>>(fields: &mut I) -> u128 {
-    fields.next().unwrap_or("").parse().unwrap_or(0)
+/// Returns the number in a field. A field without a number is 0.
+fn number_of(field: Option<&str>) -> u128 {
+    field.unwrap_or("").parse().unwrap_or(0)
 }
 
 /// Writes the lines of all fields of the summaries, whose header is `names`. Returns the targets at the end.
@@ -193,9 +193,9 @@ fn write_fields<W: Write>(
     let mut targets = [0; 3];
     for name in names.split(',') {
         let numbers = [
-            next_number(&mut recorded),
-            next_number(&mut control),
-            next_number(&mut other),
+            number_of(recorded.next()),
+            number_of(control.next()),
+            number_of(other.next()),
         ];
         if name == "last_target" {
             targets = numbers;

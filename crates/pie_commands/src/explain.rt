@@ -1,5 +1,5 @@
 //! `pie explain`: the choice of events by its options, and its end.
-ghost use Rattle.std.specs.Prelude.{◌≡◌, ◌↔◌, None, true};
+ghost use Rattle.std.specs.Prelude.{◌≡◌, is_none};
 ghost use Rattle.clap.specs.Words.{found_of, rows_of};
 ghost use Rattle.pie_commands.specs.Selections.{chosen_events, every_of, is_selected, is_summary, may_combine, output_kind_of, selection_of, sums_kind};
 
@@ -86,7 +86,7 @@ fn report_choices<E: Write>(options: &ArgMatches<'_>, errors: &mut E) {
 
 /// Returns why the options exclude each other, if they do.
 fn conflict(options: &ArgMatches<'_>, is_every: bool) -> Option<&'static str>
-    ensures { result ≡ None ↔ may_combine is_every (rows_of (found_of options.now)) ≡ true }
+    ensures { is_none result ≡ may_combine is_every (rows_of (found_of options.now)) }
 {
     let (digest, csv) = (flag(options, "digest"), flag(options, "csv"));
     if digest && number(options, "flows").is_some() {

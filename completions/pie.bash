@@ -19,6 +19,8 @@ _pie() {
             help) words='run audit explain cut migrate storm params what-if advise help' ;;
             *) words='' ;;
         esac
+        # A word that is no option is a file: without a reply, bash offers files.
+        [[ $word == -* || $subcommand == help ]] || words=''
     fi
     COMPREPLY=($(compgen -W "$words" -- "$word"))
 }

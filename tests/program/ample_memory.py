@@ -2,8 +2,9 @@
 """Runs every subcommand on texts of great and of odd sizes while memory is ample, and compares status, messages and
 output. A contract that allows lack of memory also allows a body that always reports it above some size, so each
 size at which such a body may turn needs a text: lines at the limits of the fast reader, in bytes and in fields; a
-queue of 2^20 packets; 5.2 million events; 1000 flows; an unknown keyword after many records; and names of files as
-long as the system allows.
+queue of 2^20 packets; 5.2 million events, also as objects of JSON; 1000 flows; an unknown keyword after many records; names of
+files as long as the system allows; histories that are decided again by `what-if`; and texts of pie-watch with 4,752 steps of
+many queues and with 2.1 million rows.
 
 usage: tests/program/ample_memory.py [PROGRAM]      PROGRAM: crates/pie/out/pie by default
 needs: program, an early start"""
@@ -14,12 +15,12 @@ import tempfile
 from itertools import islice
 
 sys.path.insert(0, f"{os.path.dirname(os.path.abspath(__file__))}/../shared")
-from checks import NAME, check, finish, program  # noqa: E402
+from checks import NAME, ROOT, check, finish, program  # noqa: E402
 
 PROGRAM = program()
 OPEN3 = "open3,1,rate,derandomized,capped,unscaled,rolling"
 READERS = (["audit"], ["explain", "--all"], ["explain", "--summary"], ["cut", "--from", "0"], ["migrate"])
-EVENTS, PACKETS, FLOWS, LATE = 5_200_000, 2**20, 1000, 120_000
+EVENTS, PACKETS, FLOWS, LATE, ROWS = 5_200_000, 2**20, 1000, 120_000, 2_100_000
 STEP = 1000  # nanoseconds from one event of `many_events` to the next
 BYTES = (2046, 2047, 2048, 2049, 4096, 32767, 32768, 32769, 65535, 65536, 70000)
 FIELDS = (14, 15, 16, 63, 64, 65, 96, 97, 98, 127, 128, 129, 130, 255, 256, 257)
@@ -102,6 +103,11 @@ def full_queue(work):
     expect("excerpt of a full queue", ["explain"], run(["explain", "--all", "--csv"], name), 0, "", 2)
     expect("excerpt of a full queue", ["summary"], run(["explain", "--summary", "--csv"], name), 0, "", 2)
     expect("excerpt of a full queue", ["cut"], run(["cut", "--last", "1", name]), 0, "", PACKETS + 2, f"depart,1,{PACKETS},left,0,1,not\n")
+    words = ["what-if", "--from", "0", "--target", "5ms", "-o", f"{work}/other"]
+    got = run(words, name)
+    check(got[:2] == (0, b""), "what-if of a full queue:", got[0], got[2][:200])
+    expect("what-if of a full queue", ["audit"], run(["audit"], f"{work}/other"), 0, "", 1, f"clean,{PACKETS + 2}\n")
+    os.remove(f"{work}/other")
     with open(name, encoding="ascii") as file:
         write(f"{work}/again", [*islice(file, PACKETS + 1), "depart,1,9\n", "show\n"])
     got = run(["run"], f"{work}/again")
@@ -119,7 +125,7 @@ def many_events(work):
     tries = [
         (["audit"], 1, f"clean,{EVENTS}\n"), (["migrate"], EVENTS + 1, last), (["explain", "--all", "--csv"], EVENTS + 1, None),
         (["explain", "--lost", "--csv"], 1, None), (["explain", "--marked", "--csv"], 1, None), 
-        (["explain", "--event", str(EVENTS), "--csv"], 2, None), (["explain", "--from", latest, "--all", "--csv"], 2, None),
+        (["explain", "--all", "--json"], EVENTS, None), (["explain", "--event", str(EVENTS), "--csv"], 2, None), (["explain", "--from", latest, "--all", "--csv"], 2, None),
         (["explain", "--summary", "--csv"], 2, None), (["explain", "--every", f"{5 * STEP}ns", "--csv"], EVENTS // 5 + 1, None),
         (["explain", "--flows", "3", "--csv", "--every", f"{5 * STEP}ns"], 1, None), (["explain", "--digest", "--every", "10ms", "--csv"], None, None),
         (["cut", "--from", "0"], EVENTS + 1, last), (["cut", "--from", latest], 2, last), (["cut", "--to", first], 3, f"depart,7,{STEP},empty\n"),
@@ -142,6 +148,9 @@ def segments(work):
     name, opening = f"{work}/whole", f"{OPEN3},0,4,16,140737488355328\n"
     half = EVENTS // 10
     write(name, [opening, *("depart,7,1,empty\n" for _ in range(2 * half))])
+    words = ["what-if", "--from", "1ns", "--limit", "1000", "--csv"]
+    got = run(words, name)
+    check(got[0] == 0 and f"\nevents,{2 * half},{2 * half},{2 * half},0\n".encode() in got[1], "what-if of many events:", got[0], got[1][:300], got[2][:200])
     words = ["cut", "--every", str(half)]
     got = run(words, name)
     expect("segments", words, got, 0, "", 2 * half + 2)
@@ -204,6 +213,33 @@ def long_names(work):
         os.remove(name)
 
 
+def linux_steps(work):
+    """Twelve copies of the recorded steps of Linux, each of queues of its own; and many rows of lost steps."""
+    names, *rows = (ROOT / "tests/rows/linux_steps.csv").read_text().splitlines(keepends=True)
+    queue = [line.split(",")[2].strip() if line.startswith("lost,") else line.split(",")[0] for line in rows]
+    copies = [line.replace(name, f"{name}x{copy}", 1) for copy in range(12) for line, name in zip(rows, queue)]
+    lost = 12 * sum(int(line.split(",")[1]) for line in rows if line.startswith("lost,"))
+    write(f"{work}/steps", [names, *copies])
+    told = f"pie: steps that were lost when the text was recorded: {lost}\n"
+    for words, count in ((["audit"], 1), (["audit", "--json"], 1), (["explain", "--summary", "--csv"], 2), (["explain", "--flows", "3", "--json"], 4),
+                         (["explain", "--all", "--csv"], None), (["explain", "--lost"], None), (["cut", "--from", "0"], None)):
+        expect("steps of Linux", words, run(words, f"{work}/steps"), 0, "" if words[0] == "cut" else told, count)
+    write(f"{work}/steps", [names, *("lost,1,dev/1:/0\n" for _ in range(ROWS))])
+    told = f"pie: steps that were lost when the text was recorded: {ROWS}\n"
+    expect("lost steps", ["audit"], run(["audit"], f"{work}/steps"), 0, told, 1, f"clean,{ROWS}\n")
+    expect("lost steps", ["explain"], run(["explain", "--all", "--csv"], f"{work}/steps"), 0, told, 1)
+
+
+def options(work):
+    """The subcommands that read no text, with long lists of options."""
+    words = ["params", "--rate", "100mbit", "--target", "20ms", "--tupdate", "30ms", "--limit", "2000p", "--alpha", "3", "--beta", "31", "--ecn", "--bytemode",
+             "--mtu", "9000", "--dq_rate_estimator", "--no_derandomization", "--no_cap_drop_adjustment", "--decay", "half", "--overhead=-14", "--mpu", "64", "--linklayer", "atm"]
+    got = run(words)
+    check(got[0] == 0 and got[1].startswith(b"open3,"), "params:", got)
+    got = run(["advise", "--rate", "10gbit", "--rtt", "1ms-10s", "--flows", "1-1000000", "--overhead", "64511", "--ecn"])
+    check(got[0] == 0 and got[1].count(b"\n") > 20, "advise:", got)
+
+
 def storms(work):
     """Storms with the most folds, changes and packets."""
     for words in (["--folds", "100", "--changes", "100", "--packets", "2000"], ["--folds", "100", "--senders", "8", "--packets", "10000", "--burst", "1024"]):
@@ -217,7 +253,7 @@ def storms(work):
 
 def main():
     with tempfile.TemporaryDirectory() as work:
-        for part in (lines, full_queue, many_events, segments, flows, late_faults, long_names, storms):
+        for part in (lines, full_queue, many_events, segments, flows, late_faults, long_names, linux_steps, options, storms):
             part(work)
             print(f"{NAME}: {part.__name__}")
     finish()

@@ -3,7 +3,7 @@
 parameters out of range, segments that follow, leave a gap, repeat events or differ at the joint, a file with a fault and a
 missing one, standard input, and files whose names have quotes, backslashes, control characters and letters beyond ASCII.
 Python's json and jq, if it is installed, read each line. The status and standard error must be equal. The records of an event
-that differs must be those of standard error.
+that differs, and the reason why the rules allow none, must be those of standard error; so must the numbers of a step of pie-watch.
 
 usage: tests/program/audit_json.py [PROGRAM]      PROGRAM: crates/pie/out/pie by default
 needs: program
@@ -18,7 +18,7 @@ import tempfile
 from pathlib import Path
 
 sys.path.insert(0, f"{os.path.dirname(os.path.abspath(__file__))}/../shared")
-from checks import NAME, check, finish  # noqa: E402
+from checks import NAME, ROOT, check, finish  # noqa: E402
 from excerpts import segments_of  # noqa: E402
 from running import PROGRAM, TRACE, run  # noqa: E402
 
@@ -35,7 +35,7 @@ def objects_of(output, errors):
         numbers = list(map(int, numbers))
         if kind in ("clean", "differs"):
             found.append({"file": name, "finding": kind, "events" if kind == "clean" else "event": numbers[0]})
-            for key, words in (("recorded", rf"event {numbers[0]} is recorded as"), ("right", "the rules give")):
+            for key, words in (("recorded", rf"event {numbers[0]} is recorded as"), ("right", "the rules give"), ("reason", "the rules allow no such event:")):
                 record = re.search(rf"^pie: {re.escape(name)}: {words} (.*)$", errors, re.M)
                 if kind == "differs" and record:
                     found[-1][key] = record[1]
@@ -70,7 +70,7 @@ def main():
     check(wrong != history, "no event was changed")
     with tempfile.TemporaryDirectory() as folder:
         files = {"clean": history, "wrong": wrong, "range": history + b"params,5,1001009,0,1,50,850000,0,1,100000,1000000000000,1024,done\n",
-                 "refused": history + b"update,5,1001009,0,0,0\n", "fault": history + b"x\n",
+                 "refused": history + b"arrive,5,1001009,9,0,not,0,enqueue\n", "fault": history + b"x\n",
                  "other": parts[1].replace(",100,2,1,", ",100,3,1,", 1).encode(),
                  **{f"part{place}": part.encode() for place, part in enumerate(parts)}, **{name: history for name in NAMES}}
         for name, text in files.items():
@@ -78,6 +78,19 @@ def main():
         for name in ("clean", "wrong", "range", "refused", "fault", "missing"):
             hold(name, folder, [name])
         check("right" in hold("a difference", folder, ["wrong"])[0], "no right record")
+        out = hold("parameters out of range", folder, ["range"])[0]
+        check(out["reason"] == "the parameter target is out of its range" and out["recorded"].startswith("params,5,1001009,0,1,50,"), "parameters out of range", out)
+        check(hold("a refusal", folder, ["refused"])[0]["reason"] == "packet size out of range", "a refusal")
+        steps = (ROOT / "tests/rows/linux_steps.csv").read_text().splitlines(keepends=True)
+        at = 8
+        for name, text in (("steps", "".join(steps)), ("skipped", "".join([*steps[:at], *steps[at + 1 :]]))):
+            (Path(folder) / name).write_text(text)
+            _, output, errors = audited(folder, ["--json", name])
+            one, told = json.loads(output), errors.splitlines()[0].partition(f"pie: {name}: ")[2]
+            if name == "steps":
+                check(one["finding"] == "clean" and told == f"steps that were lost when the text was recorded: {one['lost']}", "lost steps", one, told)
+            else:
+                check(one["finding"] == "differs" and told == one["reason"] and told.endswith(f" is recorded as {one['recorded']}, the rules give {one['right']}"), "a step", one, told)
         check(len(hold("files", folder, ["clean", "missing", "wrong", "fault", "clean"])) == 3, "files")
         joined = [f"part{place}" for place in range(len(parts))]
         for what, names in (("follow", joined), ("a gap", [joined[0], *joined[2:]]), ("both", [*joined[:2], joined[1]]), ("unlike", [joined[0], "other"])):

@@ -2,7 +2,8 @@
 """Damages texts, and compares the program's status, output and error stream with those of the reader and the
 reference of tests/shared/reference_texts.py: of `run` for a trace; of `audit`, and of `migrate` or `explain --all
 --csv`, which read like the audit, for a history. Each text is in a file, so that the lines after the line of a fault name
-its cause, as tests/shared/reference_causes.py finds it. First come malformed texts written by hand, then the richest
+its cause, as tests/shared/reference_causes.py finds it. First come malformed texts written by hand, and damaged rows of
+a text of pie-watch, then the richest
 traces and histories of each version and both profiles. A text of version one is cut at every byte, and each of its
 bytes is changed, in a sample of places to two values. Of later versions each byte of the first record is changed,
 because only that record has another format, and one in THIN of the other bytes. One call audits many texts as
@@ -24,7 +25,7 @@ from concurrent.futures import ProcessPoolExecutor
 sys.path.insert(0, f"{os.path.dirname(os.path.abspath(__file__))}/../shared")
 import reference_texts as plain  # noqa: E402
 from reference_causes import cause, number_allowed  # noqa: E402
-from checks import NAME, check, finish  # noqa: E402
+from checks import NAME, ROOT, check, finish  # noqa: E402
 from running import PROGRAM, TRACE, run  # noqa: E402
 
 # The trace in version two and the second profile, whose controller the third arrival activates; and in version
@@ -226,11 +227,47 @@ def causes():
             (b"\x1f\x8b\x08\x00", "is compressed by gzip; zcat {0} | pie run .. reads it"),
             (b"\xd4\xc3\xb2\xa1", "is a packet capture, and no text of records"),
             (b"\n\r\r\n\x1c", "is a packet capture, and no text of records"),
+            (b"\xfd7zXZ\x00", "is compressed by xz; xzcat {0} | pie run .. reads it"),
+            (b"\x28\xb5\x2f\xfd", "is compressed by zstd; zstdcat {0} | pie run .. reads it"),
+            (b"BZh9", "is compressed by bzip2; bzcat {0} | pie run .. reads it"),
             (b"\xff\xfeo\x00", "is in UTF-16; iconv -f UTF-16 -t UTF-8 {0} | pie run .. reads it"),
+            (b"\xff\xfe\x00\x00", "is in UTF-32; iconv -f UTF-32 -t UTF-8 {0} | pie run .. reads it"),
+            (b"\x00\x00\xfe\xff", "is in UTF-32; iconv -f UTF-32 -t UTF-8 {0} | pie run .. reads it"),
+            (b"o\x00p\x00", "is in UTF-16LE; iconv -f UTF-16LE -t UTF-8 {0} | pie run .. reads it"),
+            (b"\x00o\x00p", "is in UTF-16BE; iconv -f UTF-16BE -t UTF-8 {0} | pie run .. reads it"),
         ):
             want = f"pie: the first record is not an open record\npie: {work}/text {says.format(f'{work}/text')}\n".encode()
             got = run_file(work, "run", first + b"pen\x00")
             check(got == (1, b"", want), "the cause of a file that begins with", first, got)
+
+
+def steps_of_linux():
+    """Checks the second line of faults of a text of pie-watch: the field and what is allowed there, for each column that is read."""
+    names, *rows = (ROOT / "tests/rows/linux_steps.csv").read_text().splitlines()
+    columns, fields = names.split(","), rows[1].split(",")
+    words = {"type": "are enq, deq, calc, timer, wait, flow, init, resume, change, reset, destroy, empty", "kind": "are pie, fq_pie"}
+    tried = 0
+    with tempfile.TemporaryDirectory() as work:
+        for place, column in enumerate(columns):
+            for bad in ("x", "99999999999999999999", *(("01", '"a,b"') if column == "a_prob" else ())):
+                row = ",".join([*fields[:place], bad, *fields[place + 1 :]])
+                text = "\n".join([names, rows[0], row, *rows[2:5]]) + "\n"
+                got = run_file(work, "audit", text.encode())
+                lines = got[2].decode().splitlines()
+                if not re.search(r"not a number in range|unknown word", lines[0] if lines else ""):
+                    continue  # this column is not read, or has any text
+                kind = "number of at most four hexadecimal digits" if column in ("proto", "l3") else "decimal number" if bad in ("x", '"a,b"') else \
+                    "number without leading zeros" if bad == "01" else "smaller number"
+                shown = bad.strip('"')
+                want = f'pie: record 3 of {work}/text, field {place + 1} ({column}): "{shown}"; allowed {words.get(column, f"is a {kind}")}'
+                check(got[0] == 1 and lines[1:] == [want], "the cause in a step", column, bad, lines, want)
+                tried += 1
+        for row, says in ((rows[1] + ",1", f"{len(columns) + 1} fields; the first row has {len(columns)}"), ("lost,1", "2 fields; lost has 3")):
+            for name in ("explain", "cut --from 0"):
+                got = run_file(work, name, "\n".join([names, rows[0], row]).encode())
+                want = f"pie: record 3: wrong number of fields\npie: record 3 of {work}/text: {says}\n".encode()
+                check((got[0], got[2]) == (1, want), "the cause in a step", row, name, got[2], want)
+    check(tried > 100, "few columns of steps were damaged:", tried)
 
 
 # A trace whose controller has packets in the queue after event 5.
@@ -363,6 +400,7 @@ def main():
     else:
         malformed()
         causes()
+        steps_of_linux()
         preambles()
         small()
         found = compare(PROGRAM, sample, sampled)

@@ -77,6 +77,28 @@ cp "$work/faulty" "$long"
 expect 'a fault of a file with a long name' 1 "$work/none: clean,0\n" "pie: $long: record 3: unknown kind\npie: line 3 of $long, field 1 (kind): \"dep\"; allowed are $allowed\n" '' audit "$long" "$work/none"
 rm "$long"
 expect 'no file of a long name' 1 "$work/none: clean,0\n" "pie: $long: No such file or directory (os error 2)\n" '' audit "$long" "$work/none"
+# A name with characters that have a meaning for a shell is quoted in the suggested command, which does what it says. Control characters are
+# written with a backslash.
+number=0
+for odd in 'a b;c' "it's" '$(date)' $'new\nline' $'bell\033[31m' '-x' ü; do
+    number=$((number + 1))
+    mkdir -p "$work/odd"
+    cp "$work/changed" "$work/odd/$odd"
+    (cd "$work/odd" && "$program" audit -- "$odd" > "$work/output" 2> "$work/errors")
+    if [ "$(wc -l < "$work/output")" != 1 ] || [ "$(wc -l < "$work/errors")" != 3 ] || LC_ALL=C grep -q $'\033' "$work/output" "$work/errors"; then
+        fail "an audit of the file '$odd': $(cat -v "$work/output" "$work/errors")"
+    fi
+    suggested=$(sed -n 's/.*: pie explain \(.*\) explains it$/\1/p' "$work/errors")
+    (cd "$work/odd" && eval "\"$program\" explain $suggested" > "$work/output" 2> "$work/errors")
+    grep -q 'event 10 is recorded as arrive,1,1001003,5,500,ect0,0,early' "$work/errors" || fail "the command for '$odd': $suggested: $(cat -v "$work/errors")"
+    printf 'depart,1' >> "$work/odd/$odd"
+    (cd "$work/odd" && "$program" explain --all -- "$odd" > /dev/null 2> "$work/errors")
+    if [ "$(wc -l < "$work/errors")" != 2 ] || LC_ALL=C grep -q $'\033' "$work/errors"; then
+        fail "a fault of the file '$odd': $(cat -v "$work/errors")"
+    fi
+done
+rm -r "$work/odd"
+[ "$number" = 7 ] || fail "odd names: $number"
 # A name that is not UTF-8 is reported, and the other files are audited.
 odd=$work/$(printf 'odd\377')
 cp "$work/history" "$odd"
@@ -220,7 +242,7 @@ done
 rm "$work/hard" "$work/symbolic"
 
 # Standard output that is the input file, as with >>, is refused before anything is written.
-for words in run migrate 'explain --all' 'cut --from 0ms' 'what-if --from 0ms --target 5ms'; do
+for words in run audit migrate 'explain --all' 'cut --from 0ms' 'what-if --from 0ms --target 5ms'; do
     cp "$work/trace" "$work/itself"
     "$program" $words "$work/itself" >> "$work/itself" 2> "$work/errors"
     [ $? = 1 ] && [ "$(cat "$work/errors")" = "pie: $work/itself: the input file cannot be the output file" ] ||

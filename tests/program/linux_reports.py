@@ -250,6 +250,11 @@ for flow, row in zip(order, found):
     wanted = sums(flows[flow])
     hold_sums({name: wanted[name] for name in ("arrivals", "arrived_bytes", *VERDICTS, "left", "carried_bytes", "greatest_wait", "mean_wait")}, row, f"flow {flow}")
 
+# a queue that the text lacks has no summary
+for words in (["--summary"], ["--summary", "--csv"], ["--every=1s"], ["--flows=3", "--json"], ["--digest"], ["--lost"]):
+    status, output, errors = run(*words, "--queue", "absent")
+    check((status, output, errors.splitlines()[-1]) == (1, "", "pie: the text has no queue absent"), "--queue absent:", words, status, output, errors)
+
 # ---- the other forms have the numbers of the CSV
 
 for words in (["--all"], ["--summary"], ["--every=1s"], ["--flows=3"], ["--lost"]):

@@ -1,6 +1,6 @@
 #!/usr/bin/env python3
 """Compares the manual page and the completions with the program. man/pie.1 and the completions for bash, zsh and
-fish must contain exactly the subcommands and long options of `-h`. The page's synopsis of each subcommand must
+fish must contain exactly the subcommands and long options of `--help`. The page's synopsis of each subcommand must
 do so too, unless it ends in dots. If bash, zsh and fish are installed, the script also tries their completions.
 The options of man/pie-report.1, man/pie-metrics.1 and man/pie-extcap.1 must be those of `pie-report --help`,
 `pie-metrics --help` and `pie-extcap --help`.
@@ -31,8 +31,8 @@ def output(words, **how):
 
 
 def section(text, name):
-    """Returns the indented lines below the line `name:` of a help."""
-    found = re.search(rf"^{name}:\n((?: +.*\n)+)", text, re.M)
+    """Returns the indented and empty lines below the line `name:` of a help."""
+    found = re.search(rf"^{name}:\n((?: +.*\n|\n)+)", text, re.M)
     return found[1] if found else ""
 
 
@@ -43,7 +43,7 @@ def told():
     names = re.findall(r"^  ([\w-]+)  ", section(top, "Commands"), re.M)
     options = {}
     for name in ["", *names]:
-        text = top if name == "" else output([PROGRAM, name, "-h"])
+        text = output([PROGRAM, *([name] if name else []), "--help"])
         options[name] = {option: bool(value) for option, value in re.findall(r"^ +(?:-\w, +)?--([\w-]+)( <[\w|]+>)?", section(text, "Options"), re.M)}
     return names, options
 
@@ -147,6 +147,8 @@ def main():
         if shutil.which("fish") and name != "help":
             offers = {offer[2:] for offer in fish_offers(words, "--") if offer.startswith("--")}
             compare("completions/pie.fish:", name, offers, set(wanted[name]))
+        if shutil.which("bash") and name not in ("", "help") and bash_offers(words, "exa"):
+            fail(f"completions/pie.bash: pie {name} exa: no file is offered, but", bash_offers(words, "exa"))
     for shell, offers in (("bash", bash_offers), ("fish", fish_offers)):
         if shutil.which(shell) and offers([], "") - {f"--{option}" for option in wanted[""]} != set(names):
             fail(f"completions/pie.{shell}: subcommands", offers([], ""), "and not", names)

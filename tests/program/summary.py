@@ -218,9 +218,9 @@ def hold(name, history, words):
             for form, told in (((), lambda n: "".join(map(in_words, n))), (("--csv",), in_csv)):
                 got = pie(history, *words.choice(((), ("--summary",))) if not which else ("--summary",), *form, *which, *options)
                 expect(f"{name}: --summary {form} {which} {options}", got, (0, told([numbers(some)]), ""))
-                got = pie(history, *options, *which, *form, "--full", period, *words.choice(((), ("--summary",))))
+                got = pie(history, *options, *which, *form, "--full", period)
                 expect(f"{name}: {period} {form} {which} {options}", got, (0, told(periods), ""))
-            got = pie(history, *options, *which, period, *words.choice(((), ("--summary",))))
+            got = pie(history, *options, *which, period)
             expect(f"{name}: lines by {period} {which} {options}", got, (0, in_lines(periods, every), ""))
 
 
@@ -230,7 +230,7 @@ def lengths():
     for text in ("0", "0ms", "0.000000s"):
         expect(f"--every {text}", pie(history, "--every", text), (1, "", "pie: --every: the interval must be at least 1 ns\n"))
     form = "pie: --every: a moment must be a whole number of nanoseconds, or a number with ns, us, ms, s, m or h, such as 1.5ms or 2m\n"
-    expect("--every soon", pie(history, "--summary", "--every", "soon"), (1, "", form))
+    expect("--every soon", pie(history, "--every", "soon"), (1, "", form))
 
 
 def of_nothing():
@@ -238,7 +238,7 @@ def of_nothing():
     for history in ("open,0,4,16,100\n", "open,0,4,16,100\nreset,1,1500000,done\n"):
         for which in ([] if "reset" not in history else ["--lost"], ["--lost", "--from", "1ms"]):
             expect(f"--summary {which} of nothing", pie(history, "--summary", "--csv", *which), (0, in_csv([numbers([])]), ""))
-            for words in (["--every", "1s"], ["--every=1s", "--digest"], ["--summary", "--every", "1"]):
+            for words in (["--every", "1s"], ["--every=1s", "--digest"], ["--every", "1"]):
                 expect(f"{words} {which} of nothing", pie(history, "--csv", *words, *which), (0, in_csv([]), ""))
                 expect(f"{words} {which} of nothing, in words", pie(history, *words, *which), (0, "", ""))
 
@@ -274,7 +274,7 @@ def on_terminal(history, words, **variables):
 
 def lines_on_a_terminal():
     """Checks that a header is before each 40 lines of intervals on a terminal, and that the header is bold and packets without room are red there,
-    unless NO_COLOR is set and not empty."""
+    unless NO_COLOR is set and not empty, or TERM is dumb."""
     history = "open2,1,rolling,0,4,16,1099511627776\n" + "".join(f"arrive,1,{moment},7,100,not,0,{'enqueue' if moment < 4 else 'packets'}\n" for moment in range(100))
     _, rows, _ = records("100 intervals", history)
     with_targets(history, rows)
@@ -283,7 +283,7 @@ def lines_on_a_terminal():
     red = [re.sub(r"^( *\S+ +\S+ +\S+ +\S+ )(    1)", "\\1\x1b[31m\\2\x1b[0m", line) for line in lines]
     expect("lines with a packet without room", sum(line != other for line, other in zip(lines, red)), 96)
     bold = f"\x1b[1m{header}\x1b[0m"
-    for variables, above, below in (({}, bold, red), ({"NO_COLOR": ""}, bold, red), ({"NO_COLOR": "1"}, header, lines), ({"NO_COLOR": "yes"}, header, lines)):
+    for variables, above, below in (({}, bold, red), ({"NO_COLOR": ""}, bold, red), ({"NO_COLOR": "1"}, header, lines), ({"TERM": "dumb"}, header, lines), ({"TERM": "dumber"}, bold, red), ({"NO_COLOR": "yes"}, header, lines)):
         wanted = "".join((f"{above}\n" if place % 40 == 0 else "") + f"{line}\n" for place, line in enumerate(below))
         expect(f"lines on a terminal with {variables}", on_terminal(history, ["--every=1ns"], **variables), (0, wanted))
     with tempfile.TemporaryDirectory() as folder:

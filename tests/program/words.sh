@@ -8,7 +8,7 @@ expect 'a version' 0 'pie 0.1.0\n' '' '' --version
 expect 'a version, in short' 0 'pie 0.1.0\n' '' '' -V
 
 # Each help must be the stored text: help/NAME.txt for `pie NAME --help`, NAME.short.txt for `pie NAME -h`, and
-# pie.txt and pie.short.txt for `pie --help` and `pie -h`. A short one fits on a screen.
+# pie.txt and pie.short.txt for `pie --help` and `pie -h`. A short one fits on a screen of 80 by 24, with the next prompt.
 # help NAME WORDS..
 help() {
     local want=$here/help/$1.txt
@@ -25,16 +25,16 @@ help() {
 help pie --help
 help pie.short -h
 help pie help
-for name in run audit explain cut migrate storm params advise; do
+for name in run audit explain cut migrate storm params what-if advise; do
     help "$name" "$name" --help
     help "$name.short" "$name" -h
     help "$name" help "$name"
 done
 
 for text in "$here"/help/*.short.txt; do
-    lines=$(wc -l < "$text")
-    if [ "$lines" -gt 30 ]; then
-        echo "$script: $text has $lines lines"
+    lines=$(wc -l < "$text") columns=$(wc -L < "$text")
+    if [ "$lines" -gt 23 ] || [ "$columns" -gt 80 ]; then
+        echo "$script: $text has $lines lines, and $columns columns"
         failed=1
     fi
 done
@@ -76,6 +76,9 @@ mistake "error: unexpected argument 'more' found" explain one more
 mistake "error: invalid value '0' for '--event <N>': 0 is not in 1..18446744073709551615" cut --event 0
 mistake "error: a value is required for '--from <MOMENT>' but none was supplied" cut --from
 mistake "error: unexpected argument 'more' found" cut one more
+mistake 'pie: --full needs --every' explain --full
+mistake 'pie: --full needs --every' explain --summary --full
+mistake 'pie: --summary cannot be combined with --every, which writes a line for each interval' explain --summary --every 1s
 # Words that choose no events, or choose in two ways.
 unchosen='pie: cut needs --from, --to or both; or --event N, with or without --around M; or --last N; or --every N; see pie cut --help'
 for words in '' '--around 3' '--event 3 --from 2' '--event 3 --to 2' '--around 3 --from 2' '--event 3 --around 1 --from 1 --to 2' \

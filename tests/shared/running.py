@@ -11,7 +11,7 @@ PROGRAM = program()
 PATIENCE = 600  # seconds after which a program hangs, on however slow a machine
 # The commands that read a history, each with options by which it reads all of it. A command that reads one
 # according to its help but is not listed here is a failure.
-READERS = {"audit": ["audit"], "explain": ["explain", "--all"], "summary": ["explain", "--summary", "--every", "100us"], "cut": ["cut", "--from", "0"],
+READERS = {"audit": ["audit"], "explain": ["explain", "--all"], "summary": ["explain", "--every", "100us"], "cut": ["cut", "--from", "0"],
            "migrate": ["migrate"], "what-if": ["what-if", "--from", "0"]}
 MEMORY = b"pie: out of memory\n"
 

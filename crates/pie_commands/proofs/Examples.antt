@@ -2,11 +2,10 @@
 use Rattle.pie_commands.proofs.Names.{◌≡◌, [], ◌∷◌, None, Some, codes, refl, List, Row, Text}
 use Rattle.clap.specs.declared.builder.value_parser.Reading.TheVariants.{AsWritten}
 use Rattle.pie_commands.specs.Cuts.{around, between}
-unfoldable use Rattle.pie_commands.specs.Cuts.{cut_request_of}
+unfoldable use Rattle.pie_commands.specs.Cuts.{pieces_of}
 unfoldable use Rattle.pie_commands.specs.Selections.{selection_of}
 use Rattle.pie_commands.specs.Values.{number_or}
-use Rattle.pie_commands.specs.declared.cut.CutRequest.TheVariants.{Last, Once}
-use Rattle.pie_commands.specs.declared.cut.Pieces.TheVariants.{Every, Excerpt}
+use Rattle.pie_commands.specs.declared.cut.Pieces.TheVariants.{Every, Excerpt, Last}
 use Rattle.pie_explain.specs.declared.choice.EventChoice.{EventChoice}
 use Rattle.pie_explain.specs.declared.choice.EventChoice.TheVariants.{Number, Lost, All}
 use Rattle.pie_explain.specs.declared.selection.Selection.{Selection}
@@ -35,20 +34,22 @@ chosen : (selection_of (flag (codes "csv") ∷ option (codes "event") (codes "10
     × (selection_of (flag (codes "wall") ∷ []) ≡ Some (at_all_moments All))
     × (selection_of (flag (codes "all") ∷ option (codes "from") (codes "soon") ∷ []) ≡ None)
     × (selection_of (option (codes "tag") (codes "7") ∷ flag (codes "all") ∷ []) ≡ None)
+    × (selection_of (flag (codes "full") ∷ []) ≡ None)
+    × (selection_of (flag (codes "summary") ∷ option (codes "every") (codes "1s") ∷ []) ≡ None)
 unfolding selection_of digit_count number_after is_word time_scale
-chosen = (refl, refl, refl, refl, refl)
+chosen = (refl, refl, refl, refl, refl, refl, refl)
 
 from_day-chosen : selection_of (flag (codes "lost") ∷ flag (codes "wall") ∷ option (codes "from") (codes "2026-11-24T20:00:00Z") ∷ [])
     ≡ Some (record { which = Lost; from = Some (Unix 1795550400000000000); to = None })
 unfolding selection_of digit_count number_after utc_in utc_with unix_of seconds_part date_part has_marks nanos_in day_number
 from_day-chosen = refl
 
-cut : (cut_request_of (option (codes "event") (codes "10") ∷ option (codes "around") (codes "3") ∷ []) ≡ Some (Once (Excerpt (around 10 3))))
-    × (cut_request_of (option (codes "from") (codes "2s") ∷ []) ≡ Some (Once (Excerpt (between (Some (Moment 2_000_000_000)) None))))
-    × (cut_request_of (option (codes "from") (codes "2") ∷ option (codes "to") (codes "1") ∷ []) ≡ None)
-    × (cut_request_of (option (codes "last") (codes "7") ∷ []) ≡ Some (Last 7))
-    × (cut_request_of (option (codes "every") (codes "1000") ∷ []) ≡ Some (Once (Every 1000)))
-    × (cut_request_of (option (codes "around") (codes "3") ∷ []) ≡ None)
-    × (cut_request_of (option (codes "last") (codes "3") ∷ option (codes "every") (codes "3") ∷ []) ≡ None)
-unfolding cut_request_of digit_count number_after is_word time_scale
+cut : (pieces_of (option (codes "event") (codes "10") ∷ option (codes "around") (codes "3") ∷ []) ≡ Some (Excerpt (around 10 3)))
+    × (pieces_of (option (codes "from") (codes "2s") ∷ []) ≡ Some (Excerpt (between (Some (Moment 2_000_000_000)) None)))
+    × (pieces_of (option (codes "from") (codes "2") ∷ option (codes "to") (codes "1") ∷ []) ≡ None)
+    × (pieces_of (option (codes "last") (codes "7") ∷ []) ≡ Some (Last 7))
+    × (pieces_of (option (codes "every") (codes "1000") ∷ []) ≡ Some (Every 1000))
+    × (pieces_of (option (codes "around") (codes "3") ∷ []) ≡ None)
+    × (pieces_of (option (codes "last") (codes "3") ∷ option (codes "every") (codes "3") ∷ []) ≡ None)
+unfolding pieces_of digit_count number_after is_word time_scale
 cut = (refl, refl, refl, refl, refl, refl, refl)

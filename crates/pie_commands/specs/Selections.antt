@@ -9,7 +9,7 @@ use Rattle.pie_explain.specs.declared.selection.Selection.{Selection}
 use Rattle.pie_summary.specs.declared.interval_lines.LineStyle.{LineStyle}
 use Rattle.pie_units.specs.declared.moment.MomentFault.{MomentFault}
 use Rattle.pie_units.specs.declared.when.When.{When}
-use Rattle.pie_commands.specs.Values.{bound_given, flag_given, in_order, moment_given, number_given}
+use Rattle.pie_commands.specs.Values.{bounds_of, flag_given, moment_given, number_given}
 use Rattle.pie_commands.specs.declared.explain.OutputKind.{OutputKind}
 use Rattle.pie_commands.specs.declared.explain.OutputKind.TheVariants.{Digest, Flows, Lines, Records, Sums, Words}
 
@@ -47,9 +47,12 @@ is_summary options =
 abbrev pub is_json : List Row → Bool
 is_json options = flag_given (codes "json") options
 
--- true unless a digest is requested together with sums by flow, or JSON together with CSV or a digest
-abbrev pub may_combine : Bool → Option ℕ → Bool → Bool → Bool
-may_combine digest flows json csv = not (digest && is_some flows) && not (json && (csv || digest))
+-- true unless options exclude each other: a digest and sums by flow, JSON and CSV or a digest, lines for each interval without intervals, or one
+-- summary with intervals
+abbrev pub may_combine : Bool → List Row → Bool
+may_combine has_every options =
+    (not (is_digest options && is_some (flows_of options)) && not (is_json options && (flag_given (codes "csv") options || is_digest options)))
+    && (not (flag_given (codes "full") options && not has_every) && not (flag_given (codes "summary") options && has_every))
 
 -- the chosen events, if at most one of the five options chooses some; without any of them all events
 abbrev pub chosen : Option ℕ → Option ℕ → Bool → Bool → Bool → Option EventChoice
@@ -70,18 +73,15 @@ abbrev pub lasts : Option ℕ → Bool
 lasts None = true
 lasts (Some every) = not (every == 0)
 
--- the selection of these events between these bounds, if the bounds and the length of an interval are valid, the length is above 0, and `allowed` is
--- true
-abbrev pub selection_at : Option EventChoice → Option (Option When) → Option (Option When) → Option (Option ℕ) → Bool → Option Selection
-selection_at (Some which) (Some from) (Some to) (Some every) allowed =
-    if lasts every && (allowed && in_order from to) then Some (record { which = which; from = from; to = to }) else None
-selection_at _ _ _ _ allowed = None
+-- the selection of these events between these bounds, if the length of an interval is valid and above 0, and the options do not exclude each other
+abbrev pub selection_at : Option (Option When × Option When) → Option (Option ℕ) → Option EventChoice → List Row → Option Selection
+selection_at (Some bounds) (Some every) (Some which) options =
+    if lasts every && may_combine (is_some every) options then Some (record { which = which; from = bounds.0; to = bounds.1 }) else None
+selection_at _ _ _ options = None
 
 -- the selection of these options; none if they are not valid together
 unfoldable pub selection_of : List Row → Option Selection
-selection_of options =
-    selection_at (chosen_events options) (result_ok (bound_given (codes "from") options)) (result_ok (bound_given (codes "to") options))
-    (result_ok (moment_given (codes "every") options)) (may_combine (is_digest options) (flows_of options) (is_json options) (flag_given (codes "csv") options))
+selection_of options = selection_at (bounds_of options) (result_ok (moment_given (codes "every") options)) (chosen_events options) options
 
 -- ---- the kind of output
 

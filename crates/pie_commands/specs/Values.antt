@@ -1,6 +1,7 @@
 -- The values of a subcommand's options: each is given by the rows that `clap` found, by the option's name.
 use Rattle.std.specs.Prelude.{ℕ, ◌-◌, ◌^◌, List, Bool, true, false, Option, Some, None, Result, Ok, Err, codes, if◌then◌else◌, max, min, nat_le, option_and_then, option_map, unwrap_or}
 use Rattle.std.specs.Option.{option_map_or, option_transpose}
+use Rattle.std.specs.Result.{result_ok}
 use Rattle.std.specs.Str.{bytes_eq}
 use Rattle.std.specs.Str.Parse.{digits_value, without_leading_plus}
 use Rattle.clap.specs.ValueTests.{accepts}
@@ -52,3 +53,11 @@ abbrev pub in_order : Option When → Option When → Bool
 in_order (Some (when.Moment from)) (Some (when.Moment to)) = nat_le from to
 in_order (Some (when.Unix from)) (Some (when.Unix to)) = nat_le from to
 in_order _ _ = true
+
+-- the bounds `from` and `to`, if both are valid and in order
+abbrev pub ordered : Option (Option When) → Option (Option When) → Option (Option When × Option When)
+ordered (Some from) (Some to) = if in_order from to then Some (from, to) else None
+ordered _ _ = None
+
+abbrev pub bounds_of : List Row → Option (Option When × Option When)
+bounds_of options = ordered (result_ok (bound_given (codes "from") options)) (result_ok (bound_given (codes "to") options))

@@ -3,16 +3,14 @@ ghost use Rattle.std.specs.Prelude.{◌≡◌};
 ghost use Rattle.clap.specs.Words.{found_of, rows_of};
 ghost use Rattle.pie_commands.specs.Advising.{range_given, rate_given, request_in};
 
-use crate::end::{End, end_failed, end_unable, end_with_fault};
+use crate::call::Call;
+use crate::end::{End, end_failed, end_of_page, end_unable};
 use crate::options::{flag, parsed, text};
 use crate::params::overhead_in;
 use clap::ArgMatches;
 use pie_advise::{Range, Request, advice_for, opening_for_link, push_advice, range_in};
-use pie_event::Opening;
 use pie_text::Page;
-use pie_trace::TraceFault;
 use pie_units::{Quantity, rate_of};
-use std::alloc::Global;
 use std::io::Write;
 
 /// Returns the rate that the options give. If they give none, writes a line to `errors`.
@@ -75,49 +73,24 @@ fn request_of<E: Write>(options: &ArgMatches<'_>, errors: &mut E) -> Option<Requ
     })
 }
 
-/// Writes these bytes to `output`, and flushes it.
-fn write_whole<W: Write, E: Write>(bytes: &[u8], output: &mut W, errors: &mut E) -> End {
-    let written = match output.write_all(bytes) {
-        Ok(()) => output.flush(),
-        Err(why) => Err(why),
-    };
-    match written {
-        Ok(()) => End::Done,
-        Err(_) => end_with_fault(errors, TraceFault::Write),
-    }
-}
-
-/// Writes the advice about an opening for a link.
-fn write_advice<W: Write, E: Write>(
-    alloc: Global,
-    request: &Request,
-    opening: &Opening,
-    output: &mut W,
-    errors: &mut E,
-) -> End {
-    let mut page = Page::new(alloc);
-    let advice = advice_for(request, opening);
-    match push_advice(&mut page, request, opening, &advice) {
-        Ok(()) => write_whole(page.as_bytes(), output, errors),
-        Err(_) => end_unable(errors, "out of memory"),
-    }
-}
-
 /// `pie advise`: writes advice on the parameters of a queue for the link that the options describe.
-pub(crate) fn advise<W: Write, E: Write>(
-    alloc: Global,
-    options: &ArgMatches<'_>,
+pub(crate) fn advise<H, W: Write, E: Write>(
+    call: &mut Call<'_, '_, '_, '_, H, E>,
     output: &mut W,
-    errors: &mut E,
 ) -> End {
-    let Some(request) = request_of(options, errors) else {
+    let Some(request) = request_of(call.options, call.errors) else {
         return End::Failed;
     };
-    match opening_for_link(&request) {
-        Ok(opening) => write_advice(alloc, &request, &opening, output, errors),
-        Err(_) => end_failed(
-            errors,
+    let Ok(opening) = opening_for_link(&request) else {
+        return end_failed(
+            call.errors,
             "--overhead must be at most 64511: mean_pkt is 1024 bytes and the overhead, and at most 65535",
-        ),
+        );
+    };
+    let mut page = Page::new(call.alloc);
+    let advice = advice_for(&request, &opening);
+    match push_advice(&mut page, &request, &opening, &advice) {
+        Ok(()) => end_of_page(page.as_bytes(), output, call.errors),
+        Err(_) => end_unable(call.errors, "out of memory"),
     }
 }

@@ -1,70 +1,42 @@
 //! The objects of `pie audit --json`.
 
+use crate::audit::Audited;
+use crate::difference::Details;
 use crate::json::write_string;
 use pie_audit::Finding;
-use pie_cut::{Joined, Joint};
+use pie_cut::Joint;
+use pie_linux_history::{StepDifference, StepsFinding};
+use pie_text::RowBuffer;
+use std::alloc::Global;
 use std::io;
 use std::io::Write;
 
-/// Writes a member with this text, after its name. Writes nothing if the text is empty.
-fn put_text<W: Write>(name: &str, text: &[u8], output: &mut W) -> io::Result<()> {
-    match text {
-        [] => Ok(()),
-        [_, ..] => {
-            output.write_all(name.as_bytes())?;
-            write_string(output, text)
-        }
+/// Writes a member with the text of a record, without its line feed, after the member's name.
+fn put_record<W: Write>(name: &str, row: &RowBuffer, output: &mut W) -> io::Result<()> {
+    let text = row.as_bytes();
+    output.write_all(name.as_bytes())?;
+    write_string(output, &text[..text.len().saturating_sub(1)])
+}
+
+/// Writes the members of an event that differs: its record, and the right record or the reason why there is none.
+fn put_details<W: Write>(details: &Details, output: &mut W) -> io::Result<()> {
+    put_record(",\"recorded\":", &details.recorded(), output)?;
+    match details.right() {
+        Some(right) => put_record(",\"right\":", &right, output),
+        // (no reason has a character that JSON escapes)
+        None => write!(output, ",\"reason\":\"{}\"", details.reason()),
     }
 }
 
-/// Writes a member with this number, after its name.
-fn put_number<W: Write>(name: &str, number: u64, output: &mut W) -> io::Result<()> {
-    write!(output, "{name}{number}")
-}
-
-/// Writes the members of an event that differs: its number, its record, and the right record.
-fn put_difference<W: Write>(
-    event: u64,
-    recorded: &[u8],
-    right: &[u8],
-    output: &mut W,
-) -> io::Result<()> {
-    output.write_all(b",\"finding\":\"differs\"")?;
-    put_number(",\"event\":", event, output)?;
-    put_text(",\"recorded\":", recorded, output)?;
-    put_text(",\"right\":", right, output)
-}
-
-/// Writes the members of the finding of a clean file.
-fn put_clean<W: Write>(events: u64, output: &mut W) -> io::Result<()> {
-    output.write_all(b",\"finding\":\"clean\"")?;
-    put_number(",\"events\":", events, output)
-}
-
-/// Writes the members of a finding.
-fn put_finding<W: Write>(
-    finding: Finding,
-    recorded: &[u8],
-    right: &[u8],
-    output: &mut W,
-) -> io::Result<()> {
-    match finding {
-        Finding::Clean { events } => put_clean(events, output),
-        Finding::Differs { event } => put_difference(event, recorded, right, output),
-    }
-}
-
-/// Writes the members of a gap.
-fn put_gap<W: Write>(last: u64, first: u64, output: &mut W) -> io::Result<()> {
-    output.write_all(b",\"joint\":\"gap\"")?;
-    put_number(",\"last\":", last, output)?;
-    put_number(",\"first\":", first, output)
-}
-
-/// Writes the members of a joint that is unlike.
-fn put_unlike<W: Write>(last: u64, output: &mut W) -> io::Result<()> {
-    output.write_all(b",\"joint\":\"unlike\"")?;
-    put_number(",\"last\":", last, output)
+/// Writes the members of a step that differs: both numbers, and a text with the queue, the step and the column.
+fn put_step<W: Write>(alloc: Global, found: &StepDifference, output: &mut W) -> io::Result<()> {
+    let (recorded, right) = (found.difference.recorded, found.difference.right);
+    let text = format!(in alloc; "{found}")?;
+    write!(
+        output,
+        ",\"recorded\":{recorded},\"right\":{right},\"reason\":"
+    )?;
+    write_string(output, text.as_bytes())
 }
 
 /// Writes the members of a joint, if there is one.
@@ -72,23 +44,43 @@ fn put_joint<W: Write>(joint: Option<Joint>, output: &mut W) -> io::Result<()> {
     match joint {
         None => Ok(()),
         Some(Joint::Follows) => output.write_all(b",\"joint\":\"follows\""),
-        Some(Joint::Gap { last, first }) => put_gap(last, first, output),
-        Some(Joint::Unlike { last, .. }) => put_unlike(last, output),
+        Some(Joint::Gap { last, first }) => {
+            write!(
+                output,
+                ",\"joint\":\"gap\",\"last\":{last},\"first\":{first}"
+            )
+        }
+        Some(Joint::Unlike { last, .. }) => write!(output, ",\"joint\":\"unlike\",\"last\":{last}"),
     }
 }
 
-/// Writes the object of a file's finding and joint. If an event differs, `recorded` is its record, and `right` the record
-/// that the rules give there; each is empty if it is not known or there is none.
-pub(crate) fn put_object<W: Write>(
+/// Writes the object of a file's finding and joint, with the `details` of an event that differs if they are known, and flushes
+/// the writer.
+pub(crate) fn write_object<W: Write>(
+    alloc: Global,
     name: &str,
-    joined: Joined,
-    recorded: &[u8],
-    right: &[u8],
+    audited: &Audited,
+    details: &Option<Details>,
     output: &mut W,
 ) -> io::Result<()> {
     output.write_all(b"{\"file\":")?;
     write_string(output, name.as_bytes())?;
-    put_finding(joined.finding, recorded, right, output)?;
-    put_joint(joined.joint, output)?;
-    output.write_all(b"}\n")
+    match audited.joined.finding {
+        Finding::Clean { events } => write!(output, ",\"finding\":\"clean\",\"events\":{events}")?,
+        Finding::Differs { event } => write!(output, ",\"finding\":\"differs\",\"event\":{event}")?,
+    }
+    if let Some(details) = details {
+        put_details(details, output)?;
+    }
+    match &audited.steps {
+        Some(StepsFinding::Clean(counts)) if counts.lost > 0 => {
+            let lost = counts.lost;
+            write!(output, ",\"lost\":{lost}")?;
+        }
+        Some(StepsFinding::Differs(found)) => put_step(alloc, found, output)?,
+        _ => {}
+    }
+    put_joint(audited.joined.joint, output)?;
+    output.write_all(b"}\n")?;
+    output.flush()
 }

@@ -1,37 +1,30 @@
 //! `pie cut`: the selection by its options, and its end, of a history and of recorded steps of Linux.
-ghost use Rattle.std.specs.Prelude.{◌≡◌, IfSome};
+ghost use Rattle.std.specs.Prelude.{◌≡◌, IfOk, IfSome};
 ghost use Rattle.clap.specs.Words.{found_of, rows_of};
-ghost use Rattle.pie_commands.specs.Cuts.{HasSome, WantsSome, chosen, cut_request_of, within};
+ghost use Rattle.pie_commands.specs.Cuts.{HasSome, chosen, pieces_of, moment_bound, step_pieces_of, within};
 
-use crate::cut_steps::{NO_WALL_CLOCK, cut_steps, report_steps_cut, step_pieces_of};
-use crate::end::{End, end_failed, fault};
-use crate::fault_report::{CUT, end_with_fault_in};
+use crate::call::Call;
+use crate::end::{End, fault};
 use crate::files::{NamedFiles, open_input, reader_named};
-use crate::options::{NO_ORDER, bound, file, in_order, number, parsed, report_two};
+use crate::options::{bounds_of, file, number, report_two};
 use crate::progress::{ProgressReader, Screen, shows_progress};
+use crate::steps::cut_steps;
 use clap::ArgMatches;
 use pie_cut::{CutFault, Span, cut_every, last_number};
-use pie_linux_history::count_rows;
+use pie_linux_history::{RowSpan, StepPieces, StepsFault, StepsFinding, count_rows};
 use pie_trace::TraceFault;
 use pie_units::When;
 use std::alloc::Global;
 use std::io::{Read, Write};
 
-/// The pieces to cut out of a text in one pass.
+/// The pieces to cut out of a text.
 #[derive(Clone, Copy)]
 pub(crate) enum Pieces {
     /// One part, of these events.
     Excerpt(Span),
     /// All events, in segments of this number of events.
     Every(u64),
-}
-
-/// The request of a cut.
-#[derive(Clone, Copy)]
-pub(crate) enum CutRequest {
-    /// These pieces of a text, which is read once.
-    Once(Pieces),
-    /// The last events of a text, this number of them. The text is read twice.
+    /// One part, of this number of the last events. The text is read twice.
     Last(u64),
 }
 
@@ -41,6 +34,10 @@ const NO_PART: &str =
 
 /// The message for `--last` with an input that can't be read twice.
 const NO_NAME: &str = "cut --last reads its input twice, so it needs a file";
+
+/// The message for a bound that is a wall-clock time.
+const NO_WALL_CLOCK: &str =
+    "a text of pie-watch has moments since boot and no wall-clock times; see pie cut --help";
 
 /// Returns the selection by these bounds, if there is one.
 fn within(from: Option<When>, to: Option<When>) -> Option<Span>
@@ -52,94 +49,119 @@ fn within(from: Option<When>, to: Option<When>) -> Option<Span>
     }
 }
 
-/// Returns the request if the options choose events in exactly one way.
+/// Returns the pieces if the options choose events in exactly one way.
 fn chosen(
     event: Option<u64>,
     around: Option<u64>,
     last: Option<u64>,
     every: Option<u64>,
     span: Option<Span>,
-) -> Option<CutRequest>
+) -> Option<Pieces>
     ensures chosen { result ≡ chosen event around last every span }
-    ensures some { IfSome result WantsSome }
+    ensures some { IfSome result HasSome }
 {
     match (event, around, last, every, span) {
         (Some(event), more, None, None, None) => {
-            let span = Span::around(event, more.unwrap_or(0));
-            Some(CutRequest::Once(Pieces::Excerpt(span)))
+            Some(Pieces::Excerpt(Span::around(event, more.unwrap_or(0))))
         }
-        (None, None, Some(many), None, None) => Some(CutRequest::Last(many)),
-        (None, None, None, Some(every), None) if every != 0 => {
-            Some(CutRequest::Once(Pieces::Every(every)))
-        }
-        (None, None, None, None, Some(span)) => Some(CutRequest::Once(Pieces::Excerpt(span))),
+        (None, None, Some(many), None, None) => Some(Pieces::Last(many)),
+        (None, None, None, Some(every), None) if every != 0 => Some(Pieces::Every(every)),
+        (None, None, None, None, Some(span)) => Some(Pieces::Excerpt(span)),
         _ => None,
     }
 }
 
-/// Writes a line with two options that choose events, if two are given; otherwise, if `--around` is given without
-/// `--event`, a line about these.
-fn report_choices<E: Write>(
-    event: Option<u64>,
-    last: Option<u64>,
-    every: Option<u64>,
-    is_bounded: bool,
-    has_around: bool,
-    errors: &mut E,
-) {
-    let names = ["event", "last", "every", "from or --to"];
-    let given = [event.is_some(), last.is_some(), every.is_some(), is_bounded];
-    report_two(&names, &given, errors);
-    if has_around && event.is_none() {
-        fault(errors, "--around needs --event");
-    }
-}
-
-/// Returns the request of these options. If they are not valid together, writes a line to `errors` and returns
-/// `None`.
-#[tactic(auto, unfolding(crate::specs::Cuts::cut_request_of))]
-fn cut_request_of<E: Write>(options: &ArgMatches<'_>, errors: &mut E) -> Option<CutRequest>
-    ensures chosen { result ≡ cut_request_of (rows_of (found_of options.now)) }
-    ensures some { IfSome result WantsSome }
+/// Returns the pieces of these options. If they are not valid together, writes lines to `errors` and returns `None`.
+#[tactic(auto, unfolding(crate::specs::Cuts::pieces_of))]
+fn pieces_of<E: Write>(options: &ArgMatches<'_>, errors: &mut E) -> Option<Pieces>
+    ensures chosen { result ≡ pieces_of (rows_of (found_of options.now)) }
+    ensures some { IfSome result HasSome }
 {
-    let from = parsed(bound(options, "from"), "--from:", errors)?;
-    let to = parsed(bound(options, "to"), "--to:", errors)?;
-    if !in_order(from, to) {
-        fault(errors, NO_ORDER);
-        return None;
-    }
+    let (from, to) = bounds_of(options, errors)?;
     let (event, around) = (number(options, "event"), number(options, "around"));
     let (last, every) = (number(options, "last"), number(options, "every"));
     let wanted = chosen(event, around, last, every, within(from, to));
     if wanted.is_none() {
         fault(errors, NO_PART);
-        let is_bounded = from.is_some() || to.is_some();
-        report_choices(event, last, every, is_bounded, around.is_some(), errors);
+        let given = [
+            ("event", event.is_some()),
+            ("last", last.is_some()),
+            ("every", every.is_some()),
+            ("from or --to", from.is_some() || to.is_some()),
+        ];
+        report_two(&given, errors);
+        if around.is_some() && event.is_none() {
+            fault(errors, "--around needs --event");
+        }
     }
     wanted
 }
 
-/// Returns the end of a cut with this result. `name` is the file of the text, if it has one. Unless the result is `Ok`,
-/// writes its lines to `errors`.
-fn report_end<H: NamedFiles, E: Write>(
-    rt: &H,
-    alloc: Global,
-    errors: &mut E,
-    name: Option<&str>,
+// ---- the pieces of recorded steps
+
+/// Returns the moment of a bound, `unbounded` without one, and `None` for a wall-clock time.
+fn moment_bound(bound: Option<When>, unbounded: u64) -> Option<u64>
+    ensures { result ≡ moment_bound bound unbounded }
+{
+    match bound {
+        None => Some(unbounded),
+        Some(When::Moment(moment)) => Some(moment),
+        Some(When::Unix(_)) => None,
+    }
+}
+
+/// Returns the pieces of a text of recorded steps. Returns `None` if a bound is a wall-clock time, or for the last events.
+fn step_pieces_of(pieces: Pieces) -> Option<StepPieces>
+    ensures { result ≡ step_pieces_of pieces }
+{
+    let span = match pieces {
+        Pieces::Every(every) => return Some(StepPieces::Every(every)),
+        Pieces::Excerpt(span) => span,
+        Pieces::Last(_) => return None,
+    };
+    match (moment_bound(span.from, 0), moment_bound(span.to, u64::MAX)) {
+        (Some(from), Some(to)) => Some(StepPieces::Span(RowSpan {
+            first: span.first,
+            last: span.last,
+            from,
+            to,
+        })),
+        _ => None,
+    }
+}
+
+// ---- the ends
+
+/// Returns the end of a cut of a history with this result.
+fn end_of<H: NamedFiles, E: Write>(
+    call: &mut Call<'_, '_, '_, '_, H, E>,
     outcome: Result<u64, CutFault>,
 ) -> End {
     match outcome {
         Ok(_) => End::Done,
-        Err(CutFault::Trace(why)) => end_with_fault_in(rt, alloc, CUT, errors, name, why),
-        Err(CutFault::Differs { event }) => {
-            fault(errors, CutFault::Differs { event });
-            End::Differs
-        }
-        Err(CutFault::NoEvents) => end_failed(errors, CutFault::NoEvents),
+        Err(CutFault::Trace(why)) => call.end_at_fault(why),
+        Err(CutFault::Differs { event }) => call.end_at_event(CutFault::Differs { event }, event),
+        Err(CutFault::NoEvents) => call.failed(CutFault::NoEvents),
     }
 }
 
-/// Cuts these pieces out of a text.
+/// Returns the end of a cut of recorded steps with this result.
+fn end_of_steps<H: NamedFiles, E: Write>(
+    call: &mut Call<'_, '_, '_, '_, H, E>,
+    outcome: Result<(u64, StepsFinding), StepsFault>,
+) -> End {
+    match outcome {
+        Ok((0, StepsFinding::Clean(_))) => call.failed(CutFault::NoEvents),
+        Ok((_, StepsFinding::Clean(_))) => End::Done,
+        Ok((_, StepsFinding::Differs(found))) => {
+            let event = found.event;
+            call.end_at_step(CutFault::Differs { event }, found)
+        }
+        Err(why) => call.end_of_steps(None, file(call.options), why),
+    }
+}
+
+/// Cuts these pieces out of a history.
 fn cut_out<R: Read + Drop, W: Write>(
     alloc: Global,
     reader: R,
@@ -151,60 +173,20 @@ fn cut_out<R: Read + Drop, W: Write>(
     match pieces {
         Pieces::Excerpt(span) => pie_cut::cut(alloc, reader, output, span),
         Pieces::Every(every) => cut_every(alloc, reader, output, every),
-    }
-}
-
-/// Cuts these pieces out of the text in the file that the options name, or in `input`.
-fn cut_pieces<H: NamedFiles + Screen, R: Read + Drop, W: Write, E: Write>(
-    rt: &H,
-    alloc: Global,
-    options: &ArgMatches<'_>,
-    pieces: Pieces,
-    input: R,
-    output: &mut W,
-    errors: &mut E,
-) -> End
-    requires { HasSome pieces }
-{
-    let Some(reader) = open_input(rt, options, input, errors) else {
-        return End::Unopened;
-    };
-    let is_shown = shows_progress(rt, options, true);
-    let (watched, kind) = ProgressReader::recognizing(reader, &mut *errors, rt, is_shown);
-    match kind {
-        Ok(false) => {
-            let outcome = cut_out(alloc, watched, output, pieces);
-            report_end(rt, alloc, errors, file(options), outcome)
-        }
-        Ok(true) => match step_pieces_of(pieces) {
-            Some(chosen) => {
-                let outcome = cut_steps(alloc, watched, output, chosen);
-                report_steps_cut(errors, file(options), outcome)
-            }
-            None => {
-                drop(watched);
-                end_failed(errors, NO_WALL_CLOCK)
-            }
-        },
-        Err(why) => {
-            drop(watched);
-            end_with_fault_in(rt, alloc, CUT, errors, file(options), why)
-        }
+        Pieces::Last(many) => pie_cut::cut(alloc, reader, output, Span::last(u64::MAX, many)),
     }
 }
 
 /// Returns the number of the last event of a text of either kind.
 fn last_event<H: Screen, R: Read + Drop, E: Write>(
-    rt: &H,
-    alloc: Global,
-    is_shown: bool,
+    call: &mut Call<'_, '_, '_, '_, H, E>,
     reader: R,
-    errors: &mut E,
 ) -> Result<u64, TraceFault> {
-    let (watched, kind) = ProgressReader::recognizing(reader, &mut *errors, rt, is_shown);
+    let (rt, is_shown) = (call.rt, shows_progress(call.rt, call.options, true));
+    let (watched, kind) = ProgressReader::recognizing(reader, &mut *call.errors, rt, is_shown);
     match kind {
-        Ok(false) => last_number(alloc, watched),
-        Ok(true) => count_rows(alloc, watched),
+        Ok(false) => last_number(call.alloc, watched),
+        Ok(true) => count_rows(call.alloc, watched),
         Err(why) => {
             drop(watched);
             Err(why)
@@ -212,49 +194,72 @@ fn last_event<H: Screen, R: Read + Drop, E: Write>(
     }
 }
 
-/// Cuts the last `many` events out of the file `name`, which the options name. The file is read twice.
-fn cut_last<H: NamedFiles + Screen, R: Read + Drop, W: Write, E: Write>(
-    rt: &H,
-    alloc: Global,
-    options: &ArgMatches<'_>,
-    many: u64,
-    name: &str,
-    input: R,
-    output: &mut W,
-    errors: &mut E,
-) -> End {
-    // The type equals the type of the cut's reader, so reading is compiled once.
-    let mut no_input: Option<R> = None;
-    let Some(reader) = reader_named(rt, name, &mut no_input, errors) else {
-        return End::Unopened;
+/// Returns the pieces as numbers of events: the last `many` events of the file that the options name, which is read for it.
+/// If there is no file, or if it can't be read, writes a line to the error stream, and returns the end.
+fn numbered<H: NamedFiles + Screen, R: Read + Drop, E: Write>(
+    call: &mut Call<'_, '_, '_, '_, H, E>,
+    pieces: Pieces,
+    no_input: &mut Option<R>,
+) -> Result<Pieces, End>
+    requires { HasSome pieces }
+    ensures { IfOk result HasSome }
+{
+    let Pieces::Last(many) = pieces else {
+        return Ok(pieces);
     };
-    match last_event(rt, alloc, shows_progress(rt, options, true), reader, errors) {
-        Ok(number) => {
-            let pieces = Pieces::Excerpt(Span::last(number, many));
-            cut_pieces(rt, alloc, options, pieces, input, output, errors)
-        }
-        Err(why) => end_with_fault_in(rt, alloc, CUT, errors, Some(name), why),
+    let name = match file(call.options) {
+        None | Some("-") => return Err(call.failed(NO_NAME)),
+        Some(name) => name,
+    };
+    // The type of the reader equals that of the cut's reader, so reading is compiled once.
+    let Some(reader) = reader_named(call.rt, name, no_input, call.errors) else {
+        return Err(End::Unopened);
+    };
+    match last_event(call, reader) {
+        Ok(number) => Ok(Pieces::Excerpt(Span::last(number, many))),
+        Err(why) => Err(call.end_at_fault(why)),
     }
 }
 
-/// `pie cut`: cuts the pieces that the options choose.
+/// `pie cut`: cuts the pieces that the options choose out of the text in the file that they name, or in `input`.
 pub(crate) fn cut<H: NamedFiles + Screen, R: Read + Drop, W: Write, E: Write>(
-    rt: &H,
-    alloc: Global,
-    options: &ArgMatches<'_>,
+    call: &mut Call<'_, '_, '_, '_, H, E>,
     input: R,
     output: &mut W,
-    errors: &mut E,
 ) -> End {
-    match cut_request_of(options, errors) {
-        Some(CutRequest::Once(pieces)) => {
-            cut_pieces(rt, alloc, options, pieces, input, output, errors)
+    let (rt, alloc, options) = (call.rt, call.alloc, call.options);
+    let Some(pieces) = pieces_of(options, call.errors) else {
+        return End::Failed;
+    };
+    let mut no_input: Option<R> = None;
+    let pieces = match numbered(call, pieces, &mut no_input) {
+        Ok(pieces) => pieces,
+        Err(end) => return end,
+    };
+    let Some(reader) = open_input(rt, options, input, call.errors) else {
+        return End::Unopened;
+    };
+    let is_shown = shows_progress(rt, options, true);
+    let (watched, kind) = ProgressReader::recognizing(reader, &mut *call.errors, rt, is_shown);
+    let is_steps = match kind {
+        Ok(is_steps) => is_steps,
+        Err(why) => {
+            drop(watched);
+            return call.end_at_fault(why);
         }
-        Some(CutRequest::Last(many)) => match file(options) {
-            Some("-") => end_failed(errors, NO_NAME),
-            Some(name) => cut_last(rt, alloc, options, many, name, input, output, errors),
-            None => end_failed(errors, NO_NAME),
-        },
-        None => End::Failed,
+    };
+    if !is_steps {
+        let outcome = cut_out(alloc, watched, output, pieces);
+        return end_of(call, outcome);
+    }
+    match step_pieces_of(pieces) {
+        Some(chosen) => {
+            let outcome = cut_steps(alloc, watched, output, chosen);
+            end_of_steps(call, outcome)
+        }
+        None => {
+            drop(watched);
+            call.failed(NO_WALL_CLOCK)
+        }
     }
 }

@@ -2,15 +2,15 @@
 
 use crate::advise::advise;
 use crate::audit::audit;
+use crate::call::Call;
 use crate::cut::cut;
 use crate::end::End;
 use crate::explain::explain;
 use crate::files::{NamedFiles, create_output, finish_output};
-use crate::migrate::migrate;
-use crate::options::{Subcommand, file, flag, output};
+use crate::options::{HelpPage, Subcommand, file, flag};
 use crate::params::params;
 use crate::progress::Screen;
-use crate::run::run;
+use crate::run::{migrate, run};
 use crate::storm::storm;
 use crate::what_if::what_if;
 use clap::ArgMatches;
@@ -20,31 +20,23 @@ use std::marker::Sync;
 use std::sync::Wait;
 use std::thread::Threads;
 
-/// Calls the function of a subcommand with its options. The subcommand writes to `output`.
+/// Calls the function of a subcommand. The subcommand writes to `output`.
 pub(crate) fn dispatch<
     H: Threads + Wait + Sync + NamedFiles + Screen,
     R: Read + Drop,
     W: Write,
     E: Write,
->(
-    rt: &H,
-    alloc: Global,
-    subcommand: Subcommand,
-    options: &ArgMatches<'_>,
-    input: R,
-    output: &mut W,
-    errors: &mut E,
-) -> End {
-    match subcommand {
-        Subcommand::Run => run(rt, alloc, options, input, output, errors),
-        Subcommand::Audit => audit(rt, alloc, options, input, output, errors),
-        Subcommand::Explain => explain(rt, alloc, options, input, output, errors),
-        Subcommand::Cut => cut(rt, alloc, options, input, output, errors),
-        Subcommand::Migrate => migrate(rt, alloc, options, input, output, errors),
-        Subcommand::Storm => storm(rt, alloc, options, output, errors),
-        Subcommand::Params => params(alloc, options, output, errors),
-        Subcommand::WhatIf => what_if(rt, alloc, options, input, output, errors),
-        Subcommand::Advise => advise(alloc, options, output, errors),
+>(call: &mut Call<'_, '_, '_, '_, H, E>, input: R, output: &mut W) -> End {
+    match call.page.subcommand {
+        Subcommand::Run => run(call, input, output),
+        Subcommand::Audit => audit(call, input, output),
+        Subcommand::Explain => explain(call, input, output),
+        Subcommand::Cut => cut(call, input, output),
+        Subcommand::Migrate => migrate(call, input, output),
+        Subcommand::Storm => storm(call, output),
+        Subcommand::Params => params(call, output),
+        Subcommand::WhatIf => what_if(call, input, output),
+        Subcommand::Advise => advise(call, output),
     }
 }
 
@@ -57,7 +49,7 @@ pub(crate) fn dispatch_to_file<
 >(
     rt: &mut H,
     alloc: Global,
-    subcommand: Subcommand,
+    page: HelpPage<'static>,
     options: &ArgMatches<'_>,
     name: &str,
     input: R,
@@ -67,16 +59,14 @@ pub(crate) fn dispatch_to_file<
     let Some(mut fresh) = create_output(rt, name, file(options), is_forced, errors) else {
         return End::NoOutputFile;
     };
-    let end = dispatch(&*rt, alloc, subcommand, options, input, &mut fresh, errors);
+    let mut call = Call {
+        rt: &*rt,
+        alloc,
+        page,
+        options,
+        errors: &mut *errors,
+    };
+    let end = dispatch(&mut call, input, &mut fresh);
     let is_there = finish_output(rt, fresh, name, is_forced, end.is_whole(), errors);
     end.after_output(is_there)
-}
-
-/// Returns the name of the file that a subcommand writes instead of the caller's writer.
-pub(crate) fn output_for<'a>(subcommand: Subcommand, options: &ArgMatches<'a>) -> Option<&'a str> {
-    if subcommand.has_output_file() {
-        output(options)
-    } else {
-        None
-    }
 }

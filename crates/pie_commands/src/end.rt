@@ -1,9 +1,10 @@
 //! The end of the program, its exit status, and the lines on the error stream.
 
+use crate::name::InLine;
 use pie_trace::TraceFault;
 use std::fmt::Display;
-use std::io;
 use std::io::Write;
+use std::{fmt, io};
 
 /// The end of `pie`.
 #[derive(Clone, Copy)]
@@ -92,13 +93,33 @@ pub(crate) fn end_failed<E: Write, D: Display + Drop>(errors: &mut E, text: D) -
     End::Failed
 }
 
+/// Writes a page, flushes the output, and returns the end.
+pub(crate) fn end_of_page<W: Write, E: Write>(page: &[u8], output: &mut W, errors: &mut E) -> End {
+    let written = output.write_all(page).is_ok() && output.flush().is_ok();
+    if written {
+        End::Done
+    } else {
+        end_with_fault(errors, TraceFault::Write)
+    }
+}
+
 /// Writes the line of a fault. A line that can't be written is passed over.
 pub(crate) fn fault<E: Write, D: Display + Drop>(errors: &mut E, text: D) {
     let _ = writeln!(errors, "pie: {text}");
 }
 
-/// Writes the line of a fault of the file `name`. The NUL behind a name that is not UTF-8 is left out.
+/// Writes the line of a fault of the file `name`.
 pub(crate) fn named_fault<E: Write, D: Display + Drop>(errors: &mut E, name: &str, text: D) {
-    let shown = name.strip_suffix('\0').unwrap_or(name);
-    let _ = writeln!(errors, "pie: {shown}: {text}");
+    let _ = writeln!(errors, "pie: {}: {text}", InLine(name));
+}
+
+/// A text, and a number after it.
+#[derive(Clone, Copy)]
+pub(crate) struct Counted(pub(crate) &'static str, pub(crate) u64);
+
+impl Display for Counted {
+    fn fmt<W: fmt::Write>(&self, f: &mut fmt::Formatter<W>) -> fmt::Result {
+        let (text, number) = (self.0, self.1);
+        write!(f, "{text} {number}")
+    }
 }

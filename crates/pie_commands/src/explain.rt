@@ -1,21 +1,20 @@
 //! `pie explain`: the choice of events by its options, and its end.
-ghost use Rattle.std.specs.Prelude.{◌≡◌};
+ghost use Rattle.std.specs.Prelude.{◌≡◌, is_none};
 ghost use Rattle.clap.specs.Words.{found_of, rows_of};
-ghost use Rattle.pie_commands.specs.Selections.{chosen_events, every_of, is_selected, is_summary, output_kind_of, selection_of, sums_kind};
+ghost use Rattle.pie_commands.specs.Selections.{chosen_events, every_of, is_selected, is_summary, may_combine, output_kind_of, selection_of, sums_kind};
 
-use crate::difference::report_difference;
-use crate::end::{End, end_failed, fault};
-use crate::fault_report::{EXPLAIN, end_with_fault_in};
+use crate::call::Call;
+use crate::end::{End, fault};
 use crate::files::{NamedFiles, open_input};
 use crate::json::JsonWriter;
-use crate::options::{
-    NO_ORDER, bound, file, flag, in_order, moment, number, parsed, report_two, text,
-};
+use crate::options::{bounds_of, file, flag, moment, number, parsed, report_two, text};
 use crate::progress::{ProgressReader, Screen, shows_progress, writes_to_terminal};
-use crate::steps::{explain_steps, report_explained};
+use crate::steps::{explain_steps, lacks_queue};
 use clap::ArgMatches;
 use pie_explain::{EventChoice, EventRecords, ExplainFault, Form, Selection, Words};
+use pie_linux_history::{StepsExplained, StepsFault, StepsFinding};
 use pie_summary::{ByFlow, Digest, IntervalLines, LineStyle, SummariesOnly};
+use pie_trace::TraceFault;
 use std::alloc::Global;
 use std::io::{Read, Write};
 
@@ -26,12 +25,6 @@ const ONE_CHOICE: &str =
 /// The message for an interval of length 0.
 const NO_PERIOD: &str = "--every: the interval must be at least 1 ns";
 
-/// The message for `--flows` together with `--digest`.
-const NOT_BOTH: &str = "--flows cannot be combined with --digest";
-
-/// The message for `--json` together with an option that it excludes.
-const JSON_ALONE: &str = "--json cannot be combined with --csv or --digest";
-
 /// The message for `--queue` with a history.
 const QUEUE_OF_STEPS: &str = "--queue is only for a text of pie-watch";
 
@@ -39,10 +32,7 @@ const QUEUE_OF_STEPS: &str = "--queue is only for a text of pie-watch";
 fn every_of(options: &ArgMatches<'_>) -> Option<u64>
     ensures { result ≡ every_of (rows_of (found_of options.now)) }
 {
-    match moment(options, "every") {
-        Ok(every) => every,
-        Err(_) => None,
-    }
+    moment(options, "every").unwrap_or(None)
 }
 
 /// Returns true if an option chooses events.
@@ -81,29 +71,39 @@ fn chosen_events(options: &ArgMatches<'_>) -> Option<EventChoice>
     }
 }
 
-/// Writes a line with two options that choose events, if two are given.
+/// Writes the lines of options that don't choose events by exactly one option.
 fn report_choices<E: Write>(options: &ArgMatches<'_>, errors: &mut E) {
-    let (event, tag) = (number(options, "event"), number(options, "tag"));
     let given = [
-        event.is_some(),
-        tag.is_some(),
-        flag(options, "lost"),
-        flag(options, "marked"),
-        flag(options, "all"),
+        ("event", number(options, "event").is_some()),
+        ("tag", number(options, "tag").is_some()),
+        ("lost", flag(options, "lost")),
+        ("marked", flag(options, "marked")),
+        ("all", flag(options, "all")),
     ];
-    report_two(&["event", "tag", "lost", "marked", "all"], &given, errors);
+    fault(errors, ONE_CHOICE);
+    report_two(&given, errors);
 }
 
-/// Writes the lines of options that don't choose events by exactly one option: those of invalid values, or if each value is
-/// valid, that of the choice.
-fn report_unchosen<E: Write>(options: &ArgMatches<'_>, errors: &mut E) {
-    let from = parsed(bound(options, "from"), "--from:", errors);
-    let to = parsed(bound(options, "to"), "--to:", errors);
-    let every = parsed(moment(options, "every"), "--every:", errors);
-    if from.is_some() && to.is_some() && every.is_some() {
-        fault(errors, ONE_CHOICE);
-        report_choices(options, errors);
+/// Returns why the options exclude each other, if they do.
+fn conflict(options: &ArgMatches<'_>, is_every: bool) -> Option<&'static str>
+    ensures { is_none result ≡ may_combine is_every (rows_of (found_of options.now)) }
+{
+    let (digest, csv) = (flag(options, "digest"), flag(options, "csv"));
+    if digest && number(options, "flows").is_some() {
+        return Some("--flows cannot be combined with --digest");
     }
+    if flag(options, "json") && (csv || digest) {
+        return Some("--json cannot be combined with --csv or --digest");
+    }
+    if flag(options, "full") && !is_every {
+        return Some("--full needs --every");
+    }
+    if flag(options, "summary") && is_every {
+        return Some(
+            "--summary cannot be combined with --every, which writes a line for each interval",
+        );
+    }
+    None
 }
 
 /// Returns the selection of these options. If they are not valid together, writes a line to `errors` and returns
@@ -112,33 +112,25 @@ fn report_unchosen<E: Write>(options: &ArgMatches<'_>, errors: &mut E) {
 fn selection_of<E: Write>(options: &ArgMatches<'_>, errors: &mut E) -> Option<Selection>
     ensures { result ≡ selection_of (rows_of (found_of options.now)) }
 {
+    let (from, to) = bounds_of(options, errors)?;
+    let every = parsed(moment(options, "every"), "--every:", errors)?;
     let Some(which) = chosen_events(options) else {
-        report_unchosen(options, errors);
+        report_choices(options, errors);
         return None;
     };
-    let from = parsed(bound(options, "from"), "--from:", errors)?;
-    let to = parsed(bound(options, "to"), "--to:", errors)?;
-    let every = parsed(moment(options, "every"), "--every:", errors)?;
     if matches!(every, Some(0)) {
         fault(errors, NO_PERIOD);
         return None;
     }
-    if flag(options, "digest") && number(options, "flows").is_some() {
-        fault(errors, NOT_BOTH);
-        return None;
-    }
-    if flag(options, "json") && (flag(options, "csv") || flag(options, "digest")) {
-        fault(errors, JSON_ALONE);
-        return None;
-    }
-    if !in_order(from, to) {
-        fault(errors, NO_ORDER);
+    if let Some(why) = conflict(options, every.is_some()) {
+        fault(errors, why);
         return None;
     }
     Some(Selection { which, from, to })
 }
 
 /// The kind of output about the chosen events.
+#[derive(Clone, Copy)]
 pub(crate) enum OutputKind {
     /// A CSV record for each event.
     Records(EventRecords),
@@ -222,31 +214,6 @@ fn explain_with<R: Read + Drop, W: Write>(
     }
 }
 
-/// Returns the end of an explanation with this result. `name` is the file of the text, if it has one. Unless the result
-/// is `Ok`, writes its lines to `errors`.
-fn report_end<H: NamedFiles, E: Write>(
-    rt: &H,
-    alloc: Global,
-    errors: &mut E,
-    name: Option<&str>,
-    outcome: Result<u64, ExplainFault>,
-) -> End {
-    match outcome {
-        Ok(_) => End::Done,
-        Err(ExplainFault::Trace(why)) => {
-            end_with_fault_in(rt, alloc, EXPLAIN, errors, name, why)
-        }
-        Err(ExplainFault::Differs { event }) => {
-            fault(errors, ExplainFault::Differs { event });
-            if let Some(name) = name {
-                report_difference(rt, alloc, name, event, true, errors);
-            }
-            End::Differs
-        }
-        Err(why) => end_failed(errors, why),
-    }
-}
-
 /// Returns the style of lines in the output of these options.
 fn style_of<H: Screen>(rt: &H, options: &ArgMatches<'_>) -> LineStyle {
     let repeats = writes_to_terminal(rt, options);
@@ -254,60 +221,88 @@ fn style_of<H: Screen>(rt: &H, options: &ArgMatches<'_>) -> LineStyle {
     LineStyle { repeats, colours }
 }
 
-/// Explains the events of `input` that the options choose, as `explain` does. Lines have this style.
-fn explain_chosen<H: NamedFiles + Screen, R: Read + Drop, W: Write, E: Write>(
-    rt: &H,
-    alloc: Global,
-    options: &ArgMatches<'_>,
-    style: LineStyle,
-    input: R,
-    output: &mut W,
-    errors: &mut E,
+/// Returns the end of an explanation of a history with this result.
+fn end_of<H: NamedFiles, E: Write>(
+    call: &mut Call<'_, '_, '_, '_, H, E>,
+    outcome: Result<u64, ExplainFault>,
 ) -> End {
-    let Some(selection) = selection_of(options, errors) else {
-        return End::Failed;
+    match outcome {
+        Ok(_) => End::Done,
+        Err(ExplainFault::Trace(why)) => call.end_at_fault(why),
+        Err(ExplainFault::Differs { event }) => {
+            call.end_at_event(ExplainFault::Differs { event }, event)
+        }
+        Err(why) => call.failed(why),
+    }
+}
+
+/// Returns the end of an explanation of recorded steps with this result. Writes the output that was withheld, unless the text
+/// lacks the chosen queue.
+fn end_of_steps<H: NamedFiles, W: Write, E: Write>(
+    call: &mut Call<'_, '_, '_, '_, H, E>,
+    output: &mut JsonWriter<'_, W>,
+    selection: Selection,
+    queue: Option<&str>,
+    outcome: Result<StepsExplained, StepsFault>,
+) -> End {
+    let is_absent = match outcome {
+        Ok(explained) => lacks_queue(queue, explained.finding),
+        Err(_) => false,
     };
-    let is_shown = shows_progress(rt, options, true);
-    let (watched, kind) = ProgressReader::recognizing(input, &mut *errors, rt, is_shown);
-    let mut output = JsonWriter::new(alloc, output, flag(options, "json"));
-    match kind {
-        Ok(true) => {
-            let (kind, queue) = (output_kind_of(options, style), text(options, "queue"));
-            let outcome = explain_steps(alloc, watched, &mut output, selection, queue, kind);
-            report_explained(errors, file(options), selection, queue, outcome)
-        }
-        Ok(false) => {
-            if text(options, "queue").is_some() {
-                drop(watched);
-                return end_failed(errors, QUEUE_OF_STEPS);
+    if !is_absent && output.release().is_err() {
+        return call.end_at_fault(TraceFault::Write);
+    }
+    match outcome {
+        Ok(StepsExplained { count, finding }) => match finding {
+            StepsFinding::Clean(counts) => call.end_of_clean_steps(selection, queue, count, counts),
+            StepsFinding::Differs(found) => {
+                let event = found.event;
+                call.end_at_step(ExplainFault::Differs { event }, found)
             }
-            let kind = output_kind_of(options, style);
-            let outcome = explain_with(alloc, watched, &mut output, selection, kind);
-            report_end(rt, alloc, errors, file(options), outcome)
-        }
-        Err(why) => {
-            drop(watched);
-            end_with_fault_in(rt, alloc, EXPLAIN, errors, file(options), why)
-        }
+        },
+        Err(why) => call.end_of_steps(None, file(call.options), why),
     }
 }
 
 /// `pie explain`: explains the chosen events of the text in the file that the options name, or in `input`,
 /// up to its first fault or the first event that differs. Returns a difference as `End::Differs`. If the text has a
 /// fault, the options choose events more than once, no event matches, or the reader, the writer or memory fails, the end
-/// is an error. Each error has a line on `errors`; a writer's fault is reported later (`End::report`). On a
+/// is an error. Each error has a line on the error stream; a writer's fault is reported later (`End::report`). On a
 /// terminal the header of lines is repeated, and lines are coloured unless the user wants no colours.
 pub(crate) fn explain<H: NamedFiles + Screen, R: Read + Drop, W: Write, E: Write>(
-    rt: &H,
-    alloc: Global,
-    options: &ArgMatches<'_>,
+    call: &mut Call<'_, '_, '_, '_, H, E>,
     input: R,
     output: &mut W,
-    errors: &mut E,
 ) -> End {
-    let Some(reader) = open_input(rt, options, input, errors) else {
+    let (rt, alloc, options) = (call.rt, call.alloc, call.options);
+    let Some(selection) = selection_of(options, call.errors) else {
+        return End::Failed;
+    };
+    let Some(reader) = open_input(rt, options, input, call.errors) else {
         return End::Unopened;
     };
-    let style = style_of(rt, options);
-    explain_chosen(rt, alloc, options, style, reader, output, errors)
+    let (kind, queue) = (
+        output_kind_of(options, style_of(rt, options)),
+        text(options, "queue"),
+    );
+    let is_shown = shows_progress(rt, options, true);
+    let mut output = JsonWriter::new(alloc, output, flag(options, "json"), queue.is_some());
+    let (watched, found) = ProgressReader::recognizing(reader, &mut *call.errors, rt, is_shown);
+    let is_steps = match found {
+        Ok(is_steps) => is_steps,
+        Err(why) => {
+            drop(watched);
+            return call.end_at_fault(why);
+        }
+    };
+    if is_steps {
+        let outcome = explain_steps(alloc, watched, &mut output, selection, queue, kind);
+        return end_of_steps(call, &mut output, selection, queue, outcome);
+    }
+    if queue.is_some() {
+        drop(watched);
+        return call.failed(QUEUE_OF_STEPS);
+    }
+    let outcome = explain_with(alloc, watched, &mut output, selection, kind);
+    end_of(call, outcome)
 }

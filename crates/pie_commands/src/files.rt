@@ -121,21 +121,24 @@ fn refusal(is_input: bool, is_taken: bool, is_forced: bool) -> Option<&'static s
     None
 }
 
-/// Returns true if standard output is the file that is read: the file `read`, or standard input. Writes a line then.
+/// Returns true if standard output is a file that is read: one of `names`, or standard input without a name. Writes a line then.
 pub(crate) fn is_input_written<H: NamedFiles, E: Write>(
     rt: &H,
-    read: Option<&str>,
+    names: Option<&[&str]>,
     errors: &mut E,
 ) -> bool {
-    let read = file_of(read);
-    let Some(why) = refusal(rt.is_same_file("/dev/stdout", read), false, false) else {
-        return false;
-    };
-    match read {
-        Some(name) => named_fault(errors, name, why),
-        None => fault(errors, why),
+    let names = names.unwrap_or(&[]);
+    for place in 0..names.len().max(1) {
+        let read = file_of(names.get(place).copied());
+        if let Some(why) = refusal(rt.is_same_file("/dev/stdout", read), false, false) {
+            match read {
+                Some(name) => named_fault(errors, name, why),
+                None => fault(errors, why),
+            }
+            return true;
+        }
     }
-    true
+    false
 }
 
 /// Creates a file that can be moved onto `name`. If it can't be created, a file of the name must not be replaced, or is

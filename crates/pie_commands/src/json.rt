@@ -69,15 +69,25 @@ pub(crate) struct JsonWriter<'a, W: Write> {
     next: usize,
     /// The bytes of the field under way.
     field: Vec<u8>,
-    /// Memory for objects on their way to the writer.
+    /// Objects, or withheld text, on their way to the writer.
     objects: Vec<u8>,
     /// True after a write for which there was no memory.
     is_short: bool,
+    /// The output is withheld, until it is long or released.
+    is_withheld: bool,
 }
 
+/// The number of bytes that are withheld at most.
+const MAX_WITHHELD: usize = 1 << 16;
+
 impl<'a, W: Write> JsonWriter<'a, W> {
-    /// Returns a writer of objects, or unless it `is_json` of the text itself. Takes no memory.
-    pub(crate) fn new(alloc: Global, output: &'a mut W, is_json: bool) -> JsonWriter<'a, W> {
+    /// Returns a writer of objects, or unless it `is_json` of the text itself. Its output may be withheld. Takes no memory.
+    pub(crate) fn new(
+        alloc: Global,
+        output: &'a mut W,
+        is_json: bool,
+        is_withheld: bool,
+    ) -> JsonWriter<'a, W> {
         JsonWriter {
             output,
             is_json,
@@ -86,7 +96,16 @@ impl<'a, W: Write> JsonWriter<'a, W> {
             field: Vec::new(alloc),
             objects: Vec::new(alloc),
             is_short: false,
+            is_withheld,
         }
+    }
+
+    /// Writes the output that was withheld. Later output is not withheld.
+    pub(crate) fn release(&mut self) -> io::Result<()> {
+        self.is_withheld = false;
+        self.output.write_all(self.objects.as_slice())?;
+        self.objects.clear();
+        Ok(())
     }
 
     /// Returns the fault of a text that is written here: if memory was short, a failed write is a lack of memory.
@@ -113,6 +132,17 @@ impl<'a, W: Write> JsonWriter<'a, W> {
         Ok(())
     }
 
+    /// Adds the objects of a text, or the text itself, to those on their way.
+    fn keep(&mut self, text: &[u8]) -> io::Result<()> {
+        if !self.is_json {
+            return self.objects.write_all(text);
+        }
+        for byte in text {
+            self.read(*byte)?;
+        }
+        Ok(())
+    }
+
     /// Reads one more byte.
     #[inline(always)]
     fn read(&mut self, byte: u8) -> io::Result<()> {
@@ -133,21 +163,23 @@ impl<'a, W: Write> JsonWriter<'a, W> {
 
 impl<W: Write> Write for JsonWriter<'_, W> {
     fn write(&mut self, text: &[u8]) -> io::Result<usize> {
-        if !self.is_json {
+        if !self.is_json && !self.is_withheld {
             return self.output.write(text);
         }
-        self.objects.clear();
-        for byte in text {
-            if let Err(why) = self.read(*byte) {
-                self.is_short = true;
-                return Err(why);
-            }
+        if let Err(why) = self.keep(text) {
+            self.is_short = true;
+            return Err(why);
         }
-        self.output.write_all(self.objects.as_slice())?;
+        if !self.is_withheld || self.objects.len() > MAX_WITHHELD {
+            self.release()?;
+        }
         Ok(text.len())
     }
 
     fn flush(&mut self) -> io::Result<()> {
+        if self.is_withheld {
+            return Ok(());
+        }
         self.output.flush()
     }
 }

@@ -1,5 +1,6 @@
 //! The command line of `pie`. `command` runs the whole program: it parses the arguments, and `dispatch` calls the function
-//! of the subcommand. Each subcommand has a file and a function of its name. `options` has the parser of the arguments,
+//! of the subcommand. Each subcommand has a file and a function of its name
+//! (`migrate` is in run.rt), which receives a `Call`. `options` has the parser of the arguments,
 //! and `files` opens and creates the named files.
 //!
 //! Each subcommand returns an `End`. Contracts state what the options select: events, pieces, parameters and plans. Texts,
@@ -12,7 +13,7 @@
 //!
 //! `ProgressReader` wraps a reader. It returns exactly the bytes of the inner reader: `remaining` is the inner reader's.
 //! `recognizing` reads the first bytes, and returns them again: a text of recorded steps of Linux is audited, explained and
-//! cut by pie_linux_history (steps.rt, cut_steps.rt), any other text as a history.
+//! cut by pie_linux_history (steps.rt), any other text as a history.
 //! If progress is requested, it counts these bytes. After each 8 megabytes it overwrites its last line with the
 //! number of records and megabytes and the rate in megabytes per second. It clears the line at the end of the
 //! input, or when it is dropped. It ignores failed writes to the error stream and a clock that can't be read.
@@ -21,25 +22,25 @@
 mod advise;
 mod audit;
 mod audit_json;
+mod call;
 mod comparison;
 mod cut;
-mod cut_steps;
 mod difference;
 mod dispatch;
 mod end;
 mod explain;
-mod fault_report;
 mod files;
 mod head;
 mod joint;
 mod json;
-mod migrate;
+mod name;
 mod options;
 mod params;
 mod program;
 mod progress;
 mod run;
 mod steps;
+mod steps_fault;
 mod storm;
 mod system_files;
 mod what_if;

@@ -7,8 +7,9 @@ ghost use Rattle.pie_units.specs.declared.layer.Overhead.{Overhead};
 ghost use Rattle.pie_units.specs.declared.options.TuningOptions.{TuningOptions};
 ghost use Rattle.pie_commands.specs.Tuning.{AsksFor, AsksForLayer, IsRequested, RefusesParams, given_or, link_layer_by, number_by};
 
+use crate::call::Call;
 use crate::end::{End, end_with_fault, fault};
-use crate::options::{flag, number, number_or, parsed, report_keyword, report_nearest, text};
+use crate::options::{flag, number, number_or, parsed, report_nearest, text};
 use crate::storm::decay_of;
 use clap::ArgMatches;
 use pie_book::Limits;
@@ -120,7 +121,7 @@ fn tuning_in<E: Write>(
     let layer = layer_in(alloc, options, errors)?;
     let Some(decay) = decay_of(options) else {
         let _ = writeln!(errors, "pie: --decay must be zero or half");
-        report_keyword(alloc, options, "decay", "zero", "half", errors);
+        report_nearest(alloc, options, "decay", &["zero", "half"], errors);
         return None;
     };
     Some(TuningOptions {
@@ -141,14 +142,8 @@ fn tuning_in<E: Write>(
     })
 }
 
-/// Warns of each gain that is rounded, if the queue is full before the delay reaches the target, if the chosen limit in
-/// packets is below a burst or above a second, and if the estimator of the departure rate can stall.
-fn warn<E: Write>(
-    options: &ArgMatches<'_>,
-    asked: &TuningOptions,
-    params: &RawParams,
-    errors: &mut E,
-) {
+/// Warns of each gain that is rounded.
+pub(crate) fn warn_rounded<E: Write>(options: &ArgMatches<'_>, errors: &mut E) {
     for name in ["alpha", "beta"] {
         if number(options, name).unwrap_or(0) % 2 == 1 {
             let _ = writeln!(
@@ -157,6 +152,16 @@ fn warn<E: Write>(
             );
         }
     }
+}
+
+/// Warns if the queue is full before the delay reaches the target, if the chosen limit in packets is below a burst or above a
+/// second, and if the estimator of the departure rate can stall.
+fn warn<E: Write>(
+    options: &ArgMatches<'_>,
+    asked: &TuningOptions,
+    params: &RawParams,
+    errors: &mut E,
+) {
     let (limit, threshold) = (params.limit_bytes, params.dq_threshold);
     if is_short(asked.rate, params) {
         let _ = writeln!(
@@ -205,22 +210,21 @@ fn opening_in<E: Write>(alloc: Global, options: &ArgMatches<'_>, errors: &mut E)
         fault(errors, "--limit must be 1 to 1048576 packets");
         return None;
     }
+    warn_rounded(options, errors);
     warn(options, &asked, &params.raw(), errors);
     Some(opening_for(asked.packets as u32, elements_for(&asked), params))
 }
 
 /// `pie params`: writes the record that opens a book with the parameters of these options.
-pub(crate) fn params<W: Write, E: Write>(
-    alloc: Global,
-    options: &ArgMatches<'_>,
+pub(crate) fn params<H, W: Write, E: Write>(
+    call: &mut Call<'_, '_, '_, '_, H, E>,
     output: &mut W,
-    errors: &mut E,
 ) -> End {
-    let Some(opening) = opening_in(alloc, options, errors) else {
+    let Some(opening) = opening_in(call.alloc, call.options, call.errors) else {
         return End::Failed;
     };
     match write_opening(&opening, output) {
         Ok(()) => End::Done,
-        Err(_) => end_with_fault(errors, TraceFault::Write),
+        Err(_) => end_with_fault(call.errors, TraceFault::Write),
     }
 }

@@ -1,9 +1,12 @@
 //! The whole program over a list of words, a reader, files and two writers.
 
-use crate::dispatch::{dispatch, dispatch_to_file, output_for};
+use crate::call::Call;
+use crate::dispatch::{dispatch, dispatch_to_file};
 use crate::end::{End, end_failed, end_unable, end_with_fault};
 use crate::files::{NamedFiles, is_input_written};
-use crate::options::{Subcommand, file, options, report_elements, report_numbers};
+use crate::options::{
+    HelpPage, options, output as output_file, page_named, report_elements, report_numbers,
+};
 use crate::progress::Screen;
 use clap::error::ErrorKind;
 use clap::{ArgMatches, Error};
@@ -86,25 +89,36 @@ fn perform<H: Threads + Wait + Sync + NamedFiles + Screen, R: Read + Drop, W: Wr
         Ok(matches) => matches,
         Err(why) => return mistake(why, output, errors),
     };
-    let Some((subcommand, options)) = chosen_subcommand(matches) else {
+    let Some((page, options)) = chosen_subcommand(matches) else {
         return end_failed(errors, "no subcommand");
     };
-    let is_written = output_for(subcommand, options).is_none();
-    if is_written && subcommand.has_output_file() && is_input_written(&*rt, file(options), errors) {
+    let name = if page.has("output") {
+        output_file(options)
+    } else {
+        None
+    };
+    if let Some(name) = name {
+        return dispatch_to_file(rt, alloc, page, options, name, input, errors);
+    }
+    if page.has("file") && is_input_written(&*rt, options.get_strs("file"), errors) {
         return End::NoOutputFile;
     }
-    match output_for(subcommand, options) {
-        None => dispatch(&*rt, alloc, subcommand, options, input, output, errors),
-        Some(name) => dispatch_to_file(rt, alloc, subcommand, options, name, input, errors),
-    }
+    let mut call = Call {
+        rt: &*rt,
+        alloc,
+        page,
+        options,
+        errors,
+    };
+    dispatch(&mut call, input, output)
 }
 
-/// Returns the subcommand of the command line with its options, or `None` if there is no subcommand.
+/// Returns the page of the subcommand of the command line with its options, or `None` if there is no subcommand.
 fn chosen_subcommand<'a, 'b>(
     matches: &'b ArgMatches<'a>,
-) -> Option<(Subcommand, &'b ArgMatches<'a>)> {
+) -> Option<(HelpPage<'static>, &'b ArgMatches<'a>)> {
     let (name, options) = matches.subcommand()?;
-    Some((Subcommand::named(name)?, options))
+    Some((page_named(name)?, options))
 }
 
 /// Writes the help that was requested to `output`, or the message of a mistake to `errors`.

@@ -240,12 +240,15 @@ impl Screen for HostRuntime {
         self.stderr().is_terminal()
     }
 
-    /// Returns false if the environment variable `NO_COLOR` is set and not empty.
+    /// Returns false if the environment variable `NO_COLOR` is set and not empty, or if `TERM` is `dumb`.
     fn allows_colours(&self) -> bool {
-        matches!(
+        let mut term = [0; 4];
+        let is_dumb = matches!(self.var("TERM", &mut term), Ok(4)) && term == *b"dumb";
+        let is_unset = matches!(
             self.var("NO_COLOR", &mut [0; 1]),
             Ok(0) | Err(FillError::NotPresent)
-        )
+        );
+        is_unset && !is_dumb
     }
 }
 

@@ -4,8 +4,9 @@ ghost use Rattle.clap.specs.Words.{found_of, rows_of};
 ghost use Rattle.pie_commands.specs.Storms.{choice_by, decay_in, elements_in, numbers_in};
 ghost use Rattle.pie_storm.specs.Plans.{HasStormRange};
 
+use crate::call::Call;
 use crate::end::{End, end_failed, end_unable, end_with_fault};
-use crate::options::{flag, number_or, report_keyword, text};
+use crate::options::{flag, number_or, report_nearest, text};
 use clap::ArgMatches;
 use pie_book::{Event, Profile};
 use pie_params::{Decay, Delay, Elements, Picking, Size, Step};
@@ -71,11 +72,17 @@ fn elements_of(options: &ArgMatches<'_>) -> Option<Elements>
 
 /// Writes a line for each of these options whose text names no choice.
 fn report_keywords<E: Write>(alloc: Global, options: &ArgMatches<'_>, errors: &mut E) {
-    report_keyword(alloc, options, "delay", "rate", "stamp", errors);
-    report_keyword(alloc, options, "picking", "derandomized", "random", errors);
-    report_keyword(alloc, options, "step", "capped", "uncapped", errors);
-    report_keyword(alloc, options, "size", "unscaled", "scaled", errors);
-    report_keyword(alloc, options, "decay", "zero", "half", errors);
+    report_nearest(alloc, options, "delay", &["rate", "stamp"], errors);
+    report_nearest(
+        alloc,
+        options,
+        "picking",
+        &["derandomized", "random"],
+        errors,
+    );
+    report_nearest(alloc, options, "step", &["capped", "uncapped"], errors);
+    report_nearest(alloc, options, "size", &["unscaled", "scaled"], errors);
+    report_nearest(alloc, options, "decay", &["zero", "half"], errors);
 }
 
 /// Returns the numbers of the plan that these options request, with these elements. Each number has a default for a command line without it.
@@ -104,29 +111,27 @@ fn numbers_of(options: &ArgMatches<'_>, elements: Elements) -> StormNumbers
 /// choice, the end is `Failed`; if memory or a thread is missing, `CannotStart`; if the writer fails or memory is short
 /// meanwhile, a fault; otherwise `Done`.
 pub(crate) fn storm<H: Threads + Wait + Clock + Sync, W: Write, E: Write>(
-    rt: &H,
-    alloc: Global,
-    options: &ArgMatches<'_>,
+    call: &mut Call<'_, '_, '_, '_, H, E>,
     output: &mut W,
-    errors: &mut E,
 ) -> End {
+    let (alloc, options) = (call.alloc, call.options);
     let Some(elements) = elements_of(options) else {
-        let end = end_failed(errors, NO_CHOICE);
-        report_keywords(alloc, options, errors);
+        let end = end_failed(call.errors, NO_CHOICE);
+        report_keywords(alloc, options, call.errors);
         return end;
     };
-    let made = match pie_storm::make_storm(rt, alloc, numbers_of(options, elements)) {
+    let made = match pie_storm::make_storm(call.rt, alloc, numbers_of(options, elements)) {
         Ok(made) => made,
-        Err(why) => return end_unable(errors, why),
+        Err(why) => return end_unable(call.errors, why),
     };
     let events = made.end.events.as_slice();
-    report_counts(options, events, errors);
+    report_counts(options, events, call.errors);
     let written = write_storm(alloc, &made.plan, events, output);
     drop(made);
     match written {
         Ok(()) => End::Done,
-        Err(TraceFault::Memory) => end_with_fault(errors, TraceFault::Memory),
-        Err(_) => end_with_fault(errors, TraceFault::Write),
+        Err(TraceFault::Memory) => end_with_fault(call.errors, TraceFault::Memory),
+        Err(_) => end_with_fault(call.errors, TraceFault::Write),
     }
 }
 

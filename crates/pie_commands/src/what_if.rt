@@ -3,12 +3,12 @@ ghost use Rattle.std.specs.Prelude.{◌≡◌};
 ghost use Rattle.clap.specs.Words.{found_of, rows_of};
 ghost use Rattle.pie_commands.specs.Alterations.{alteration_of, checked_alteration, gain_given, other_with, time_given};
 
-use crate::comparison::{Column, Columns, NO_REACTION, Table, comparison, fault_in_memory};
-use crate::difference::report_difference;
-use crate::end::{End, end_failed, end_with_fault, fault};
-use crate::fault_report::{WHAT_IF, end_with_fault_in};
+use crate::call::Call;
+use crate::comparison::{Column, NO_REACTION, Table, comparison, fault_in_memory};
+use crate::end::{End, end_of_page, end_with_fault, fault};
 use crate::files::{NamedFiles, open_input};
-use crate::options::{bound, file, flag, number, output as output_file, parsed, text};
+use crate::options::{bound, flag, number, output as output_file, parsed, text};
+use crate::params::warn_rounded;
 use crate::progress::{ProgressReader, Screen, shows_progress};
 use clap::ArgMatches;
 use pie_explain::ExplainFault;
@@ -19,7 +19,6 @@ use pie_what_if::{
     Alteration, Omitted, OtherParams, WhatIfEnd, WhatIfFault, what_if as decide_again,
 };
 use std::alloc::Global;
-use std::io;
 use std::io::{ErrorKind, Read, Write};
 
 /// The message for options without a moment.
@@ -125,25 +124,11 @@ fn alteration_of<E: Write>(options: &ArgMatches<'_>, errors: &mut E) -> Option<A
     )
 }
 
-/// Warns of each gain that is rounded.
-fn warn_rounded<E: Write>(options: &ArgMatches<'_>, errors: &mut E) {
-    for name in ["alpha", "beta"] {
-        if number(options, name).unwrap_or(0) % 2 == 1 {
-            let _ = writeln!(
-                errors,
-                "pie: warning: {name} is rounded down to a whole number of thousandths per second"
-            );
-        }
-    }
-}
-
 /// The output that the options request.
 #[derive(Clone, Copy)]
 enum Wanted {
-    /// The other history, to a file.
-    File,
-    /// The other history, to standard output.
-    Standard,
+    /// The other history: to a file, or if it is wanted `whole`, to standard output.
+    Other { whole: bool },
     /// A comparison.
     Comparison(Table),
 }
@@ -152,13 +137,9 @@ enum Wanted {
 fn output_wanted(options: &ArgMatches<'_>) -> Option<Wanted> {
     let (csv, json) = (flag(options, "csv"), flag(options, "json"));
     match (text(options, "output"), csv, json) {
-        (Some(_), false, false) => {
-            if output_file(options).is_some() {
-                Some(Wanted::File)
-            } else {
-                Some(Wanted::Standard)
-            }
-        }
+        (Some(_), false, false) => Some(Wanted::Other {
+            whole: output_file(options).is_none(),
+        }),
         (None, false, false) => Some(Wanted::Comparison(Table::Words)),
         (None, true, false) => Some(Wanted::Comparison(Table::Csv)),
         (None, false, true) => Some(Wanted::Comparison(Table::Json)),
@@ -185,126 +166,48 @@ fn report_omitted<E: Write>(errors: &mut E, omitted: Omitted) {
     }
 }
 
-/// Returns the end of a history that was not decided again, by this reason. `name` is the file of the text, if it has one.
-/// Writes the lines of the reason to `errors`.
-fn end_of_fault<H: NamedFiles, E: Write>(
-    rt: &H,
-    alloc: Global,
-    errors: &mut E,
-    name: Option<&str>,
+/// Returns the end of a history that was not decided again, by this reason. If the output was collected in memory, a failed
+/// write is a lack of memory.
+fn end_of<H: NamedFiles, E: Write>(
+    call: &mut Call<'_, '_, '_, '_, H, E>,
+    is_in_memory: bool,
     why: WhatIfFault,
 ) -> End {
     match why {
-        WhatIfFault::Trace(why) => end_with_fault_in(rt, alloc, WHAT_IF, errors, name, why),
+        WhatIfFault::Trace(why) if is_in_memory => call.end_at_fault(fault_in_memory(why)),
+        WhatIfFault::Trace(why) => call.end_at_fault(why),
         WhatIfFault::Differs { event } => {
-            fault(errors, WhatIfFault::Differs { event });
-            if let Some(name) = name {
-                report_difference(rt, alloc, name, event, false, errors);
-            }
+            let _ = call.end_at_event(WhatIfFault::Differs { event }, event);
             End::Failed
         }
-        WhatIfFault::NoEvents => end_failed(errors, WhatIfFault::NoEvents),
+        WhatIfFault::NoEvents => call.failed(WhatIfFault::NoEvents),
     }
 }
 
-/// Returns the end of a text that was collected in memory, by this reason, as `end_of_fault` does.
-fn end_in_memory<H: NamedFiles, E: Write>(
-    rt: &H,
-    alloc: Global,
-    errors: &mut E,
-    name: Option<&str>,
-    why: WhatIfFault,
-) -> End {
-    let why = match why {
-        WhatIfFault::Trace(why) => WhatIfFault::Trace(fault_in_memory(why)),
-        _ => why,
-    };
-    end_of_fault(rt, alloc, errors, name, why)
-}
-
-/// Writes the other history of a text to `output`, the new file.
+/// Writes the other history of a text to `output`: while it is decided, or if it is wanted `whole`, once it is complete.
 fn write_other<H: NamedFiles + Screen, R: Read + Drop, W: Write, E: Write>(
-    rt: &H,
-    alloc: Global,
-    options: &ArgMatches<'_>,
+    call: &mut Call<'_, '_, '_, '_, H, E>,
     alteration: &Alteration,
+    whole: bool,
     reader: R,
     output: &mut W,
-    errors: &mut E,
 ) -> End {
-    let watched = ProgressReader::new(reader, &mut *errors, rt, shows_progress(rt, options, true));
-    match decide_again(alloc, watched, output, alteration) {
+    let (rt, alloc) = (call.rt, call.alloc);
+    let is_shown = shows_progress(rt, call.options, true);
+    let watched = ProgressReader::new(reader, &mut *call.errors, rt, is_shown);
+    let mut page = Vec::new(alloc);
+    let outcome = if whole {
+        decide_again(alloc, watched, &mut page, alteration)
+    } else {
+        decide_again(alloc, watched, output, alteration)
+    };
+    match outcome {
         Ok(end) => {
-            fault(errors, NO_REACTION);
-            report_omitted(errors, end.omitted);
-            End::Done
+            fault(call.errors, NO_REACTION);
+            report_omitted(call.errors, end.omitted);
+            end_of_page(&page, output, call.errors)
         }
-        Err(why) => end_of_fault(rt, alloc, errors, file(options), why),
-    }
-}
-
-/// Writes the other history of a text to `output` once it is complete.
-fn write_whole<H: NamedFiles + Screen, R: Read + Drop, W: Write, E: Write>(
-    rt: &H,
-    alloc: Global,
-    options: &ArgMatches<'_>,
-    alteration: &Alteration,
-    reader: R,
-    output: &mut W,
-    errors: &mut E,
-) -> End {
-    let watched = ProgressReader::new(reader, &mut *errors, rt, shows_progress(rt, options, true));
-    let mut other = Vec::new(alloc);
-    match decide_again(alloc, watched, &mut other, alteration) {
-        Ok(end) => {
-            fault(errors, NO_REACTION);
-            report_omitted(errors, end.omitted);
-            end_of_page(write_page(&other, output), errors)
-        }
-        Err(why) => end_in_memory(rt, alloc, errors, file(options), why),
-    }
-}
-
-/// Returns the bytes of a reader.
-fn read_whole<R: Read + Drop>(alloc: Global, reader: R) -> Result<Vec<u8>, TraceFault> {
-    let mut reader = reader;
-    let mut bytes = Vec::new(alloc);
-    match reader.read_to_end(&mut bytes) {
-        Ok(_) => Ok(bytes),
-        Err(why) => {
-            drop(bytes);
-            if matches!(why.kind(), ErrorKind::OutOfMemory) {
-                return Err(TraceFault::Memory);
-            }
-            Err(TraceFault::Read)
-        }
-    }
-}
-
-/// Writes a page, and flushes the output.
-fn write_page<W: Write>(page: &[u8], output: &mut W) -> io::Result<()> {
-    output.write_all(page)?;
-    output.flush()
-}
-
-/// Returns the end of an output that was written with this result.
-fn end_of_page<E: Write>(written: io::Result<()>, errors: &mut E) -> End {
-    match written {
-        Ok(()) => End::Done,
-        Err(_) => end_with_fault(errors, TraceFault::Write),
-    }
-}
-
-/// Writes the text of a comparison, or the line of a failure to `errors`, and returns the end.
-fn end_of_comparison<W: Write, E: Write>(
-    page: Result<Vec<u8>, ExplainFault>,
-    output: &mut W,
-    errors: &mut E,
-) -> End {
-    match page {
-        Ok(page) => end_of_page(write_page(&page, output), errors),
-        Err(ExplainFault::Trace(why)) => end_with_fault(errors, why),
-        Err(why) => end_failed(errors, why),
+        Err(why) => end_of(call, whole, why),
     }
 }
 
@@ -338,88 +241,85 @@ fn compare_text(
     let (control, control_end) = decide_in_memory(alloc, text, &control)?;
     let (other, end) = decide_in_memory(alloc, text, alteration)?;
     let after = end.before.saturating_add(1);
-    let columns = Columns {
-        recorded: Column {
+    let columns = [
+        Column {
             text,
             after: end.before,
             omitted: Omitted::default(),
         },
-        control: Column {
+        Column {
             text: &control,
             after,
             omitted: control_end.omitted,
         },
-        other: Column {
+        Column {
             text: &other,
             after,
             omitted: end.omitted,
         },
-    };
-    Ok(comparison(alloc, &columns, table))
+    ];
+    Ok(comparison(alloc, columns, table))
 }
 
 /// Compares the history of `reader`, which is read into memory, with its control and the other history.
 fn compare<H: NamedFiles + Screen, R: Read + Drop, W: Write, E: Write>(
-    rt: &H,
-    alloc: Global,
-    options: &ArgMatches<'_>,
+    call: &mut Call<'_, '_, '_, '_, H, E>,
     alteration: &Alteration,
     table: Table,
     reader: R,
     output: &mut W,
-    errors: &mut E,
 ) -> End {
-    let watched = ProgressReader::new(reader, &mut *errors, rt, shows_progress(rt, options, true));
-    let text = match read_whole(alloc, watched) {
-        Ok(text) => text,
-        Err(why) => return end_with_fault_in(rt, alloc, WHAT_IF, errors, file(options), why),
-    };
+    let (rt, alloc) = (call.rt, call.alloc);
+    let is_shown = shows_progress(rt, call.options, true);
+    let mut watched = ProgressReader::new(reader, &mut *call.errors, rt, is_shown);
+    let mut text = Vec::new(alloc);
+    let read = watched.read_to_end(&mut text);
+    drop(watched);
+    if let Err(why) = read {
+        let is_short = matches!(why.kind(), ErrorKind::OutOfMemory);
+        let fault = if is_short {
+            TraceFault::Memory
+        } else {
+            TraceFault::Read
+        };
+        return call.end_at_fault(fault);
+    }
     match compare_text(alloc, alteration, table, &text) {
         Ok(page) => {
             if !matches!(table, Table::Words) {
-                fault(errors, NO_REACTION);
+                fault(call.errors, NO_REACTION);
             }
-            end_of_comparison(page, output, errors)
+            match page {
+                Ok(page) => end_of_page(&page, output, call.errors),
+                Err(ExplainFault::Trace(why)) => end_with_fault(call.errors, why),
+                Err(why) => call.failed(why),
+            }
         }
-        Err(why) => end_in_memory(rt, alloc, errors, file(options), why),
+        Err(why) => end_of(call, true, why),
     }
 }
 
 /// `pie what-if`: decides the history or excerpt in the file that the options name, or in `input`, again with other
 /// parameters from a moment on. With `-o` writes the other history, otherwise a comparison. An event that differs from
-/// the rules, or options that are not valid, are a failure. Each error has a line on `errors`.
+/// the rules, or options that are not valid, are a failure. Each error has a line on the error stream.
 pub(crate) fn what_if<H: NamedFiles + Screen, R: Read + Drop, W: Write, E: Write>(
-    rt: &H,
-    alloc: Global,
-    options: &ArgMatches<'_>,
+    call: &mut Call<'_, '_, '_, '_, H, E>,
     input: R,
     output: &mut W,
-    errors: &mut E,
 ) -> End {
-    let Some(alteration) = alteration_of(options, errors) else {
+    let options = call.options;
+    let Some(alteration) = alteration_of(options, call.errors) else {
         return End::Failed;
     };
     let Some(wanted) = output_wanted(options) else {
-        return end_failed(errors, ONE_FORM);
+        return call.failed(ONE_FORM);
     };
-    warn_rounded(options, errors);
-    let Some(reader) = open_input(rt, options, input, errors) else {
+    warn_rounded(options, call.errors);
+    let Some(reader) = open_input(call.rt, options, input, call.errors) else {
         return End::Unopened;
     };
     match wanted {
-        Wanted::File => write_other(rt, alloc, options, &alteration, reader, output, errors),
-        Wanted::Standard => write_whole(rt, alloc, options, &alteration, reader, output, errors),
-        Wanted::Comparison(table) => {
-            compare(
-                rt,
-                alloc,
-                options,
-                &alteration,
-                table,
-                reader,
-                output,
-                errors,
-            )
-        }
+        Wanted::Other { whole } => write_other(call, &alteration, whole, reader, output),
+        Wanted::Comparison(table) => compare(call, &alteration, table, reader, output),
     }
 }

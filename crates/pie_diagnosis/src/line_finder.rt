@@ -91,7 +91,11 @@ impl LineFinder {
     /// Takes the next bytes up to the searched record. Returns its line if it begins there.
     fn take_all(&mut self, bytes: &[u8]) -> Option<u64> {
         for place in 0..bytes.len() {
-            if self.take(bytes[place]) {
+            let byte = bytes[place];
+            // Within a field, the quote, the comma and the ends of lines alone have a meaning: the others are above the comma.
+            if byte > b',' && matches!(self.position, Position::InField) {
+                self.before = byte;
+            } else if self.take(byte) {
                 return Some(self.line);
             }
         }

@@ -123,17 +123,17 @@ fn write_hint<W: Write>(hint: Hint, name: &str, command: &str, writer: &mut W) -
     match hint {
         Hint::Empty => writeln!(writer, "pie: {name} is empty"),
         Hint::NoRecord => writeln!(writer, "pie: {name} has no record"),
-        Hint::Gzip => writeln!(
+        Hint::Packed(format, tool) => writeln!(
             writer,
-            "pie: {name} is compressed by gzip; zcat {name} | pie {command} .. reads it"
+            "pie: {name} is compressed by {format}; {tool} {name} | pie {command} .. reads it"
         ),
         Hint::Capture => writeln!(
             writer,
             "pie: {name} is a packet capture, and no text of records"
         ),
-        Hint::Utf16 => writeln!(
+        Hint::Encoded(encoding) => writeln!(
             writer,
-            "pie: {name} is in UTF-16; iconv -f UTF-16 -t UTF-8 {name} | pie {command} .. reads it"
+            "pie: {name} is in {encoding}; iconv -f {encoding} -t UTF-8 {name} | pie {command} .. reads it"
         ),
         Hint::Steps => writeln!(
             writer,

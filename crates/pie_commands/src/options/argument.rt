@@ -2,6 +2,7 @@
 
 use clap::builder::ValueParser;
 use clap::{Arg, ArgAction};
+use pie_diagnosis::TextKind;
 use std::alloc::Global;
 
 /// The kind of value that an option takes, or a file argument.
@@ -9,6 +10,8 @@ use std::alloc::Global;
 pub(crate) enum ValueKind {
     /// No value: the option is present or not.
     Nothing,
+    /// No value, for an option that only `--help` lists.
+    Rare,
     /// A whole number in a range.
     Number(u64, u64),
     /// A text of this name in the help.
@@ -27,15 +30,43 @@ pub(crate) struct Argument {
     /// The name; an option has two dashes before it.
     pub(crate) name: &'static str,
     pub(crate) takes: ValueKind,
-    /// Its line in the help.
+    /// Its line of at most 80 columns in `-h`.
+    pub(crate) short: &'static str,
+    /// Its line in `--help`.
     pub(crate) help: &'static str,
+}
+
+/// A subcommand of `pie`.
+#[derive(Clone, Copy)]
+pub(crate) enum Subcommand {
+    /// Run a trace.
+    Run,
+    /// Audit histories.
+    Audit,
+    /// Explain a history.
+    Explain,
+    /// Cut a part out of a history.
+    Cut,
+    /// Write a history in version two.
+    Migrate,
+    /// Make a storm.
+    Storm,
+    /// Write parameters as a record.
+    Params,
+    /// Decide a history again with other parameters.
+    WhatIf,
+    /// Advise on parameters.
+    Advise,
 }
 
 /// The page of a subcommand: its name, help and arguments.
 #[derive(Clone, Copy)]
 pub(crate) struct HelpPage<'a> {
+    pub(crate) subcommand: Subcommand,
     /// Its name on the command line.
     pub(crate) word: &'a str,
+    /// The kind of text that it reads, if it reads one.
+    pub(crate) reads: TextKind,
     /// Its purpose, in one line.
     pub(crate) about: &'a str,
     /// The help text below its options.
@@ -44,10 +75,20 @@ pub(crate) struct HelpPage<'a> {
     pub(crate) arguments: &'a [Argument],
 }
 
-/// A row of a table of arguments: the name, the kind of value, and the line in the help.
+impl HelpPage<'_> {
+    /// Returns true if an argument has this name.
+    pub(crate) fn has(&self, name: &str) -> bool {
+        self.arguments.iter().any(|argument| argument.name == name)
+    }
+}
+
+/// A row of a table of arguments: the name, the kind of value, and the lines in `-h` and in `--help`, or one for both.
 macro_rules! row {
     ($name:literal: $takes:ident $(($($of:expr),+))?, $help:literal) => {
-        Argument { name: $name, takes: ValueKind::$takes $(($($of),+))?, help: $help }
+        row!($name: $takes $(($($of),+))?, $help, $help)
+    };
+    ($name:literal: $takes:ident $(($($of:expr),+))?, $short:literal, $help:literal) => {
+        Argument { name: $name, takes: ValueKind::$takes $(($($of),+))?, short: $short, help: $help }
     };
 }
 
@@ -55,47 +96,58 @@ pub(crate) use row;
 
 /// The option that requests progress reports.
 pub(crate) const PROGRESS: Argument =
-    row!("progress": Nothing, "Report progress on standard error. Default: on if it is a terminal and the output is not");
+    row!("progress": Rare, "Report progress on standard error. Default: on if it is a terminal and the output is not");
 
 /// The file to write in place of standard output.
-pub(crate) const OUTPUT: Argument = row!("output": Lettered('o', "FILE"),
+pub(crate) const OUTPUT: Argument =
+    row!("output": Lettered('o', "FILE"), "Write to FILE, created or replaced when complete",
     "Write to FILE, which is created or replaced when the output is complete. Default: standard output");
 
 /// The option that allows an existing output file to be replaced.
 pub(crate) const FORCE: Argument =
-    row!("force": Nothing, "Replace the FILE of -o if it exists. Default: off");
+    row!("force": Rare, "Replace the FILE of -o if it exists. Default: off");
 
 /// A file that may be named.
 pub(crate) const FILE: Argument =
     row!("file": File, "File to read; - is standard input. Default: standard input");
 
 /// Returns an argument of this name, without a kind of value yet.
-fn named<'a>(alloc: Global, name: &'a str, help: &'a str) -> Arg<'a> {
-    Arg::new(alloc, name).help(help)
+fn named<'a>(alloc: Global, argument: Argument) -> Arg<'a> {
+    Arg::new(alloc, argument.name)
+        .help(argument.short)
+        .long_help(argument.help)
 }
 
 /// Returns an option of this name, whose value has the name `value` in the help.
 fn valued<'a>(alloc: Global, argument: Argument, value: &'static str) -> Arg<'a> {
-    named(alloc, argument.name, argument.help)
+    named(alloc, argument).long(argument.name).value_name(value)
+}
+
+/// Returns an option of this name without a value.
+fn switch<'a>(alloc: Global, argument: Argument) -> Arg<'a> {
+    named(alloc, argument)
         .long(argument.name)
-        .value_name(value)
+        .action(ArgAction::SetTrue)
+}
+
+/// Returns a file argument, which `-h` has in its usage alone.
+fn file<'a>(alloc: Global, argument: Argument) -> Arg<'a> {
+    named(alloc, argument)
+        .value_name("FILE")
+        .hide_short_help(true)
 }
 
 /// Returns the argument for `clap`.
 pub(crate) fn arg_of<'a>(alloc: Global, argument: Argument) -> Arg<'a> {
-    let Argument { name, takes, help } = argument;
-    match takes {
-        ValueKind::Nothing => named(alloc, name, help)
-            .long(name)
-            .action(ArgAction::SetTrue),
+    match argument.takes {
+        ValueKind::Nothing => switch(alloc, argument),
+        ValueKind::Rare => switch(alloc, argument).hide_short_help(true),
         ValueKind::Number(least, most) => {
             valued(alloc, argument, "N").value_parser(ValueParser::unsigned(least, most))
         }
         ValueKind::Value(value) => valued(alloc, argument, value),
         ValueKind::Lettered(letter, value) => valued(alloc, argument, value).short(letter),
-        ValueKind::File => named(alloc, name, help).value_name("FILE"),
-        ValueKind::Files => named(alloc, name, help)
-            .value_name("FILE")
-            .action(ArgAction::Append),
+        ValueKind::File => file(alloc, argument),
+        ValueKind::Files => file(alloc, argument).action(ArgAction::Append),
     }
 }

@@ -3,7 +3,6 @@
 use crate::options::advise_page::ADVISE;
 use crate::options::argument::{Argument, HelpPage, arg_of};
 use crate::options::history_pages::{AUDIT, CUT, EXPLAIN, MIGRATE};
-use crate::options::subcommand::Subcommand;
 use crate::options::trace_pages::{PARAMS, RUN, STORM};
 use crate::options::what_if_page::WHAT_IF;
 use clap::Command;
@@ -33,55 +32,27 @@ fn with_argument<'a>(
     }
 }
 
-/// Builds the subcommand of this name, with its arguments.
-fn command_of<'a>(
-    alloc: Global,
-    name: &'a str,
-    about: &'a str,
-    help: &'a str,
-    arguments: &[Argument],
-) -> Result<Command<'a>, AllocError> {
-    let mut command = Ok(Command::new(alloc, name).about(about).after_long_help(help));
-    for argument in arguments {
+/// Builds the subcommand of a page, with its arguments.
+fn command_of<'a>(alloc: Global, page: HelpPage<'a>) -> Result<Command<'a>, AllocError> {
+    let mut command = Ok(
+        Command::new(alloc, page.word)
+            .about(page.about)
+            .after_long_help(page.help),
+    );
+    for argument in page.arguments {
         command = with_argument(alloc, command, *argument);
     }
     command
 }
 
-/// Returns the page of a subcommand.
-fn page_of<'a>(subcommand: Subcommand) -> HelpPage<'a> {
-    match subcommand {
-        Subcommand::Run => RUN,
-        Subcommand::Audit => AUDIT,
-        Subcommand::Explain => EXPLAIN,
-        Subcommand::Cut => CUT,
-        Subcommand::Migrate => MIGRATE,
-        Subcommand::Storm => STORM,
-        Subcommand::Params => PARAMS,
-        Subcommand::WhatIf => WHAT_IF,
-        Subcommand::Advise => ADVISE,
-    }
-}
+/// The pages of all subcommands.
+const PAGES: [HelpPage<'static>; 9] = [
+    RUN, AUDIT, EXPLAIN, CUT, MIGRATE, STORM, PARAMS, WHAT_IF, ADVISE,
+];
 
-/// Returns the options and files of a subcommand.
-pub(crate) fn arguments_of(subcommand: Subcommand) -> &'static [Argument] {
-    match subcommand {
-        Subcommand::Run => RUN.arguments,
-        Subcommand::Audit => AUDIT.arguments,
-        Subcommand::Explain => EXPLAIN.arguments,
-        Subcommand::Cut => CUT.arguments,
-        Subcommand::Migrate => MIGRATE.arguments,
-        Subcommand::Storm => STORM.arguments,
-        Subcommand::Params => PARAMS.arguments,
-        Subcommand::WhatIf => WHAT_IF.arguments,
-        Subcommand::Advise => ADVISE.arguments,
-    }
-}
-
-/// Returns a subcommand for `clap`, with its arguments.
-fn command_for<'a>(alloc: Global, subcommand: Subcommand) -> Result<Command<'a>, AllocError> {
-    let page = page_of(subcommand);
-    command_of(alloc, page.word, page.about, page.help, page.arguments)
+/// Returns the page of the subcommand of this name.
+pub(crate) fn page_named(word: &str) -> Option<HelpPage<'static>> {
+    PAGES.iter().find(|page| page.word == word).copied()
 }
 
 /// Returns the command `pie` without its subcommands.
@@ -97,30 +68,16 @@ fn alone<'a>(alloc: Global) -> Command<'a> {
 fn with_subcommand<'a>(
     alloc: Global,
     begun: Result<Command<'a>, AllocError>,
-    subcommand: Subcommand,
+    page: HelpPage<'a>,
 ) -> Result<Command<'a>, AllocError> {
-    match begun {
-        Ok(pie) => match command_for(alloc, subcommand) {
-            Ok(command) => pie.subcommand(command),
-            Err(why) => {
-                drop(pie);
-                Err(why)
-            }
-        },
-        Err(why) => Err(why),
+    let pie = begun?;
+    match command_of(alloc, page) {
+        Ok(command) => pie.subcommand(command),
+        Err(why) => {
+            drop(pie);
+            Err(why)
+        }
     }
-}
-
-/// Returns the command `pie` with these subcommands.
-fn with_all_subcommands<'a>(
-    alloc: Global,
-    subcommands: &[Subcommand],
-) -> Result<Command<'a>, AllocError> {
-    let mut pie = Ok(alone(alloc));
-    for subcommand in subcommands {
-        pie = with_subcommand(alloc, pie, *subcommand);
-    }
-    pie
 }
 
 /// Returns the command `pie` with its subcommands.
@@ -129,18 +86,9 @@ fn with_all_subcommands<'a>(
 ///
 /// `AllocError` if memory is short.
 pub(crate) fn options<'a>(alloc: Global) -> Result<Command<'a>, AllocError> {
-    with_all_subcommands(
-        alloc,
-        &[
-            Subcommand::Run,
-            Subcommand::Audit,
-            Subcommand::Explain,
-            Subcommand::Cut,
-            Subcommand::Migrate,
-            Subcommand::Storm,
-            Subcommand::Params,
-            Subcommand::WhatIf,
-            Subcommand::Advise,
-        ],
-    )
+    let mut pie = Ok(alone(alloc));
+    for page in PAGES {
+        pie = with_subcommand(alloc, pie, page);
+    }
+    pie
 }

@@ -1,11 +1,16 @@
 //! The pages of `pie audit`, `pie explain`, `pie cut` and `pie migrate`: their arguments and their help.
 
-use crate::options::argument::{Argument, FILE, FORCE, HelpPage, OUTPUT, PROGRESS, ValueKind, row};
+use crate::options::argument::{
+    Argument, FILE, FORCE, HelpPage, OUTPUT, PROGRESS, Subcommand, ValueKind, row,
+};
+use pie_diagnosis::TextKind;
 
 /// The page of `pie audit`.
 pub(crate) const AUDIT: HelpPage<'static> = HelpPage {
+    subcommand: Subcommand::Audit,
     word: "audit",
-    about: "Decides each event of histories again, and reports the first that differs",
+    reads: TextKind::History,
+    about: "Decides events of histories again, and reports the first that differs",
     help: "A history is the output of pie run: the first record of a trace, and then each record with its
 answer. An audit decides each event again, from the opening and the events before it, and compares
 the answers.
@@ -48,8 +53,8 @@ files are clean and follow each other, they are one history with the opening of 
 
 With --json each file that could be audited has one object of JSON on a line, with the members file,
 finding, events or event, and with --joined joint, last and first. For an event of a named file that
-differs, recorded and right are its record and the record that the rules give there. Without a file,
-file is -.
+differs, recorded and right are its record and the record that the rules give there. If they give
+none, reason says why. Without a file, file is -.
 
 A text that pie-watch wrote has the steps of pie and fq_pie of a Linux kernel. Each step is decided
 again by the kernel's rules. The events are the rows after the first, numbered from 1. After
@@ -67,8 +72,8 @@ The audit finds a changed verdict, and the line is differs,1:
   printf 'open,0,4,16,100\\narrive,1,10,7,1500,ect0,0\\ndepart,2,25\\n' |
     pie run | sed s/enqueue/mark/ | pie audit",
     arguments: &[
-        row!("joined": Nothing, "The files are the segments of one history, in order: report if they fit together. Default: off"),
-        row!("json": Nothing, "Write an object of JSON for each file. Default: text"),
+        row!("joined": Nothing, "The files are one history's segments: report if they fit", "The files are the segments of one history, in order: report if they fit together. Default: off"),
+        row!("json": Nothing, "Write an object of JSON for each file", "Write an object of JSON for each file. Default: text"),
         PROGRESS,
         row!("file": Files, "Files to audit; - is standard input. Default: standard input"),
     ],
@@ -76,7 +81,9 @@ The audit finds a changed verdict, and the line is differs,1:
 
 /// The page of `pie explain`.
 pub(crate) const EXPLAIN: HelpPage<'static> = HelpPage {
+    subcommand: Subcommand::Explain,
     word: "explain",
+    reads: TextKind::History,
     about: "Explains why the events of a history were decided as they were",
     help: "At most one of --event, --tag, --lost, --marked and --all selects events. Each event of the history
 is decided again, as by pie audit. The explanation of a selected event names the rule that decided
@@ -172,22 +179,22 @@ The output is why the last packet of that trace was dropped:
     before it: 3 packets, 2548 bytes, a delay of 2.488281 ms
     probability 90.3954 %, set by event 9; last update at 1.001002 ms; burst allowance 0.000000 ms",
     arguments: &[
-        row!("event": Number(1, u64::MAX), "Select event N, counted from 1. Default: none"),
-        row!("tag": Number(0, u64::MAX), "Select the events of the packets with tag N. Default: none"),
-        row!("lost": Nothing, "Select the arrivals of dropped packets. Default: off"),
-        row!("marked": Nothing, "Select the arrivals of marked packets. Default: off"),
-        row!("all": Nothing, "Select all events. Default: off, but on without another selection"),
-        row!("queue": Value("NAME"), "Of a text of pie-watch, take only the steps of this queue. Default: all queues"),
-        row!("from": Value("MOMENT"), "Exclude events before this moment or time in UTC, such as 1.5ms. Default: the first event"),
-        row!("to": Value("MOMENT"), "Exclude events after this moment or time in UTC. Default: the last event"),
-        row!("summary": Nothing, "Write one summary of the selected events. Default: an explanation of each; on without a selection"),
-        row!("every": Value("TIME"), "Write one line for each interval of this length, such as 100ms or 1m. Default: off"),
-        row!("full": Nothing, "With --every, write several lines for each interval. Default: off"),
-        row!("flows": Number(1, 1000), "Write a summary of each of the N flows with the most bytes, and one of all others. Default: off"),
-        row!("digest": Nothing, "Write summaries, and between them an explanation of each lost or marked packet. Default: off"),
-        row!("csv": Nothing, "Write CSV with a header. Default: words"),
-        row!("json": Nothing, "Write one object of JSON a line for each CSV record. Default: words"),
-        row!("wall": Nothing, "Write moments as wall-clock times in UTC, if the history has them. Default: off"),
+        row!("event": Number(1, u64::MAX), "Select event N, counted from 1", "Select event N, counted from 1. Default: none"),
+        row!("tag": Number(0, u64::MAX), "Select the events of the packets with tag N", "Select the events of the packets with tag N. Default: none"),
+        row!("lost": Nothing, "Select the arrivals of dropped packets", "Select the arrivals of dropped packets. Default: off"),
+        row!("marked": Nothing, "Select the arrivals of marked packets", "Select the arrivals of marked packets. Default: off"),
+        row!("all": Nothing, "Select all events; on without another selection", "Select all events. Default: off, but on without another selection"),
+        row!("queue": Value("NAME"), "Take only the steps of this queue of pie-watch's text", "Of a text of pie-watch, take only the steps of this queue. Default: all queues"),
+        row!("from": Value("MOMENT"), "Exclude events before this moment or UTC, such as 1.5ms", "Exclude events before this moment or time in UTC, such as 1.5ms. Default: the first event"),
+        row!("to": Value("MOMENT"), "Exclude events after this moment or time in UTC", "Exclude events after this moment or time in UTC. Default: the last event"),
+        row!("summary": Nothing, "Write one summary of the selected events, or of all", "Write one summary of the selected events. Default: an explanation of each; on without a selection"),
+        row!("every": Value("TIME"), "Write a line for each interval, such as 100ms or 1m", "Write one line for each interval of this length, such as 100ms or 1m. Default: off"),
+        row!("full": Nothing, "With --every, write several lines for each interval", "With --every, write several lines for each interval. Default: off"),
+        row!("flows": Number(1, 1000), "Write sums of the N flows with the most bytes", "Write a summary of each of the N flows with the most bytes, and one of all others. Default: off"),
+        row!("digest": Nothing, "Write summaries, and explain lost and marked packets", "Write summaries, and between them an explanation of each lost or marked packet. Default: off"),
+        row!("csv": Nothing, "Write CSV with a header", "Write CSV with a header. Default: words"),
+        row!("json": Nothing, "Write an object of JSON for each CSV record", "Write one object of JSON a line for each CSV record. Default: words"),
+        row!("wall": Nothing, "Write moments as wall-clock times in UTC", "Write moments as wall-clock times in UTC, if the history has them. Default: off"),
         PROGRESS,
         OUTPUT,
         FORCE,
@@ -197,7 +204,9 @@ The output is why the last packet of that trace was dropped:
 
 /// The page of `pie cut`.
 pub(crate) const CUT: HelpPage<'static> = HelpPage {
+    subcommand: Subcommand::Cut,
     word: "cut",
+    reads: TextKind::History,
     about: "Writes some events of a history as an excerpt",
     help: "The output is an excerpt. It begins with the state of the controller before the first selected event
 (the record resume), the packets in the queue at that time (records queued), and the last wall-clock
@@ -240,12 +249,12 @@ Files of a million events each, day.0000 and so on, and their audit:
   pie cut --every 1000000 day | csplit -z -n 4 -f day. - '/^resume,/' '{*}'
   pie audit day.*",
     arguments: &[
-        row!("from": Value("MOMENT"), "Start with the first event at or after this moment or time in UTC. Default: the first event"),
-        row!("to": Value("MOMENT"), "End before the next event after this moment or time in UTC. Default: the last event"),
-        row!("event": Number(1, u64::MAX), "Select event N, counted from 1. Default: none"),
-        row!("around": Number(0, u64::MAX), "Also select this number of events before and after event N. Default: 0"),
-        row!("last": Number(1, u64::MAX), "Select the last N events of a file. Default: none"),
-        row!("every": Number(1, u64::MAX), "Cut all events into segments of N, written one after another. Default: off"),
+        row!("from": Value("MOMENT"), "Start with the first event at this moment or later", "Start with the first event at or after this moment or time in UTC. Default: the first event"),
+        row!("to": Value("MOMENT"), "End before the next event after this moment or UTC", "End before the next event after this moment or time in UTC. Default: the last event"),
+        row!("event": Number(1, u64::MAX), "Select event N, counted from 1", "Select event N, counted from 1. Default: none"),
+        row!("around": Number(0, u64::MAX), "Also select N events before it and N after it", "Also select this number of events before and after event N. Default: 0"),
+        row!("last": Number(1, u64::MAX), "Select the last N events of a file", "Select the last N events of a file. Default: none"),
+        row!("every": Number(1, u64::MAX), "Cut all events into segments of N", "Cut all events into segments of N, written one after another. Default: off"),
         PROGRESS,
         OUTPUT,
         FORCE,
@@ -255,7 +264,9 @@ Files of a million events each, day.0000 and so on, and their audit:
 
 /// The page of `pie migrate`.
 pub(crate) const MIGRATE: HelpPage<'static> = HelpPage {
+    subcommand: Subcommand::Migrate,
     word: "migrate",
+    reads: TextKind::WholeHistory,
     about: "Rewrites a history of version one in version two",
     help: "A history of version one begins with open or rolling. In version two it begins with open2,1,bounded
 or open2,1,rolling, and each record shown has 1 as its last field, because the controller is always

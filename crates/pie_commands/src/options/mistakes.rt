@@ -2,8 +2,7 @@
 //! the two options that exclude each other.
 
 use crate::options::argument::{Argument, ValueKind};
-use crate::options::command_line::arguments_of;
-use crate::options::subcommand::Subcommand;
+use crate::options::command_line::page_named;
 use crate::options::values::text;
 use clap::ArgMatches;
 use std::alloc::{AllocError, Global};
@@ -39,20 +38,8 @@ fn nearest<'a>(
     Ok(near)
 }
 
-/// If the text of the option `name` is neither of two keywords, writes a line with the text, and with the keyword that
+/// If the text of the option `name` is none of these keywords, writes a line with the text, and with the keyword that
 /// is nearest to it, if one is near. Ignores a failed write.
-pub(crate) fn report_keyword<E: Write>(
-    alloc: Global,
-    options: &ArgMatches<'_>,
-    name: &str,
-    first: &str,
-    second: &str,
-    errors: &mut E,
-) {
-    report_nearest(alloc, options, name, &[first, second], errors);
-}
-
-/// If the text of the option `name` is none of these keywords, writes a line as `report_keyword` does.
 pub(crate) fn report_nearest<E: Write>(
     alloc: Global,
     options: &ArgMatches<'_>,
@@ -63,10 +50,8 @@ pub(crate) fn report_nearest<E: Write>(
     let Some(given) = text(options, name) else {
         return;
     };
-    for keyword in keywords {
-        if given == *keyword {
-            return;
-        }
+    if keywords.iter().any(|keyword| given == *keyword) {
+        return;
     }
     let _ = match nearest(alloc, given, keywords) {
         Ok(Some(near)) => writeln!(
@@ -77,19 +62,13 @@ pub(crate) fn report_nearest<E: Write>(
     };
 }
 
-/// Writes a line with the first two of these options that are given, if two are. `given` has an element for each of
-/// `names`. Ignores a failed write.
-pub(crate) fn report_two<E: Write>(names: &[&str], given: &[bool], errors: &mut E) {
-    let mut before: Option<&str> = None;
-    for place in 0..names.len() {
-        if place < given.len() && given[place] {
-            let name = names[place];
-            if let Some(first) = before {
-                let _ = writeln!(errors, "pie: --{first} and --{name} are both given");
-                return;
-            }
-            before = Some(name);
-        }
+/// Writes a line with the first two of these options that are given, if two are. Each has its name, and true if it is given.
+/// Ignores a failed write.
+pub(crate) fn report_two<E: Write>(options: &[(&str, bool)], errors: &mut E) {
+    let mut given = options.iter().filter(|option| option.1);
+    if let (Some(first), Some(second)) = (given.next(), given.next()) {
+        let (first, second) = (first.0, second.0);
+        let _ = writeln!(errors, "pie: --{first} and --{second} are both given");
     }
 }
 
@@ -143,17 +122,16 @@ pub(crate) fn report_numbers<E: Write>(words: &[String], errors: &mut E) {
     if words.len() < 3 {
         return;
     }
-    let Some(subcommand) = Subcommand::named(words[1].as_str()) else {
+    let Some(page) = page_named(words[1].as_str()) else {
         return;
     };
-    let arguments = arguments_of(subcommand);
     for place in 2..words.len() {
         let next = if place < words.len() - 1 {
             Some(words[place + 1].as_str())
         } else {
             None
         };
-        for argument in arguments {
+        for argument in page.arguments {
             if report_number(*argument, words[place].as_str(), next, errors) {
                 return;
             }

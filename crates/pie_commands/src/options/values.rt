@@ -2,8 +2,9 @@
 ghost use Rattle.std.specs.Prelude.{◌≡◌, ◌≤◌, IfSome, None, Ok, option_map};
 ghost use Rattle.std.specs.Result.{result_ok};
 ghost use Rattle.clap.specs.Words.{first_of, found_of, rows_of};
-ghost use Rattle.pie_commands.specs.Values.{bound_given, flag_given, in_order, moment_given, number_given, number_or, units_of};
+ghost use Rattle.pie_commands.specs.Values.{bound_given, bounds_of, flag_given, in_order, moment_given, number_given, number_or, units_of};
 
+use crate::end::fault;
 use clap::ArgMatches;
 use pie_units::{Moment, MomentFault, When, WhenFault};
 use std::fmt::Display;
@@ -114,12 +115,9 @@ pub(crate) fn parsed<T: Copy, F: Copy + Display, E: Write>(
     }
 }
 
-/// The message for bounds that exclude every moment.
-pub(crate) const NO_ORDER: &str = "--from must not be after --to";
-
 /// Returns true unless both bounds are given, are of one kind (moments or wall-clock times), and `from` is after
 /// `to`.
-pub(crate) fn in_order(from: Option<When>, to: Option<When>) -> bool
+fn in_order(from: Option<When>, to: Option<When>) -> bool
     ensures { result ≡ in_order from to }
 {
     match (from, to) {
@@ -127,4 +125,21 @@ pub(crate) fn in_order(from: Option<When>, to: Option<When>) -> bool
         (Some(When::Unix(from)), Some(When::Unix(to))) => from <= to,
         _ => true,
     }
+}
+
+/// Returns the bounds `--from` and `--to`. If one is not valid, or if they exclude every moment, writes a line to `errors`, and
+/// returns `None`.
+pub(crate) fn bounds_of<E: Write>(
+    options: &ArgMatches<'_>,
+    errors: &mut E,
+) -> Option<(Option<When>, Option<When>)>
+    ensures { result ≡ bounds_of (rows_of (found_of options.now)) }
+{
+    let from = parsed(bound(options, "from"), "--from:", errors)?;
+    let to = parsed(bound(options, "to"), "--to:", errors)?;
+    if !in_order(from, to) {
+        fault(errors, "--from must not be after --to");
+        return None;
+    }
+    Some((from, to))
 }

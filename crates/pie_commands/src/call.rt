@@ -1,0 +1,137 @@
+//! A call of a subcommand, and its ends at a text.
+
+use crate::difference::report_difference;
+use crate::end::{End, end_failed, fault, named_fault};
+use crate::files::NamedFiles;
+use crate::name::InCommand;
+use crate::options::{HelpPage, file};
+use crate::steps_fault::report_field;
+use clap::ArgMatches;
+use pie_diagnosis::{find_cause, write_cause};
+use pie_linux_history::{StepDifference, StepsFault};
+use pie_trace::TraceFault;
+use std::alloc::Global;
+use std::fmt::Display;
+use std::io::Write;
+
+/// A call of a subcommand: the system, memory, the page and the options of the subcommand, and the error stream.
+#[derive(Drop)]
+pub(crate) struct Call<'h, 'o, 'w, 'e, H, E> {
+    pub(crate) rt: &'h H,
+    pub(crate) alloc: Global,
+    pub(crate) page: HelpPage<'static>,
+    pub(crate) options: &'o ArgMatches<'w>,
+    pub(crate) errors: &'e mut E,
+}
+
+impl<H: NamedFiles, E: Write> Call<'_, '_, '_, '_, H, E> {
+    /// Writes a line, after the name of a file if there is one.
+    pub(crate) fn line<D: Display + Drop>(&mut self, name: Option<&str>, text: D) {
+        match name {
+            Some(name) => named_fault(self.errors, name, text),
+            None => fault(self.errors, text),
+        }
+    }
+
+    /// Returns the end of a call that fails by this line.
+    pub(crate) fn failed<D: Display + Drop>(&mut self, text: D) -> End {
+        end_failed(self.errors, text)
+    }
+
+    /// Returns the end for a fault of the text that the options name, or of standard input.
+    pub(crate) fn end_at_fault(&mut self, why: TraceFault) -> End {
+        self.end_of_text(None, file(self.options), why)
+    }
+
+    /// Returns the end for a fault of the text in the file `name`, if it has a name. Writes the line of the fault, which
+    /// begins with `prefix`, and lines that describe the cause. A failed write has no line here: `End::report` writes it.
+    pub(crate) fn end_of_text(
+        &mut self,
+        prefix: Option<&str>,
+        name: Option<&str>,
+        why: TraceFault,
+    ) -> End {
+        if !matches!(why, TraceFault::Write) {
+            self.line(prefix, why);
+        }
+        let is_of_text = !matches!(why, TraceFault::Write | TraceFault::Memory);
+        match name {
+            Some(name) if is_of_text && name != "-" => self.report_cause(name, why),
+            _ => {}
+        }
+        End::Fault(why)
+    }
+
+    /// Reads the file `name` again, and writes lines that describe the cause of its fault. If the cause is not found,
+    /// writes a line with the name of the file.
+    fn report_cause(&mut self, name: &str, why: TraceFault) {
+        let (rt, page) = (self.rt, self.page);
+        let (Some(reader), Some(again)) = (rt.open_again(name), rt.open_again(name)) else {
+            return self.name_text(name);
+        };
+        let Ok(shown) = format!(in self.alloc; "{}", InCommand(name)) else {
+            return;
+        };
+        match find_cause(self.alloc, page.reads, why, reader, again) {
+            Some(cause) => {
+                let _ = write_cause(&cause, shown.as_str(), page.word, self.errors);
+            }
+            None => self.name_text(name),
+        }
+    }
+
+    /// Writes a line with the name of the file that has the text.
+    fn name_text(&mut self, name: &str) {
+        let _ = writeln!(self.errors, "pie: the text is in {}", InCommand(name));
+    }
+
+    /// Returns the end at the event with this number, which differs. Writes the line `text`, and for a named file the event's
+    /// record and the right one.
+    pub(crate) fn end_at_event<D: Display + Drop>(&mut self, text: D, number: u64) -> End {
+        fault(self.errors, text);
+        if let Some(name) = file(self.options) {
+            let is_explained = self.page.word == "explain";
+            report_difference(self.rt, self.alloc, name, number, is_explained, self.errors);
+        }
+        End::Differs
+    }
+
+    // ---- recorded steps of Linux
+
+    /// Returns the end at a step that differs. Writes the line `text`, and a line with the step.
+    pub(crate) fn end_at_step<D: Display + Drop>(&mut self, text: D, found: StepDifference) -> End {
+        fault(self.errors, text);
+        fault(self.errors, found);
+        End::Differs
+    }
+
+    /// Returns the end for a fault of recorded steps in the file `name`, as `end_of_text` does.
+    pub(crate) fn end_of_steps(
+        &mut self,
+        prefix: Option<&str>,
+        name: Option<&str>,
+        why: StepsFault,
+    ) -> End {
+        let StepsFault::Trace(fault) = why else {
+            self.line(prefix, why);
+            if let (None, Some(name)) = (prefix, name) {
+                self.name_text(name);
+            }
+            return End::Failed;
+        };
+        match (fault, name) {
+            (TraceFault::Write, _) | (TraceFault::Memory, _) | (_, None) => {
+                self.end_of_text(prefix, None, fault)
+            }
+            (_, Some(name)) => {
+                self.line(prefix, fault);
+                if !report_field(self.rt, self.alloc, name, fault, self.errors)
+                    && prefix.is_none()
+                {
+                    self.name_text(name);
+                }
+                End::Fault(fault)
+            }
+        }
+    }
+}

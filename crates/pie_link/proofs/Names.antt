@@ -25,5 +25,5 @@ pub use Rattle.pie_link.specs.Headline.{BeginsWith, HasCallsOf, CallerKnowledge,
 unfoldable pub use Rattle.pie_link.specs.Headline.{KeepsOneHistory}
 pub use Rattle.pie_link.specs.declared.entry.Entry.{Entry}
 pub use Rattle.pie_link.specs.declared.entry.Entry.TheVariants.{Folded, Applied}
-pub use Rattle.pie_lock.specs.declared.view.SeatKnowledge.TheVariants.{Holds, HasTwo, Spent, Idle}
-pub use Rattle.pie_lock.specs.declared.view.PassKnowledge.{PassKnowledge}
+pub use Rattle.pie_lock.specs.declared.entries.SeatKnowledge.TheVariants.{Holds, HasTwo, Spent, Idle}
+pub use Rattle.pie_lock.specs.declared.entries.PassKnowledge.{PassKnowledge}

@@ -8,11 +8,11 @@ use mathlib.Core.List.{IsPrefix}
 use mathlib.Core.Option.{some}
 use lib.ListN.{get_elem?}
 use Rattle.atomic_table.specs.Table.{State}
-use Rattle.pie_lock.specs.declared.view.PassKnowledge.{PassKnowledge}
-use Rattle.pie_lock.specs.declared.view.SeatKnowledge.{SeatKnowledge}
-use Rattle.pie_lock.specs.declared.view.SeatKnowledge.TheVariants.{Spent, Idle, Holds, HasTwo}
+use Rattle.pie_lock.specs.declared.entries.PassKnowledge.{PassKnowledge}
+use Rattle.pie_lock.specs.declared.entries.SeatKnowledge.{SeatKnowledge}
+use Rattle.pie_lock.specs.declared.entries.SeatKnowledge.TheVariants.{Spent, Idle, Holds, HasTwo}
 use Rattle.pie_lock.specs.Rule.{own}
-use Rattle.pie_lock.specs.declared.view.LockOpening.{LockOpening}
+use Rattle.pie_lock.specs.declared.entries.LockOpening.{LockOpening}
 use Rattle.pie_event.specs.declared.opening.Mode.TheVariants.{Bounded}
 use Rattle.pie_link.specs.Names.{Opening, IsLegal, Entry, number_of, events_in, tail_in, folded_events, Command, Reply, entries_within}
 use Rattle.pie_book.specs.Book.{BookView, BookRepresents, last_events}

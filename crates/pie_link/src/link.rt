@@ -34,8 +34,7 @@ impl Model for Link {
 
 impl Link {
     ghost use Rattle.pie_book.specs.Book.{BookRepresents};
-    ghost use Rattle.pie_lock.specs.Rule.{HasAllNumbers};
-    ghost use Rattle.pie_lock.specs.Promises.{first_pass, without_highest, highest_alone, IsBeside, IsBothOf};
+    ghost use Rattle.pie_lock.specs.Rule.{HasAllNumbers, first_pass, without_highest, highest_alone, IsBeside, IsBothOf};
     ghost use Rattle.pie_link.specs.Entries.{number_of, RepresentsEntries};
     ghost use Rattle.pie_link.specs.Callers.{IsHistoryFor};
     ghost use Rattle.pie_link.specs.Headline.{KeepsOneHistory, link_refusal, IsRefusedFor};

@@ -25,7 +25,7 @@ pub use Rattle.pie_link.specs.declared.call_result.Tried.TheVariants.{Busy, Refu
 pub use Rattle.pie_port.specs.declared.excerpt.ExcerptText.{ExcerptText}
 pub use Rattle.pie_port.specs.declared.event_results.EventCall.{EventCall}
 pub use Rattle.pie_port.specs.declared.event_results.EventCall.TheVariants.{Arrive, Depart, Reset, Update}
-pub use Rattle.pie_lock.specs.Promises.{IsBeside, IsBothOf, first_pass, highest_alone, without_highest}
+pub use Rattle.pie_lock.specs.Rule.{IsBeside, IsBothOf, first_pass, highest_alone, without_highest}
 pub use Rattle.pie_queue.specs.Queue.{bits_of}
 pub use Rattle.pie_record.specs.Text.{text_of}
 pub use Rattle.pie_record.specs.Write.{event_row}

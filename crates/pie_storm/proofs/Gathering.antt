@@ -1,15 +1,14 @@
 -- The work of all workers of a storm: it is gathered; no caller stopped early, since a history has no more events than
 -- there are commands; so the storm has the result of its plan.
 use Rattle.pie_storm.proofs.Names.{◌≡◌, ℕ, ◌+◌, ◌<◌, List, [], length, length-append, events_in, refl, ap, sym, ◌∙◌, subst, inl, inr, ⊎_elim, arith, dite, ℕ_discrete, Bool, true, false, ◌||◌, get_or, is_within, nat_tests, Extends, Event, number_of, EntriesLookBack, Entry, CallerView, LinkView, Plan, Work, calls_of, folder, opening_of, updater, IsOutcomeOf, HasNoMore, IsWell, IsWorkBelow, zero, suc, ◌≤◌, cond, ◌∷◌, ◌++◌, All, All-nil, All-cons, All-head, All-tail, own, own_none, entries_of, Call, IsSound, total, AreMade, ◌⊎◌, AreFolded, IsCutShort, None, Some, Ok, Err, Result, folded_events, senders, IsEndOf, IsFor, drop-append_seam, take-append_seam}
-use Rattle.pie_lock.specs.Promises.{IsBothOf}
-use Rattle.pie_lock.proofs.Seats.{goes_on, gone_on}
+use Rattle.pie_lock.specs.Rule.{IsBothOf, HasAllNumbers}
+use Rattle.pie_lock.proofs.Steps.{goes_on, gone_on}
 use Rattle.pie_storm.specs.declared.worker.Folding.{Folding}
 use Rattle.pie_storm.specs.Storms.{Begins, IsWorkOf, IsEntryOf, WasPassedOver, refusal_of}
 unfoldable use Rattle.pie_storm.specs.Storms.{HasFault}
 use Rattle.std.proofs.lemmas.List.Elements.{All-push}
 use native.Mathlib.Decide.{dec_le}
 use Rattle.std.specs.Result.{IfErr, IfOk}
-use Rattle.pie_lock.specs.Rule.{HasAllNumbers}
 use Rattle.pie_book.specs.Book.{BookView, BookRepresents}
 use Rattle.pie_book.specs.Statistics.{registers_after, stats_after}
 use Rattle.pie_link.specs.Entries.{RepresentsEntries}

@@ -21,7 +21,7 @@ pub use Rattle.pie_link.specs.declared.entry.Entry.{Entry}
 pub use Rattle.pie_link.specs.declared.entry.Entry.TheVariants.{Folded, Applied}
 pub use Rattle.pie_link.specs.declared.call_result.Told.{Told}
 pub use Rattle.pie_link.specs.Callers.{CallerView, LinkView}
-pub use Rattle.pie_lock.proofs.Seats.{NoneOwn, goes_on_itself, gone_on, own_none}
+pub use Rattle.pie_lock.proofs.Steps.{NoneOwn, goes_on_itself, gone_on, own_none}
 pub use Rattle.pie_lock.specs.Rule.{is_within, own, Extends}
 pub use Rattle.pie_storm.specs.Plans.{IsFair, IsSound, arriving, changing, departing, folder, opening_of, senders, total, updater, updating, arrivals_of, list_in, planned_arrival, sender_words, words_of}
 unfoldable pub use Rattle.pie_storm.specs.Plans.{calls_of, words_after}

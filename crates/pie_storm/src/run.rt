@@ -9,7 +9,7 @@ ghost use Rattle.pie_link.specs.Entries.{number_of};
 ghost use Rattle.pie_link.specs.declared.refusal.LinkRefusal.{LinkRefusal};
 ghost use Rattle.pie_storm.specs.Plans.{IsSound, senders, updater};
 ghost use Rattle.pie_storm.specs.Storms.{Begins, HasFault, IsEndOf, IsFor, IsWell, IsWorkBelow, IsWorkOf, refusal_of};
-ghost use Rattle.pie_lock.specs.Promises.{IsBothOf, first_pass};
+ghost use Rattle.pie_lock.specs.Rule.{IsBothOf, first_pass};
 
 use crate::gate::Gate;
 use crate::plan::Plan;

@@ -16,7 +16,7 @@ use Rattle.pie_params.specs.declared.elements.Size.{Size}
 use Rattle.pie_params.specs.declared.elements.Size.TheVariants.{Unscaled, Scaled}
 use Rattle.pie_record.specs.FirstRecord.{one_of_two}
 use Rattle.pie_record.specs.Field.{decay_word, delay_word, picking_word, size_word, step_word}
-use Rattle.pie_storm.specs.declared.plan_numbers.StormNumbers.{StormNumbers}
+use Rattle.pie_storm.specs.declared.plan.StormNumbers.{StormNumbers}
 use Rattle.pie_commands.specs.Values.{number_or}
 
 -- the choice that a word names, of two choices with their keywords; the first without a word

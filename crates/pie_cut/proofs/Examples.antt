@@ -5,7 +5,7 @@ use Rattle.pie_cut.specs.Unlike.{IsFirstDifference, field_name, field_of}
 use Rattle.pie_cut.specs.declared.unlike.UnlikeRecords.TheVariants.{Queued, Resume}
 use Rattle.std.proofs.Common.{codes}
 use Rattle.pie_record.specs.Field.{number}
-use Rattle.pie_units.specs.declared.{when.When.When, when.When.TheVariants.Moment, when.When.TheVariants.Unix}
+use Rattle.pie_units.specs.declared.{utc.When.When, utc.When.TheVariants.Moment, utc.When.TheVariants.Unix}
 
 -- ---- spans
 

@@ -1,8 +1,8 @@
 -- The link's definitions at small values, worked out by hand.
 use Rattle.std.specs.Prelude.{ℕ, ◌≡◌, [], ◌∷◌, Some, None, List, Ok, Err}
-use Rattle.pie_link.proofs.Names.{refl, PassKnowledge, Spent, Idle, HasTwo, Opening, Entry, CallerKnowledge, callers_of, Depart, Empty, Event, Bounded, Applied, Folded, events_in, left_when_rolling, tail_in, folded_events, state_after, waiting_after, Command, Arrive, Answer, Reply, entries_within, replies_within, ⊤, always, burst_within, departures, has_left}
+use Rattle.pie_link.proofs.KeptFacts.{refl, PassKnowledge, Spent, Idle, HasTwo, Opening, Entry, CallerKnowledge, callers_of, Depart, Empty, Event, Bounded, Applied, Folded, events_in, left_when_rolling, tail_in, folded_events, state_after, waiting_after, Command, Arrive, Answer, Reply, entries_within, replies_within, ⊤, always, burst_within, departures, has_left}
 use Rattle.pie_event.specs.declared.opening.Limits.{Limits}
-use Rattle.pie_link.specs.declared.refusal.LinkRefusal.TheVariants.{Book, NoCallers}
+use Rattle.pie_link.specs.declared.entry.LinkRefusal.TheVariants.{Book, NoCallers}
 use Rattle.pie_link.specs.Headline.{link_refusal}
 use Rattle.pie_params.specs.Params.{default_profile, usual}
 use Rattle.pie_queue.specs.declared.ecn.Ecn.TheVariants.{NotEct}

@@ -1,6 +1,6 @@
 -- The headline, from the rule of the lock.
 use Rattle.std.proofs.lemmas.Bool.Decides.{nat_tests}
-use Rattle.pie_link.proofs.Names.{◌≡◌, ℕ, suc, Option, List, [], ◌∷◌, refl, subst, ⊎_elim, arith, PassKnowledge, Opening, Entry, number_of, events_in, KeptView, RepresentsHistory, CallerKnowledge, BeginsWith, HasCallsOf, caller_knowledge, callers_at, callers_of, LockKey, LockState, LiesIn, IsOneHistory, KeepsOneHistory}
+use Rattle.pie_link.proofs.KeptFacts.{◌≡◌, ℕ, suc, Option, List, [], ◌∷◌, refl, subst, ⊎_elim, arith, PassKnowledge, Opening, Entry, number_of, events_in, KeptView, RepresentsHistory, CallerKnowledge, BeginsWith, HasCallsOf, caller_knowledge, callers_at, callers_of, LockKey, LockState, LiesIn, IsOneHistory, KeepsOneHistory}
 use Rattle.std.specs.List.{All}
 use Rattle.std.proofs.lemmas.List.Elements.{All-nil, All-cons, All-append}
 use mathlib.Core.Option.{some}

@@ -7,9 +7,8 @@ ghost use Rattle.pie_event.specs.declared.profile.Profile.TheVariants.{One};
 ghost use Rattle.pie_link.specs.declared.entry.Entry.{Entry};
 
 use crate::caller::Caller;
-use crate::entry::Entry;
+use crate::entry::{Entry, LinkRefusal};
 use crate::kept_book::KeptBook;
-use crate::refusal::LinkRefusal;
 use atomic_table::TableRule;
 use pie_book::{Book, Limits, OpenRefusal, Opening};
 use pie_lock::{LockOpening, LockRule, OneNumber, Pass, RuledLock, SeatKnowledge, StillHeld};

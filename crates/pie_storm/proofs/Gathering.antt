@@ -12,11 +12,11 @@ use Rattle.std.specs.Result.{IfErr, IfOk}
 use Rattle.pie_book.specs.Book.{BookView, BookRepresents}
 use Rattle.pie_book.specs.Statistics.{registers_after, stats_after}
 use Rattle.pie_link.specs.Entries.{RepresentsEntries}
-use Rattle.pie_storm.specs.declared.storm_end.StormEnd.{StormEnd}
-use Rattle.pie_storm.specs.declared.storm_end.StormFault.{StormFault}
-use Rattle.pie_storm.specs.declared.storm_end.StormFault.TheVariants as fault
+use Rattle.pie_storm.specs.declared.run.StormEnd.{StormEnd}
+use Rattle.pie_storm.specs.declared.run.StormFault.{StormFault}
+use Rattle.pie_storm.specs.declared.run.StormFault.TheVariants as fault
 use Rattle.pie_storm.proofs.Making.{IsRight, few_made, folded_alone, folded_same, made_on, numbered, own_entry, stays}
-use Rattle.pie_storm.proofs.PlanFacts.{IsCallOf, calls_are, no_calls}
+use Rattle.pie_storm.proofs.StormFacts.{IsCallOf, calls_are, no_calls}
 
 -- with a sound plan and an open link, a storm fails only for lack of memory or of a thread
 pub run_fault : (plan : Plan) (result : Result StormEnd StormFault) → IsSound plan → refusal_of plan ≡ None

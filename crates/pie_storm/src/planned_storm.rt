@@ -9,11 +9,9 @@ ghost use Rattle.pie_record.specs.Field.{IsWriteOrMemory};
 ghost use Rattle.pie_storm.specs.Storms.{CanStop, HasFault, IsEndOf, IsStorm, WritesHistory};
 
 use crate::pace::Pace;
-use crate::plan::Plan;
-use crate::plan_numbers::StormNumbers;
+use crate::plan::{Plan, StormNumbers};
 use crate::planning::plan_of;
-use crate::run::storm;
-use crate::storm_end::{StormEnd, StormFault};
+use crate::run::{StormEnd, StormFault, storm};
 use pie_audit::{Auditor, Finding};
 use pie_book::{Event, OpenRefusal, Opening};
 use pie_record::{Line, TraceFault};

@@ -1,5 +1,5 @@
 use Rattle.pie_link.specs.Headline.{KeepsOneHistory}
-use Rattle.pie_guarantees.proofs.links.links_are_lawful.Goals as goal
+use Rattle.pie_guarantees.proofs.clean_histories.links_are_lawful.Goals as goal
 
 pub returns : goal.returns
 unfolding KeepsOneHistory

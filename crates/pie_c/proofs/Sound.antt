@@ -10,9 +10,9 @@ unfoldable pub use Rattle.pie_aqm.specs.Steps.{accu_left, count_kept_open, is_be
 pub use Rattle.pie_aqm.specs.declared.verdict.ArrivingPacket.{ArrivingPacket}
 unfoldable pub use Rattle.pie_book.specs.History.{waiting_after}
 pub use Rattle.pie_event.specs.Cause.{name_of}
-pub use Rattle.pie_event.specs.declared.cause_name.CauseName.{CauseName}
-pub use Rattle.pie_event.specs.declared.profile.Profile.TheVariants.{One}
-pub use Rattle.pie_event.specs.declared.verdict.Verdict.{Verdict}
+pub use Rattle.pie_event.specs.declared.cause.CauseName.{CauseName}
+pub use Rattle.pie_event.specs.declared.opening.Profile.TheVariants.{One}
+pub use Rattle.pie_event.specs.declared.command.Verdict.{Verdict}
 pub use Rattle.pie_params.specs.Params.{usual}
 pub use Rattle.pie_params.specs.declared.elements.Decay.TheVariants.{Half}
 pub use Rattle.pie_params.specs.declared.elements.Delay.TheVariants.{Stamp}
@@ -21,16 +21,15 @@ pub use Rattle.pie_params.specs.declared.elements.Size.TheVariants.{Scaled}
 pub use Rattle.pie_params.specs.declared.elements.Step.TheVariants.{Uncapped}
 use Rattle.pie_c.specs.{Begun, count_of, flag, flag_of, start_of, Cause, answer_of, Clock, Explained, LiveInterval, Conditions, Holds, IsSet, HasConditions, clock_of, meter_input_of, updated_by, Adds, ExplainsCall, conditions_of, cause_after, state_after, wait_of, effect_of, Setter, explanation, moment_of, with_after, Arrive, Call, Change, IsTaken, Advance, Restart, after_call, event_of_call, ControllerEvent, Opened, Represents, Arrives, Departs, Leaves, Makes, Advances, Steps, params_refusal, KeepsSound, LooksBack, flat_map, Waiting, rows_text, text_of, event_row, written_rows, queued_row, resumed_rows, PieStats, WrittenEvent, opening_text, event_of_written, written_text, CanWait, bits_of, is_snapshot, queued_text, resume_of, resume_text, set_by_of, snapshot_in, waiting_text}
 use Rattle.std.proofs.Common.{Option, is_none, zero, max, Ok}
-use Rattle.pie_event.specs.declared.profile.Profile.{Profile}
+use Rattle.pie_event.specs.declared.opening.Profile.{Profile}
 use Rattle.pie_params.specs.declared.elements.Elements.{Elements}
-use Rattle.pie_aqm.specs.ControllerState.{IsWithin}
+use Rattle.pie_aqm.specs.Steps.{IsWithin, changed, reset}
 use Rattle.pie_summary.specs.declared.meter_input.MeterInput.{MeterInput}
 use Rattle.pie_summary.specs.Sums.{answer_place, size_by, size_in}
 use Rattle.std.specs.Bool.{Decides}
-use Rattle.pie_book.specs.Statistics.{registers_after}
+use Rattle.pie_book.specs.Decision.{registers_after}
 use Rattle.std.specs.Prelude.{IsTrue, All, map}
 use Rattle.pie_params.specs.Params.{is_dq_threshold}
-use Rattle.pie_aqm.specs.Steps.{changed, reset}
 use Rattle.std.proofs.lemmas.Grind.{flat_map-append}
 
 -- ---- The optional elements of flags

@@ -8,13 +8,11 @@ pub use Rattle.pie_abi.specs.declared.opening.PieOpening.{PieOpening}
 pub use Rattle.pie_params.specs.declared.raw.RawParams.{RawParams}
 pub use Rattle.pie_abi.specs.declared.stats.PieStats.{PieStats}
 pub use Rattle.pie_aqm.specs.Calls.{Arrive, Call, Change, Depart, IsTaken, Advance, Restart, after_call, event_of_call}
-pub use Rattle.pie_aqm.specs.ControllerState.{ControllerEvent, Opened, ControllerState, IsSound}
+pub use Rattle.pie_aqm.specs.Steps.{ControllerEvent, Opened, ControllerState, IsSound, arrived, capped, delay_answered, departed, due, is_too_soon, opened, updated}
 unfoldable pub use Rattle.pie_aqm.specs.History.{Represents}
-pub use Rattle.pie_aqm.specs.Steps.{arrived, capped, delay_answered, departed, due, is_too_soon, opened, updated}
 unfoldable pub use Rattle.pie_aqm.specs.Steps.{cause, verdict}
-pub use Rattle.pie_book.specs.Decision.{cause_after}
-unfoldable pub use Rattle.pie_book.specs.StateAfter.{state_after}
-pub use Rattle.pie_book.specs.Statistics.{wait_of}
+pub use Rattle.pie_book.specs.Decision.{cause_after, wait_of}
+unfoldable pub use Rattle.pie_book.specs.Decision.{state_after}
 pub use Rattle.pie_c.specs.declared.state.PieState.{PieState}
 pub use Rattle.pie_c.specs.declared.state.PieUpdated.{PieUpdated}
 pub use Rattle.pie_event.specs.Event.{effect_of}
@@ -23,8 +21,8 @@ pub use Rattle.pie_event.specs.declared.cause.Cause.{Cause}
 pub use Rattle.pie_event.specs.declared.command.Answer.TheVariants.{Done, Empty, Left, Updated}
 pub use Rattle.pie_event.specs.declared.command.Event.{Event}
 pub use Rattle.pie_event.specs.declared.opening.Opening.{Opening}
-pub use Rattle.pie_event.specs.declared.setter.Setter.{Setter}
-pub use Rattle.pie_event.specs.declared.verdict.Verdict.TheVariants.{DroppedBytes, DroppedEarly, DroppedPackets, Enqueued, Marked}
+pub use Rattle.pie_event.specs.declared.command.Setter.{Setter}
+pub use Rattle.pie_event.specs.declared.command.Verdict.TheVariants.{DroppedBytes, DroppedEarly, DroppedPackets, Enqueued, Marked}
 unfoldable pub use Rattle.pie_excerpt.specs.Preamble.{queued_row, resume_row}
 pub use Rattle.pie_excerpt.specs.Beginning.{resumed_rows, resume_with}
 pub use Rattle.pie_explain.specs.Explanation.{moment_of, with_after}

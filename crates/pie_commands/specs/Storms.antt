@@ -1,8 +1,8 @@
 -- `pie storm`: the optional elements and the numbers of the plan that its options choose.
 use Rattle.std.specs.Prelude.{ℕ, ◌==◌, ◌-◌, ◌^◌, List, Option, Some, None, codes, option_and_then, if◌then◌else◌}
 use Rattle.clap.specs.Words.{Row, Text, first_of}
-use Rattle.pie_event.specs.declared.profile.Profile.{Profile}
-use Rattle.pie_event.specs.declared.profile.Profile.TheVariants.{One, Two}
+use Rattle.pie_event.specs.declared.opening.Profile.{Profile}
+use Rattle.pie_event.specs.declared.opening.Profile.TheVariants.{One, Two}
 use Rattle.pie_params.specs.declared.elements.Elements.{Elements}
 use Rattle.pie_params.specs.declared.elements.Decay.{Decay}
 use Rattle.pie_params.specs.declared.elements.Decay.TheVariants.{Half, Zero}

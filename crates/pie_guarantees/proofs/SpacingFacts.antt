@@ -5,7 +5,7 @@ use Rattle.pie_params.specs.declared.elements.Picking.TheVariants.{Derandomized}
 use Rattle.pie_params.specs.declared.elements.Size.{Size}
 use Rattle.pie_guarantees.specs.{arriving_size, EffectiveAtLeast, EffectiveAtMost, IsUnpicked, considered_in, effective_prob_at, effective_sum_in, had_room, picks_in, restarts_in, starts_anew, sum_along, was_considered}
 use Rattle.pie_aqm.specs.Steps as Steps
-use Rattle.pie_book.specs.StateAfter as Book
+use Rattle.pie_book.specs.Decision as Book
 use Rattle.pie_guarantees.proofs.ProbabilityFacts.{elements-is}
 
 -- ---- one command

@@ -1,7 +1,7 @@
 //! Conservation of packets: the fate of every packet, the size of the queue, and the waiting times.
 ghost use Rattle.std.specs.Prelude.{◌≡◌, ◌≤◌, ◌+◌, ◌*◌, ◌^◌, ◌++◌, ◌∷◌, [], All, List, ℕ, Some, length};
 ghost use Rattle.pie_guarantees.specs.{effect_of, Event, Opening, Packet, params_after, bytes_after, waiting_after, count_of, is_dropped_bytes, AtEachEvent, AtEachHistory, BetweenAny, is_dropped_packets, Carries, SetsLimit, packet_queued, packets_departed, packets_arrived, packets_queued, packets_waiting, time_of, IsLawful};
-ghost use Rattle.pie_book.specs.Statistics.{is_dropped_early, is_marked, is_queued};
+ghost use Rattle.pie_book.specs.Decision.{is_dropped_early, is_marked, is_queued};
 
 /// Every arriving packet is queued, marked, dropped early, or dropped because there is no room, exactly once
 /// (`once`). The packets that departed, followed by the queued ones, are exactly those that were queued or marked,

@@ -1,12 +1,12 @@
 //! The relation of the probability to the delay (RFC 8033, sections 4.2, 5.1 and 5.5).
 //! The bounds of the departure rate estimate (RFC 8033, section 5.2).
 ghost use Rattle.std.specs.Prelude.{◌≡◌, ◌≤◌, ◌<◌, ◌+◌, ◌*◌, ◌/◌, ◌^◌, min, ◌⊎◌, ◌++◌, ◌∷◌, [], List, ℕ, true, false, All, length};
-ghost use Rattle.pie_control.specs.Next.{decays, next, tuning_divisor};
+ghost use Rattle.pie_control.specs.History.{decays, next, tuning_divisor};
 ghost use Rattle.pie_guarantees.specs.{effect_of, is_update, Event, Opening, RawParams, active_after, delay_after, params_after, updates_in, AllAlong, AtEachEvent, BetweenAny, IsLawful, IsActiveUpdate, IsSteady, after_updates, least_rise, old_delay_after, probability_after, untuned_fall, untuned_rise, updates_to_a_tenth, AtEachHistory, IsBetween, samples_after, bytes_after};
 ghost use Rattle.pie_params.specs.Params.{is_capped, usual, default_profile};
 ghost use Rattle.pie_params.specs.declared.elements.Elements.{Elements};
 ghost use Rattle.pie_params.specs.declared.elements.Delay.TheVariants.{Rate};
-ghost use Rattle.pie_book.specs.StateAfter.{average_after};
+ghost use Rattle.pie_book.specs.Decision.{average_after};
 
 /// The probability is always 0 to 1, in units of 10^-12 (`bounded`). An update of an active controller does not
 /// decrease it if the delay is at least the target and has not fallen (`rises`). It does not increase it if the delay
@@ -73,7 +73,7 @@ pub fn speed_of_the_probability()
 /// cent after the sum of the updates that each row of the table takes (`to_a_tenth`): with the defaults at twice the
 /// target after 164 (`at_twice_the_target`); the exact number is 162. If it decays, 114 updates leave at most a tenth
 /// (`fades_to_a_tenth`).
-#[tactic(auto, using(crate::proofs::ProbabilityFacts::a_tenth_is_left, crate::proofs::ProbabilityFacts::falls_at_least, crate::proofs::ProbabilityFacts::falls_at_most, crate::proofs::ProbabilityFacts::reaches_a_tenth, crate::proofs::ProbabilityFacts::rises_at_least, crate::proofs::ProbabilityFacts::rises_at_most), unfolding(pie_control::specs::Next::tuning_divisor))]
+#[tactic(auto, using(crate::proofs::ProbabilityFacts::a_tenth_is_left, crate::proofs::ProbabilityFacts::falls_at_least, crate::proofs::ProbabilityFacts::falls_at_most, crate::proofs::ProbabilityFacts::reaches_a_tenth, crate::proofs::ProbabilityFacts::rises_at_least, crate::proofs::ProbabilityFacts::rises_at_most), unfolding(pie_control::specs::History::tuning_divisor))]
 pub fn steady_delays_move_the_probability()
     ensures rises { (elements : Elements) (params : RawParams) (delay : ℕ) → 0 < params.target → params.target ≤ delay → (n : ℕ) (prob : ℕ)
         → prob ≤ 10 ^ 12 → min (10 ^ 12) (prob + n * least_rise params delay prob) ≤ after_updates n elements params delay prob }

@@ -9,7 +9,7 @@ use Rattle.pie_queue.specs.declared.ecn.Ecn.TheVariants.{NotEct}
 use Rattle.pie_queue.specs.declared.packet.Packet.{Packet}
 use Rattle.pie_aqm.specs.History.{active_of, arrival_inputs, control_of, delay_at_end, departures_of, departure_inputs, early_of, state_of, is_active, activity_events, activity_events_after, now_of, params_of, update_inputs, waited_at_end, waited_of, places, greatest, last_or}
 use Rattle.pie_aqm.specs.Steps.{verdict}
-use Rattle.pie_event.specs.declared.profile.Profile.TheVariants.{One}
+use Rattle.pie_event.specs.declared.opening.Profile.TheVariants.{One}
 use Rattle.pie_book.specs.History.{effective_moment, admitted, departed_count, controller_events}
 use Rattle.pie_event.specs.declared.command.Answer.TheVariants.{DroppedBytes, Enqueued, Left}
 use Rattle.pie_event.specs.declared.refusal.Refusal.TheVariants.{HistoryFull, Size}

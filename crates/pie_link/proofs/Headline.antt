@@ -10,7 +10,7 @@ use Rattle.pie_lock.specs.Rule.{EachPass, Follows, Agreed, Ruled, WhileFree}
 use Rattle.pie_event.specs.declared.command.Event.{Event}
 use Rattle.pie_book.specs.Book.{BookView}
 use Rattle.pie_book.specs.Core.{CoreView, Represents, registers_of}
-use Rattle.pie_book.specs.Statistics.{registers_after}
+use Rattle.pie_book.specs.Decision.{registers_after}
 use Rattle.pie_link.specs.Callers.{LinkView}
 
 module _ (P : PassKnowledge Entry Opening → Type 0) (Q : CallerKnowledge → Type 0) (follows : (p : PassKnowledge Entry Opening) → P p → Q (caller_knowledge p)) where

@@ -18,7 +18,7 @@ use Rattle.pie_link.specs.Entries.{Opening, IsLegal, Entry, number_of, events_in
 use Rattle.pie_book.specs.Book.{BookView, BookRepresents, last_events}
 use Rattle.pie_book.specs.Core.{registers_of}
 use Rattle.pie_book.specs.History.{waiting_after}
-use Rattle.pie_book.specs.Statistics.{registers_after, stats_after}
+use Rattle.pie_book.specs.Decision.{registers_after, stats_after}
 use Rattle.pie_params.specs.Params.{first_bad}
 use Rattle.pie_event.specs.Event.{opening_refusal}
 use Rattle.pie_link.specs.Callers.{LinkView}

@@ -4,7 +4,7 @@
 //! of the calls of two callers.
 ghost use Rattle.std.specs.Prelude.{◌≡◌, ◌+◌, ◌-◌, ◌≤◌, min, vec_capacity, vec_len};
 ghost use Rattle.pie_event.specs.declared.command.Command.TheVariants.{Arrive, Depart, Update, Reset, SetParams};
-ghost use Rattle.pie_book.specs.Statistics.{registers_after, stats_after};
+ghost use Rattle.pie_book.specs.Decision.{registers_after, stats_after};
 ghost use Rattle.pie_link.specs.Callers.{Answers, TriesToAnswer, Folds, TriesToFold, TriesToFoldInto, Reads, TriesToRead, HasSameNumbers, FillsExcerpt, TriesToFillExcerpt};
 
 use crate::caller::Caller;

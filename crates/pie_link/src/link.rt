@@ -3,7 +3,7 @@ ghost use Rattle.std.specs.Prelude.{◌≡◌, ◌+◌, ◌<◌, ◌≤◌, ◌�
 ghost use Rattle.pie_params.specs.Params.{first_bad, usual};
 ghost use Rattle.pie_event.specs.Event.{opening_refusal};
 ghost use Rattle.pie_event.specs.declared.opening.Mode.TheVariants.{Bounded};
-ghost use Rattle.pie_event.specs.declared.profile.Profile.TheVariants.{One};
+ghost use Rattle.pie_event.specs.declared.opening.Profile.TheVariants.{One};
 ghost use Rattle.pie_link.specs.declared.entry.Entry.{Entry};
 
 use crate::caller::Caller;

@@ -10,7 +10,7 @@ use Rattle.std.proofs.lemmas.List.Elements.{All-push}
 use native.Mathlib.Decide.{dec_le}
 use Rattle.std.specs.Result.{IfErr, IfOk}
 use Rattle.pie_book.specs.Book.{BookView, BookRepresents}
-use Rattle.pie_book.specs.Statistics.{registers_after, stats_after}
+use Rattle.pie_book.specs.Decision.{registers_after, stats_after}
 use Rattle.pie_link.specs.Entries.{RepresentsEntries}
 use Rattle.pie_storm.specs.declared.run.StormEnd.{StormEnd}
 use Rattle.pie_storm.specs.declared.run.StormFault.{StormFault}

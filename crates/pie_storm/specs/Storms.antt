@@ -12,8 +12,7 @@ use Rattle.pie_event.specs.declared.refusal.Refusal.TheVariants.{TooSoon}
 use Rattle.pie_event.specs.declared.refusal.FoldRefusal.{FoldRefusal}
 use Rattle.pie_event.specs.declared.refusal.FoldRefusal.TheVariants.{TooMany, Memory}
 use Rattle.pie_link.specs.declared.entry.Told.{Told}
-use Rattle.pie_book.specs.Decision.{IsLegal, refusal_by_rule}
-use Rattle.pie_book.specs.Statistics.{registers_after, stats_after}
+use Rattle.pie_book.specs.Decision.{IsLegal, refusal_by_rule, registers_after, stats_after}
 use Rattle.pie_link.specs.declared.entry.Entry.{Entry}
 use Rattle.pie_link.specs.declared.entry.Entry.TheVariants.{Applied, Folded}
 use Rattle.pie_link.specs.Entries.{entries_of, events_in, folded_events, folded_for, number_of, tail_in}

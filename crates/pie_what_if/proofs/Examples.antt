@@ -10,7 +10,7 @@ use Rattle.pie_event.specs.declared.command.Command.TheVariants.{Arrive, Depart,
 use Rattle.pie_event.specs.declared.command.Event.{Event}
 use Rattle.pie_event.specs.declared.opening.Mode.TheVariants.{Bounded}
 use Rattle.pie_event.specs.declared.opening.Opening.{Opening}
-use Rattle.pie_event.specs.declared.profile.Profile.TheVariants.{One}
+use Rattle.pie_event.specs.declared.opening.Profile.TheVariants.{One}
 use Rattle.pie_params.specs.Params.{usual}
 use Rattle.pie_params.specs.declared.elements.Delay.TheVariants.{Stamp}
 use Rattle.pie_queue.specs.declared.ecn.Ecn.TheVariants.{NotEct}

@@ -3,7 +3,7 @@ pub use Rattle.pie_audit.specs.Replay.{Begins, Origin, RepresentsAfter, at_core,
 pub use Rattle.pie_audit.specs.{Replay.AuditsFrom, Text.IsFound}
 pub use Rattle.pie_book.specs.{Core.CoreView, Core.Represents, Core.answer_in, Core.refusal_of, Decision.decision, Decision.refusal_by_rule, Book.event_of, Statistics.stats_after}
 pub use Rattle.pie_event.specs.{Event.caller_moment, Event.opening_refusal}
-pub use Rattle.pie_event.specs.declared.{command.Answer.Answer, command.Command.Command, command.Event.Event, opening.Opening.Opening, refusal.Refusal.Refusal, stats.Stats.Stats}
+pub use Rattle.pie_event.specs.declared.{command.Answer.Answer, command.Command.Command, command.Event.Event, opening.Opening.Opening, refusal.Refusal.Refusal, registers.Stats.Stats}
 pub use Rattle.pie_event.specs.declared.command.Command.TheVariants.{Arrive, Depart, Reset, SetParams, Update}
 pub use Rattle.pie_excerpt.specs.Beginning.{Beginning, Continues}
 pub use Rattle.pie_params.specs.Params.{first_bad}

@@ -27,11 +27,12 @@ MACHINE := $(filter-out %gnux32 %ilp32,$(foreach it,$(shell $(CC) -dumpmachine),
 PROCESSOR ?= $(strip $(foreach it,x86_64 aarch64 riscv64 mipsel,$(if $(filter $(it)-%,$(MACHINE)),$(it))) \
 	$(if $(filter arm-% armv7-% armv7l-% armv7a-%,$(MACHINE)),armv7))
 ifeq ($(PROCESSOR)$(filter clean,$(MAKECMDGOALS)),)
-$(error no assembly in dist/ for the machine of $(CC), $(or $(shell $(CC) -dumpmachine),which prints none): dist/ has $(notdir $(patsubst %/pie_c.S,%,$(wildcard dist/*/pie_c.S))), \
+$(error no assembly in dist/ for the machine of $(CC), $(or $(shell $(CC) -dumpmachine),which prints none): dist/ has $(notdir $(patsubst %/,%,$(dir $(wildcard dist/*/pie_c.S*)))), \
 for Linux; big-endian processors are not supported)
 endif
-PIE_C_S ?= dist/$(PROCESSOR)/pie_c.S
-PIE_LINK_C_S ?= $(wildcard dist/$(PROCESSOR)/pie_link_c.S)
+# (all but the libraries for x86-64 is compressed)
+PIE_C_S ?= $(wildcard dist/$(PROCESSOR)/pie_c.S*)
+PIE_LINK_C_S ?= $(wildcard dist/$(PROCESSOR)/pie_link_c.S*)
 PIE_S ?= $(wildcard dist/$(PROCESSOR)/pie.S.xz)
 
 # (the archiver that belongs to a cross compiler; musl-gcc has none)
@@ -63,7 +64,7 @@ no-program:
 	@echo "make: there is no program for $(PROCESSOR) in dist/; make libraries builds its libraries" >&2; exit 2
 endif
 ifeq ($(PIE_LINK_C_S),)
-$(BUILD)/pie_link_c.o: no-links
+$(BUILD)/pie_link_c.S: no-links
 no-links:
 	@echo "make: there are no links for $(PROCESSOR) in dist/: links need 64-bit words; make libraries builds its libraries" >&2; exit 2
 endif
@@ -73,18 +74,21 @@ $(BUILD):
 
 # The assembly has no preprocessor lines. -g would have the assembler describe each of its lines.
 assemble = $(CC) $(filter-out -g%,$(CFLAGS)) -x assembler -c -o $@
-$(BUILD)/pie_c.o: $(PIE_C_S) | $(BUILD)
+PLAIN := $(addprefix $(BUILD)/,pie_c.S pie_link_c.S pie.S)
+$(PLAIN:.S=.o): %.o: %.S
 	$(assemble) $<
-$(BUILD)/pie_link_c.o: $(PIE_LINK_C_S) | $(BUILD)
-	$(assemble) $<
-$(BUILD)/pie.o: $(BUILD)/pie.S
-	$(assemble) $<
-$(BUILD)/pie.S: $(PIE_S) | $(BUILD)
-	case $< in \
-	*.xz) if command -v xz > /dev/null; then xz -dc $<; else python3 -c 'import lzma, sys; sys.stdout.buffer.write(lzma.open(sys.argv[1]).read())' $<; fi ;; \
-	*) cat $< ;; \
-	esac > $@.part
-	mv $@.part $@
+# (plain FILE: prints assembly, which is compressed if the name ends in .xz)
+plain := plain() { \
+	case $$1 in \
+	*.xz) if command -v xz > /dev/null; then xz -dc "$$1"; else python3 -c 'import lzma, sys; sys.stdout.buffer.write(lzma.open(sys.argv[1]).read())' "$$1"; fi ;; \
+	*) cat "$$1" ;; \
+	esac; }
+$(BUILD)/pie_c.S: $(PIE_C_S)
+$(BUILD)/pie_link_c.S: $(PIE_LINK_C_S)
+$(BUILD)/pie.S: $(PIE_S)
+$(PLAIN): | $(BUILD)
+	@$(plain); plain $< > $@.part
+	@mv $@.part $@
 
 $(BUILD)/%.o: dist/%.c dist/runtime.h | $(BUILD)
 	$(CC) $(CPPFLAGS) $(CFLAGS) $(OPTIONS) -c -o $@ $<
@@ -207,14 +211,14 @@ archive: all
 		--numeric-owner -C $(BUILD)/archive juniperbowls-$(VERSION)
 	@echo $(BUILD)/juniperbowls-$(VERSION).tar.gz
 
-# The crate for Rust as a package contains it: with the assembly for each processor, for builds outside this repository.
+# The crate for Rust as a package contains it: with the assembly for each processor as text, for builds outside this repository.
 crate: | $(BUILD)
 	rm -rf $(BUILD)/crate
 	mkdir -p $(BUILD)/crate/assembly
 	cp -r $(filter-out bindings/rust/target,$(wildcard bindings/rust/*)) $(BUILD)/crate
-	for it in $(patsubst %/pie_c.S,%,$(wildcard dist/*/pie_c.S)); do mkdir "$(BUILD)/crate/assembly/$$(basename "$$it")" && \
-		cp "$$it"/*.S "$(BUILD)/crate/assembly/$$(basename "$$it")" || exit 1; done
-	cp $(PIE_C_S) $(PIE_LINK_C_S) $(BUILD)/crate/assembly/$(PROCESSOR)
+	@$(plain); put() { name=$${1##*/}; mkdir -p "$(BUILD)/crate/assembly/$$2" && plain "$$1" > "$(BUILD)/crate/assembly/$$2/$${name%.xz}"; }; \
+	for it in $(wildcard dist/*/pie_c.S* dist/*/pie_link_c.S*); do folder=$${it%/*}; put "$$it" "$${folder##*/}" || exit 1; done; \
+	for it in $(PIE_C_S) $(PIE_LINK_C_S); do put "$$it" $(PROCESSOR) || exit 1; done
 	cp dist/heap.c dist/runtime.h $(BUILD)/crate/assembly
 
 clean:

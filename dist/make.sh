@@ -57,9 +57,9 @@ for target in x86_64 aarch64 riscv64 armv7 mipsel; do
     echo "dist/make.sh: $target"
     tests/libraries/dist.py --read "$target" "$work/$target"/*.S
     mkdir -p "dist/$target"
-    [ ! -e "$work/$target/pie.S" ] || xz --stdout -9 --extreme "$work/$target/pie.S" > "dist/$target/pie.S.xz"
-    rm -f "$work/$target/pie.S"
-    cp "$work/$target"/*.S "dist/$target/"
+    # (of x86-64, reviews read the libraries)
+    if [ $target = x86_64 ]; then xz -9 --extreme "$work/$target/pie.S"; else xz -9 --extreme "$work/$target"/*.S; fi
+    cp "$work/$target"/* "dist/$target/"
 done
 mkdir -p dist/bpf
 cp "$work/pie_c.ll" dist/bpf/
@@ -69,6 +69,6 @@ cp "$work/pie_c.ll" dist/bpf/
     echo "crates $(git rev-parse HEAD:crates)"
     echo "rt $(rt version)"
     echo "mipsel $(clang-19 --version | head -n 1)"
-    (cd dist && sha256sum -- */*.S */*.xz bpf/* | sort -k 2)
+    (cd dist && sha256sum -- x86_64/*.S */*.xz bpf/* | sort -k 2)
 } > dist/MANIFEST
 cat dist/MANIFEST

@@ -1,6 +1,6 @@
 #!/usr/bin/env python3
-"""Writes docs/RESULTS.md, bench/uml/README.md, docs/comparisons.csv and docs/ellipses.svg from docs/RESULTS.in, bench/uml/README.in and the stored runs: bench/uml/results.csv,
-bench/uml/short.csv and bindings/ns3/results.csv. Every figure of the pages is an expression in their sources, between {{ and }}, which this script
+"""Writes docs/RESULTS.md, bench/uml/README.md, docs/comparisons.csv and docs/ellipses.svg from docs/RESULTS.in, bench/uml/README.in and the stored runs: bench/uml/results.csv.xz,
+bench/uml/short.csv.xz and bindings/ns3/results.csv. Every figure of the pages is an expression in their sources, between {{ and }}, which this script
 evaluates. `elsewhere` has the sentences of other pages that rest on runs.
 
 usage: docs/results.py [--check | --needs]
@@ -9,6 +9,7 @@ usage: docs/results.py [--check | --needs]
   --needs   prints the number of blocks that each open comparison needs"""
 import csv
 import functools
+import lzma
 import math
 import re
 import sys
@@ -43,7 +44,7 @@ FIVE_NAMES = list(queues_of(FIVE, 1))
 
 
 def read(name):
-    with open(ROOT / name, newline="") as file:
+    with (lzma.open(ROOT / name, "rt", newline="") if name.endswith(".xz") else open(ROOT / name, newline="")) as file:
         return list(csv.DictReader(file))
 
 
@@ -95,12 +96,12 @@ class Runs:
 
 # scenarios of PLAN.md's section Limits, which have runs of a version of their own, and those with the same traffic
 LIMITS = {"limits": "four", "burstlimits": "burst", "farlimits": "far", "gigabitlimits": "gigabit", "twolimits": "two", "slowlimits": "slow"}
-STORED = read("bench/uml/results.csv")
+STORED = read("bench/uml/results.csv.xz")
 ROWS = [row for row in STORED if row["scenario"] not in LIMITS]
 RUNS = Runs(ROWS)
 LIMIT_ROWS = [row for row in STORED if row["scenario"] in LIMITS]
 LIMIT_RUNS = Runs(LIMIT_ROWS)
-SHORT = read("bench/uml/short.csv")
+SHORT = read("bench/uml/short.csv.xz")
 NS3 = read("bindings/ns3/results.csv")
 
 

@@ -5,8 +5,8 @@ line between blocks: `name: NAME`, then `file: PATH` of the crate, and pairs of 
 
 Mutations of a crate that change different functions are made in one copy of the crate, and one check judges each function: some seconds each, without
 the time to load a crate. The others are tried alone: a mutation outside functions, or one whose functions are still proved; then the whole crate is
-checked, or the functions of its `check:` lines. The checks of a crate run one after another and reuse proofs of unchanged functions. The last line
-gives the number of rejected mutations and the time. The exit status is 1 if a mutation was not rejected.
+checked, or the functions of its `check:` lines. The checks of a crate reuse proofs of unchanged functions; those of an expensive one are divided among
+the jobs. The last line gives the number of rejected mutations and the time. The exit status is 1 if a mutation was not rejected.
 
 With --share, a part of the gate after `rt ci` whose libraries it uses, it tries one fortieth, chosen by the day of the commit; the shares cost about
 the same. So 40 days try all, and the same commit tries the same mutations. A mutation that needs a check of a whole crate that is not small is
@@ -420,7 +420,8 @@ def main():
         sys.exit(f"{ME}: there is no rt")
     else:
         build_below(mutations)
-        parts = by_crate(batches(mutations))
+        groups = batches(mutations)
+        parts = by_crate(groups, max(TOGETHER / 4, sum(map(cost, by_crate(groups))) / max(given.jobs, 1)))
     kit, begun, used, counts = Path(rt).resolve().parent.parent, time.monotonic(), seconds(), {True: 0, False: 0, None: 0}
     if given.read and given.share is None:
         with ThreadPoolExecutor(max(given.jobs, 1)) as pool:

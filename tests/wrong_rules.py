@@ -163,7 +163,7 @@ class Crate:
                 text = re.sub(rf"\buse {re.escape(old)}(?=[. ])", f"use Rattle.pie_guarantees.{kind}.{name}", text)
             text = GLOB.sub(lambda found: split(found, own, places), text)
             # (pie_event and pie_aqm do not export the declarations of these types to other crates; pie_book does)
-            text = text.replace("use Rattle.pie_event.specs.Types.", "use Rattle.pie_book.specs.Types.")
+            text = text.replace("use Rattle.pie_event.specs.Event.", "use Rattle.pie_book.specs.Types.")
             text = re.sub(r"^(use Rattle\.pie_aqm\.specs\.Types\.\{.*), ArrivingPacket\b(.*)$",
                           r"\1\2\nuse Rattle.pie_aqm.specs.declared.verdict.ArrivingPacket.{ArrivingPacket}", text, flags=re.M)
             # the copies share the enumerations with the definitions that are not copied

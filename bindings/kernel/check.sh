@@ -15,8 +15,11 @@ fail() {
     exit 1
 }
 
-(cd $here && grep '\.S$' MANIFEST | sha256sum --check --quiet) && [ "$(grep -c '\.S$' $here/MANIFEST)" = "$(ls $here/*.S | wc -l)" ] ||
-    fail "the assembly is not that of MANIFEST"
+mkdir "$work/assembly"
+cp $here/pie_kernel_*.S $here/pie_kernel_*.S.xz "$work/assembly"
+xz -df "$work/assembly"/*.xz
+(cd "$work/assembly" && sed -n '/\.S$/p' "$OLDPWD/$here/MANIFEST" | sha256sum --check --quiet) &&
+    [ "$(grep -c '\.S$' $here/MANIFEST)" = "$(ls "$work/assembly" | wc -l)" ] || fail "the assembly is not that of MANIFEST"
 if [ "$(uname -m)" != x86_64 ] || ! command -v cc objcopy nm objdump > /dev/null; then
     echo "NOT RUN: bindings/kernel: no C compiler or binutils for x86-64 here, so the kernel's assembly was not assembled"
     exit 0
@@ -25,7 +28,7 @@ fi
 # check_assembly NAME FOLDER PREFIX RUN FORBIDDEN: checks pie_kernel_NAME.S with the compiler and the binutils of that prefix. FOLDER is that of dist/. RUN is a
 # command that runs programs. FORBIDDEN is a pattern of instructions that this kernel does not allow
 check_assembly() {
-    local file=$here/pie_kernel_$1.S cc=$3gcc functions outside
+    local file=$work/assembly/pie_kernel_$1.S cc=$3gcc functions outside
     if ! command -v "$cc" "$3objdump" > /dev/null || [ -n "$4" ] && ! command -v "$4" > /dev/null; then
         echo "NOT RUN: bindings/kernel: no $cc or no $4 here, so ${file##*/} was not assembled"
         return
@@ -48,7 +51,8 @@ check_assembly() {
         echo "NOT RUN: bindings/kernel: dist/ and ${file##*/} (see bindings/kernel/make.sh) are of different crates; the example was not compared"
         return
     fi
-    "$cc" -c -o "$work/dist.o" "dist/$2/pie_c.S"
+    make -s CC="$cc" BUILD="$work/$2" "$work/$2/pie_c.o"
+    cp "$work/$2/pie_c.o" "$work/dist.o"
     "$cc" -static -Iinclude -o "$work/by_dist" bindings/c/example.c "$work/dist.o"
     "$3objcopy" --weaken "$work/dist.o"
     "$cc" -static -Iinclude -o "$work/by_kernel" bindings/c/example.c "$work/kernel.o" "$work/dist.o"
@@ -61,7 +65,7 @@ check_assembly() {
 
 # (rep bsf, which objdump calls tzcnt, is bsf on a processor without BMI; LLVM emits it where both give the same)
 check_assembly x86 x86_64 '' '' '%[xyz]mm|%mm[0-7]|%st|\b(popcnt|lzcnt|shlx|mulx)|(jmp|call) +\*|-0x[0-9a-f]+\(%rsp'
-[ "$(grep -c 'RET$' $here/pie_kernel_x86.S)" -gt 9 ] || fail "returns are not the kernel's macro"
+[ "$(grep -c 'RET$' "$work/assembly/pie_kernel_x86.S")" -gt 9 ] || fail "returns are not the kernel's macro"
 check_assembly arm64 aarch64 aarch64-linux-gnu- qemu-aarch64 '\b([xw]18|[vqdshb][0-9]+)\b|\b(br|blr)\b'
 check_assembly riscv riscv64 riscv64-linux-gnu- qemu-riscv64 '\b(f[ast][0-9]+|v[0-9]+|gp|tp)\b'
 

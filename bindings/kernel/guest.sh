@@ -80,7 +80,9 @@ fill_root() {
     cp "$(place busybox)" "$work/root/bin/"
     plugins=$work/root$(strings "$(place tc)" | grep -m 1 '^/.*/tc/$')
     mkdir -p "$plugins"
-    make -s -B -C "$work/source" tools CC="$cc" PIE_C="$PWD/dist/$processor/pie_c.S" CPPFLAGS="-I$PWD/include" > "$work/make.log" 2>&1 || { cat "$work/make.log" >&2; exit 1; }
+    make -s CC="$cc" BUILD="$work/program" "$work/program/libpie_c.a" > "$work/make.log" 2>&1 &&
+        make -s -B -C "$work/source" tools CC="$cc" PIE_C="$work/program/libpie_c.a" CPPFLAGS="-I$PWD/include" >> "$work/make.log" 2>&1 ||
+        { cat "$work/make.log" >&2; exit 1; }
     cp "$work/source/q_pie_recorded.so" "$plugins"
     if [ -n "$system" ]; then
         make -s CC="$cc" BUILD="$work/program" program > "$work/make.log" 2>&1 || { cat "$work/make.log" >&2; exit 1; }

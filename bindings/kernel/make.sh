@@ -1,5 +1,5 @@
 #!/usr/bin/env bash
-# Makes bindings/kernel/pie_kernel_*.S and MANIFEST anew from the committed crates. It needs the toolchain (rt). The crate pie_c is proved and compiled
+# Makes bindings/kernel/pie_kernel_* and MANIFEST, which has the sums of the uncompressed texts, anew from the committed crates. It needs the toolchain (rt). The crate pie_c is proved and compiled
 # over the libraries below it, as for dist/ (bindings/c/library.py); lower.py lowers the same LLVM module for the kernels of each processor. Run it after
 # dist/make.sh.
 #
@@ -20,12 +20,14 @@ if ! bindings/c/library.py pie_c > "$work/log" 2>&1 || ! [ -s $module ]; then
 fi
 clang=$(dirname "$(readlink -f "$(command -v rt)")")/../toolchain/bin/clang
 for name in x86 arm64 riscv; do
-    bindings/kernel/lower.py "$clang" $module "bindings/kernel/pie_kernel_$name.S" $name
+    bindings/kernel/lower.py "$clang" $module "$work/pie_kernel_$name.S" $name
 done
 {
     echo "commit $(git rev-list -1 HEAD -- crates crates.txt)"
     echo "crates $(git rev-parse HEAD:crates)"
     echo "rt $(rt version)"
-    (cd bindings/kernel && sha256sum pie_kernel_*.S)
+    (cd "$work" && sha256sum pie_kernel_*.S)
 } > bindings/kernel/MANIFEST
+xz -9 --extreme "$work"/pie_kernel_{arm64,riscv}.S
+cp "$work"/pie_kernel_* bindings/kernel/
 cat bindings/kernel/MANIFEST

@@ -21,7 +21,7 @@ TOP = HERE / "library" if (HERE / "library").is_dir() else HERE.parent.parent
 # the files from which the Makefile builds the library
 SOURCES = ["Makefile", "LICENSE-MIT", "LICENSE-APACHE", "include/pie.h", "include/pie_link.h", "bindings/python/native/pie_arrays.c",
            "bindings/python/native/pie_arrays.h", "dist/abi.txt", "dist/heap.c", "dist/runtime.h"]
-SOURCES += sorted(str(it.relative_to(TOP)) for it in TOP.glob("dist/*/*.S"))
+SOURCES += sorted(str(it.relative_to(TOP)) for it in TOP.glob("dist/*/pie_*.S*"))
 
 
 class WithLibrary(build_py):

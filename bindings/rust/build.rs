@@ -1,7 +1,7 @@
 //! Links the proved library, `libpie_c.a`, and with the feature `link` `libpie_link.a`. If `PIE_C_PREFIX` is set, both are those that
 //! `make install PREFIX=..` or a package installed there, in `lib`, `lib64` or, for example, `lib/x86_64-linux-gnu`. Otherwise, in a repository in which
 //! `bindings/c/library.py` built them, those are linked. Otherwise, and if `PIE_C_PREFIX` is empty, they are built from the assembly of the proved code
-//! by the C compiler and `ar`. A package contains that assembly in `assembly/` (`make crate`); in the repository it is in `dist/`.
+//! by the C compiler and `ar`. A package contains that assembly in `assembly/` (`make crate`); in the repository it is in `dist/`, for most processors compressed.
 //!
 //! The compiler is the first of these variables that is set, as with the crate `cc`: `CC_x86_64-unknown-linux-gnu` (the target), the same with `_` in
 //! place of `-`, `HOST_CC` or, if the target is not the host, `TARGET_CC`, and `CC`. The archiver likewise, with `AR`. The defaults are `cc` and `ar`,
@@ -77,14 +77,23 @@ fn processor() -> Processor {
     Processor { name, prefix, has_links: width == "64" }
 }
 
-/// Returns a file of the assembly, or of its helpers: from the package, otherwise from the repository.
+/// Returns a file of the assembly, or of its helpers: from the package, otherwise from the repository, in which `xz` decompresses it if necessary.
 fn source(name: &str) -> PathBuf {
     let here = folder("CARGO_MANIFEST_DIR");
     let places = ["assembly", "../../dist"].map(|place| here.join(place));
-    let found = places.iter().flat_map(|place| [place.join(processor().name).join(name), place.join(name)]).find(|path| path.exists());
-    let path = found.unwrap_or_else(|| panic!("{name} for {} is neither in assembly/ of this crate nor in dist/ of its repository", processor().name));
+    let compressed = format!("{name}.xz");
+    let paths = places.iter().flat_map(|place| [name, &compressed].map(|file| place.join(processor().name).join(file)).into_iter().chain([place.join(name)]));
+    let path = paths.into_iter().find(|path| path.exists());
+    let path = path.unwrap_or_else(|| panic!("{name} for {} is neither in assembly/ of this crate nor in dist/ of its repository", processor().name));
     println!("cargo:rerun-if-changed={}", path.display());
-    path
+    if !path.ends_with(&compressed) {
+        return path;
+    }
+    let text = Command::new("xz").arg("-dc").arg(&path).output().ok().filter(|it| it.status.success());
+    let text = text.unwrap_or_else(|| panic!("xz is needed to decompress {}", path.display()));
+    let plain = folder("OUT_DIR").join(name);
+    std::fs::write(&plain, text.stdout).unwrap_or_else(|it| panic!("{}: {it}", plain.display()));
+    plain
 }
 
 /// Returns the value of the first variable that is set for a tool (`CC` or `AR`), from that of the target to that of all targets.

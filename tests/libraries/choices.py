@@ -3,7 +3,7 @@
 script, and compares each answer and each `show` with the stored history: each choice of the
 optional elements, in both profiles. Traces whose opening is refused are skipped.
 
-usage: tests/libraries/choices.py [FOLDER..]      FOLDER: has NAME.trace with NAME.history, or NAME.in with NAME.out; else those of tests/rows/choices.txt
+usage: tests/libraries/choices.py [FOLDER..]      FOLDER: has NAME.trace with NAME.history, or NAME.in with NAME.out; else those of tests/rows/choices.txt.xz
 needs: library"""
 import ctypes
 import os

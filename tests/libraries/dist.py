@@ -269,9 +269,9 @@ def compare_kernels(work):
         return
     names, different = ("x86", "arm64", "riscv"), []
     for name in names:
-        made = Path(f"{work}/kernel.S")
+        made, stored = Path(f"{work}/kernel.S"), kernel / f"pie_kernel_{name}.S{'' if name == 'x86' else '.xz'}"
         subprocess.run([kernel / "lower.py", clang, module, made, name], check=True)
-        if made.read_text() != (kernel / f"pie_kernel_{name}.S").read_text():
+        if made.read_text() != read(stored):
             different.append(f"pie_kernel_{name}.S")
     if f"crates {tree_of_crates()}" in (kernel / "MANIFEST").read_text().splitlines():
         check(not different, f"bindings/kernel was made from these crates, and is not their assembly: {', '.join(different)}")

@@ -399,7 +399,7 @@ def check_bindings(ready, work):
 
 def check_refusals(work):
     """Checks that make names the processors if dist/ lacks the machine of the compiler."""
-    names = sorted(it.parent.name for it in (ROOT / "dist").glob("*/pie_c.S"))
+    names = sorted(it.parent.name for it in (ROOT / "dist").glob("*/pie_c.S*"))
     for machine in ("mips-linux-gnu", "s390x-linux-gnu", "armeb-linux-gnueabihf", "aarch64_be-linux-gnu", "powerpc64le-linux-gnu", "x86_64-linux-gnux32", "x86_64-apple-darwin", ""):
         compiler = Path(f"{work}/cc")
         compiler.write_text(f"#!/bin/sh\necho {machine}\n")

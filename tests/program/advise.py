@@ -5,7 +5,7 @@ edge of the auto-tuning divisor, is below the printed ones, and the least sample
 the model no margin is printed.
 
 Then it compares the advice with stored runs: the simulations of bindings/ns3/advice.csv, and the runs of PIE over user-mode
-Linux in bench/uml/results.csv whose flows have one round-trip time. For at least 40 cells of rate, round trip and flows, the
+Linux in bench/uml/results.csv.xz whose flows have one round-trip time. For at least 40 cells of rate, round trip and flows, the
 predicted mean wait is within 20 per cent of the measured one, or the advice has no prediction and a warning. The cells that
 are missed are those that `pie advise --help` names.
 
@@ -18,6 +18,7 @@ needs: program
 """
 import cmath
 import csv
+import lzma
 import math
 import os
 import random
@@ -58,7 +59,7 @@ def cells():
         for row in csv.DictReader(file):
             yield "ns-3", float(row["mbit"]), float(row["rtt_ms"]), int(row["flows"]), float(row["measured_ms"]), row["warned"] == "1"
     sums = defaultdict(lambda: [0.0, 0.0])
-    with open(ROOT / "bench/uml/results.csv", newline="") as file:
+    with lzma.open(ROOT / "bench/uml/results.csv.xz", "rt", newline="") as file:
         for row in csv.DictReader(file):
             if row["queue"] == "stamp" and row["scenario"] in LINUX and float(row["from"]) > 0:
                 sums[row["scenario"]][0] += float(row["wait"]) * float(row["sent"])

@@ -1,5 +1,5 @@
 #!/usr/bin/env bash
-# Runs each trace of tests/rows/worked.txt and tests/rows/choices.txt, and compares its history byte for byte with
+# Runs each trace of tests/rows/worked.txt and tests/rows/choices.txt.xz, and compares its history byte for byte with
 # the stored one. The heads of both files explain their form. If the trace has a fault, the run must end with that
 # fault and status 1. Otherwise the audit of the history must be clean, with the number of lines that are not notes.
 # The audit of a stored history without a trace must print its finding.

@@ -1,6 +1,6 @@
 #!/usr/bin/env python3
 """Compares the words of `pie explain` with the records of `pie explain --csv` for each considered arrival of the
-traces of tests/rows/choices.txt. If sizes scale the probability, the words contain the scaled value: floor(probability x
+traces of tests/rows/choices.txt.xz. If sizes scale the probability, the words contain the scaled value: floor(probability x
 size / mean_pkt) for a packet below mean_pkt. They contain the accumulated probability, with this packet's part,
 only if probabilities accumulate: never with `random`. The exit status is 1 if something differs.
 

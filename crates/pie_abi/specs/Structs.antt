@@ -12,13 +12,13 @@ use Rattle.pie_params.specs.declared.elements.Step.{Step}
 use Rattle.pie_params.specs.declared.elements.Step.TheVariants.{Capped, Uncapped}
 use Rattle.pie_params.specs.declared.elements.Size.{Size}
 use Rattle.pie_params.specs.declared.elements.Size.TheVariants.{Unscaled, Scaled}
-use Rattle.pie_event.specs.declared.profile.Profile.{Profile}
-use Rattle.pie_event.specs.declared.profile.Profile.TheVariants.{One, Two}
+use Rattle.pie_event.specs.declared.opening.Profile.{Profile}
+use Rattle.pie_event.specs.declared.opening.Profile.TheVariants.{One, Two}
 use Rattle.pie_abi.specs.declared.event.PieEvent.{PieEvent}
 use Rattle.pie_queue.specs.declared.ecn.Ecn.{Ecn}
 use Rattle.pie_queue.specs.declared.ecn.Ecn.TheVariants.{NotEct, Ect1, Ect0, Ce}
-use Rattle.pie_event.specs.declared.verdict.Verdict.{Verdict}
-use Rattle.pie_event.specs.declared.verdict.Verdict.TheVariants.{Enqueued, Marked, DroppedEarly, DroppedBytes, DroppedPackets}
+use Rattle.pie_event.specs.declared.command.Verdict.{Verdict}
+use Rattle.pie_event.specs.declared.command.Verdict.TheVariants.{Enqueued, Marked, DroppedEarly, DroppedBytes, DroppedPackets}
 use Rattle.pie_params.specs.declared.raw.Field.{Field}
 use Rattle.pie_params.specs.declared.raw.Field.TheVariants.{Target, TUpdate, MaxBurst, Alpha, Beta, MeanPkt, LimitBytes, MarkEcnth, DqThreshold}
 use Rattle.pie_params.specs.declared.raw.RawParams.{RawParams}
@@ -29,7 +29,7 @@ use Rattle.pie_event.specs.declared.opening.Mode.{Mode}
 use Rattle.pie_event.specs.declared.opening.Mode.TheVariants.{Bounded, Rolling}
 use Rattle.pie_event.specs.declared.opening.Opening.{Opening}
 use Rattle.pie_abi.specs.declared.opening.PieOpening.{PieOpening}
-use Rattle.pie_event.specs.declared.stats.Stats.{Stats}
+use Rattle.pie_event.specs.declared.registers.Stats.{Stats}
 use Rattle.pie_abi.specs.declared.stats.PieStats.{PieStats}
 
 -- ---- Choices of an opening, from their numbers, and the latest moment.

@@ -4,13 +4,10 @@ use Rattle.std.proofs.Common.{ℕ, ◌≡◌, ◌*◌, ◌^◌, codes, pos, refl
 use Rattle.std.specs.Prelude.{None, Some, Ok, Err, true, false, negsuc}
 use Rattle.pie_units.specs.declared.layer.Overhead.TheVariants.{Added, Removed}
 use Rattle.pie_units.specs.declared.number.UnitFault.TheVariants.{NotANumber}
-use Rattle.pie_units.specs.declared.unit.Quantity.TheVariants.{Packets, Time}
+use Rattle.pie_units.specs.declared.number.Quantity.TheVariants.{Packets, Time}
 use Rattle.pie_units.specs.Number.{digit_count, is_word, number_after, time_scale}
-use Rattle.pie_advise.specs.Advice.{opening_for_link}
-use Rattle.pie_advise.specs.Numbers.{numbers_for}
-use Rattle.pie_advise.specs.Outlook.{IsRoot, cuts_the_limit, has_prediction, squared_wait, swings, wants_half}
-use Rattle.pie_advise.specs.Request.{range_in}
-use Rattle.pie_advise.specs.declared.least.RangeMargins.{RangeMargins}
+use Rattle.pie_advise.specs.Advice.{opening_for_link, numbers_for, IsRoot, cuts_the_limit, has_prediction, squared_wait, swings, wants_half, range_in}
+use Rattle.pie_advise.specs.declared.margin.RangeMargins.{RangeMargins}
 use Rattle.pie_advise.specs.declared.request.RangeEnd.TheVariants.{Both, Least, Greatest}
 use Rattle.pie_advise.specs.declared.request.RangeFault.TheVariants.{Unread, Reversed}
 use Rattle.pie_advise.specs.declared.request.Request.{Request}

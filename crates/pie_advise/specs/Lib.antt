@@ -1,4 +1,1 @@
 pub mod Advice
-pub mod Numbers
-pub mod Outlook
-pub mod Request

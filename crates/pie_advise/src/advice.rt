@@ -4,13 +4,10 @@ ghost use Rattle.pie_params.specs.Params.{IsInRange, first_bad};
 ghost use Rattle.pie_record.specs.Text.{text_of};
 ghost use Rattle.pie_record.specs.Write.{opening_row};
 ghost use Rattle.pie_units.specs.Opening.{params_for};
-ghost use Rattle.pie_advise.specs.Advice.{opening_for_link, tuning_for};
-ghost use Rattle.pie_advise.specs.Numbers.{numbers_for};
-ghost use Rattle.pie_advise.specs.Outlook.{IsOutlook};
+ghost use Rattle.pie_advise.specs.Advice.{opening_for_link, tuning_for, numbers_for, IsOutlook};
 
-use crate::expectation::push_expectation;
 use crate::numbers::{Numbers, numbers_for};
-use crate::outlook::{Outlook, outlook_for};
+use crate::outlook::{Outlook, outlook_for, push_expectation};
 use crate::request::Request;
 use crate::setting::{push_lines, push_settings};
 use pie_event::Opening;

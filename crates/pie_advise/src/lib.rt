@@ -9,9 +9,6 @@
 #![tactic(auto)]
 
 mod advice;
-mod expectation;
-mod fixed;
-mod least;
 mod margin;
 mod numbers;
 mod outlook;
@@ -19,8 +16,7 @@ mod request;
 mod setting;
 
 pub use advice::{Advice, advice_for, opening_for_link, push_advice};
-pub use least::RangeMargins;
-pub use margin::Margins;
+pub use margin::{Margins, RangeMargins};
 pub use numbers::Numbers;
 pub use outlook::Outlook;
 pub use request::{Range, RangeEnd, RangeFault, Request, range_in};

@@ -1,6 +1,7 @@
 //! The parameters in the units of other queues.
+//! Fixed-point numbers: sines, arc tangents and logarithms in billionths. Their errors are below 1e-7.
 ghost use Rattle.std.specs.Prelude.{◌≡◌};
-ghost use Rattle.pie_advise.specs.Numbers.{full_packets, numbers_for, packet_bytes, sixteenths, tail_threshold};
+ghost use Rattle.pie_advise.specs.Advice.{full_packets, numbers_for, packet_bytes, sixteenths, tail_threshold};
 
 use pie_event::Opening;
 
@@ -70,5 +71,114 @@ pub(crate) fn numbers_for(opening: &Opening) -> Numbers
         t_update: params.t_update / 1000,
         max_burst: params.max_burst / 1000,
         mark_ecnth: params.mark_ecnth / 10_000_000_000,
+    }
+}
+
+/// The number 1.
+pub(crate) const ONE: u64 = 1_000_000_000;
+
+/// A right angle in billionths of a radian: pi / 2.
+pub(crate) const RIGHT_ANGLE: u64 = 1_570_796_327;
+
+/// Coefficients of the polynomial for the arc tangent over its argument, in powers of the negated square: the greatest
+/// power first (Hastings, Approximations for Digital Computers, sheet 13).
+const ARC_TANGENT: [u64; 9] = [
+    2_866_226,
+    16_165_737,
+    42_909_614,
+    75_289_640,
+    106_562_639,
+    142_088_994,
+    199_935_509,
+    333_331_453,
+    1_000_000_000,
+];
+
+/// Divisors of the series of the sine, the last first: 11 x 10, 9 x 8, 7 x 6, 5 x 4, 3 x 2.
+const SINE: [u64; 5] = [110, 72, 42, 20, 6];
+
+/// Coefficients of the series of the logarithm: 1 / 11, 1 / 9, 1 / 7, 1 / 5, 1 / 3 and 1.
+const LOGARITHM: [u64; 6] = [
+    90_909_091,
+    111_111_111,
+    142_857_143,
+    200_000_000,
+    333_333_333,
+    1_000_000_000,
+];
+
+/// Two over the natural logarithm of 2.
+const TWO_OVER_LN_2: u64 = 2_885_390_082;
+
+/// Returns a 128-bit number, or the greatest 64-bit one if it is less.
+pub(crate) fn narrowed(value: u128) -> u64 {
+    value.min(u128::from(u64::MAX)) as u64
+}
+
+/// Returns the product of two numbers, rounded down.
+pub(crate) fn product(left: u64, right: u64) -> u64 {
+    narrowed(u128::from(left) * u128::from(right) / u128::from(ONE))
+}
+
+/// Returns the quotient of two numbers, rounded down.
+fn quotient(above: u64, below: u64) -> u64 {
+    narrowed(u128::from(above) * u128::from(ONE) / u128::from(below.max(1)))
+}
+
+/// Returns the arc tangent of a number of at most 1.
+fn short_arc_tangent(tangent: u64) -> u64 {
+    let square = product(tangent, tangent);
+    let mut sum = 0;
+    for coefficient in ARC_TANGENT {
+        sum = coefficient.saturating_sub(product(square, sum));
+    }
+    product(tangent, sum)
+}
+
+/// Returns the angle whose tangent is `opposite` / `adjacent`: 0 to a right angle, in billionths of a radian.
+pub(crate) fn angle(opposite: u64, adjacent: u64) -> u64 {
+    if opposite <= adjacent {
+        short_arc_tangent(quotient(opposite, adjacent))
+    } else {
+        RIGHT_ANGLE.saturating_sub(short_arc_tangent(quotient(adjacent, opposite)))
+    }
+}
+
+/// Returns the sine of an angle of at most a right one, in billionths of a radian.
+pub(crate) fn sine(angle: u64) -> u64 {
+    let square = product(angle, angle);
+    let mut sum = ONE;
+    for divisor in SINE {
+        sum = ONE.saturating_sub(product(square, sum) / divisor.max(1));
+    }
+    product(angle, sum)
+}
+
+/// Returns the logarithm to base 2 of a number from 1 to 2, by its series in `quotient` = (number - 1) / (number + 1).
+fn short_logarithm(quotient: u64) -> u64 {
+    let square = product(quotient, quotient);
+    let mut sum = 0;
+    for coefficient in LOGARITHM {
+        sum = product(square, sum).saturating_add(coefficient);
+    }
+    product(product(quotient, sum), TWO_OVER_LN_2)
+}
+
+/// Returns the logarithm to base 2 of a whole number below 2^96, in billionths. That of 0 is 0.
+fn middle_logarithm(number: u128) -> u64 {
+    let number = number.max(1);
+    let bits = number.ilog2();
+    let power = 1u128 << bits;
+    let above = number.saturating_sub(power).saturating_mul(u128::from(ONE));
+    let quotient = above / number.saturating_add(power).max(1);
+    short_logarithm(narrowed(quotient)).saturating_add(u64::from(bits) * ONE)
+}
+
+/// Returns the logarithm to base 2 of a whole number, in billionths. That of 0 is 0.
+pub(crate) fn logarithm(number: u128) -> u64 {
+    if number < 1 << 64 {
+        middle_logarithm(number)
+    } else {
+        middle_logarithm(number >> 32).saturating_add(32 * ONE)
     }
 }

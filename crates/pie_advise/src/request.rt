@@ -1,6 +1,6 @@
 //! The link for which parameters are chosen, and ranges such as `10ms-100ms`.
 ghost use Rattle.std.specs.Prelude.{◌≡◌, ◌≤◌, length};
-ghost use Rattle.pie_advise.specs.Request.{dash_place, pair_of, range_in, value_given};
+ghost use Rattle.pie_advise.specs.Advice.{dash_place, pair_of, range_in, value_given};
 
 use pie_units::{Overhead, Quantity, UnitFault, read};
 use std::fmt;

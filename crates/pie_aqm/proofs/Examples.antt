@@ -2,17 +2,13 @@
 -- after it, by the rules and by the look-back. The numbers are worked out by hand.
 use Rattle.std.specs.Prelude.{◌≡◌, refl, ⊤, ℕ, ◌+◌, ◌^◌, List, [], ◌∷◌, ◌++◌, map, Bool, true, false, Some, None}
 use Rattle.pie_aqm.specs.{RawParams, Elements, Stamp, Two, ArrivingPacket, ControllerEvent, Estimate, ControlState, Call, Arrive, Depart, Advance, Update, Restart, Change, after_call, event_of_call, opened, no_estimate, delay_answered, cause, with_count, count_kept_open, is_between_cycles, first_unsound, state_of, now_of, params_of, active_of, departure_inputs, update_inputs, arrival_inputs, departures_of, waited_of, waited_at_end, delay_at_end, control_of, early_of, is_active, activity_events, activity_events_after, places, greatest, last_or, verdict, accu_left}
-use Rattle.pie_aqm.specs.ControllerState.{ControllerState}
+use Rattle.pie_aqm.specs.Steps.{ControllerState}
 use Rattle.pie_params.specs.Params.{usual, default_profile}
 use Rattle.pie_queue.specs.declared.ecn.Ecn.TheVariants.{NotEct}
-use Rattle.pie_rate.specs.Average.{average, samples}
-use Rattle.pie_rate.specs.Cycles.{begun, cycles, cycles_from, first_closing, first_cycle, first_opening, first_position}
-use Rattle.pie_control.specs.Delay.{delay_of}
-use Rattle.pie_control.specs.History.{burst_allowance, granted_burst, last_delay, last_moment, probability}
-use Rattle.pie_control.specs.Next.{raw_step, tuning_divisor, tuned_step, decayed, next}
+use Rattle.pie_rate.specs.Estimate.{average, samples, begun, cycles, cycles_from, first_closing, first_cycle, first_opening, first_position}
+use Rattle.pie_control.specs.History.{delay_of, burst_allowance, granted_burst, last_delay, last_moment, probability, raw_step, tuning_divisor, tuned_step, decayed, next}
 use Rattle.pie_early.specs.Cause.{considered_cause, early_cause}
-use Rattle.pie_early.specs.Decision.{is_considered, is_picked}
-use Rattle.pie_early.specs.History.{accumulated}
+use Rattle.pie_early.specs.Decision.{is_considered, is_picked, accumulated}
 use Rattle.pie_event.specs.declared.cause.Cause.TheVariants.{NoRoomInBytes, NoRoomInPackets, Inactive, BurstAllowed}
 
 -- the definitions that theorems on worked calls unfold

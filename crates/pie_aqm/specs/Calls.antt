@@ -1,10 +1,8 @@
 -- Calls of a controller: the state after each, and the event that it adds.
 use Rattle.std.specs.Prelude.{◌≡◌, ℕ, ◌^◌, ◌<◌, ◌≤◌, List, [], ◌∷◌, ◌++◌, None, ⊤}
-use Rattle.pie_aqm.specs.Types.{RawParams, ArrivingPacket}
-use Rattle.pie_aqm.specs.ControllerState.{ControllerState, ControllerEvent, Opened, Arrived, Departed, Advanced, Updated, Reset, Changed}
+use Rattle.pie_aqm.specs.Steps.{RawParams, ArrivingPacket, ControllerState, ControllerEvent, Opened, Arrived, Departed, Advanced, Updated, Reset, Changed, arrived, bytes_with, changed, departed, advanced, reset, updated, verdict}
 use Rattle.pie_params.specs.Params.{first_bad}
 use Rattle.pie_aqm.specs.History.{Represents}
-use Rattle.pie_aqm.specs.Steps.{arrived, bytes_with, changed, departed, advanced, reset, updated, verdict}
 
 -- an arrival; a departure, with the packet's size, the bytes that it leaves and the moment of its arrival; a departure
 -- that found no packet; an update, with the bytes in the queue; a reset; new parameters. The last number is the moment

@@ -2,19 +2,11 @@
 -- with all events before it.
 use Rattle.std.specs.Prelude.{ℕ, max, List, [], ◌∷◌, ◌++◌, map, ◌≡◌, Bool, true, false, ◌&&◌, Option, option_map, Some, None, if◌then◌else◌}
 use Rattle.std.specs.List.{filter_map, after_last}
-use Rattle.pie_aqm.specs.Types.{RawParams, Elements, Departure, departure, ControlState, Enqueue, Mark, Drop, Profile, One, Two, Verdict, Picking}
-use Rattle.pie_aqm.specs.ControllerState.{ControllerState, ControllerEvent, Opened, Arrived, Departed, Updated, Reset, Changed, moment_of, params_set}
-use Rattle.pie_rate.specs.Average.{average}
-use Rattle.pie_rate.specs.Cycles.{begun}
-use Rattle.pie_rate.specs.Estimate.{Estimate, begun_at}
-use Rattle.pie_control.specs.Delay.{delay_of}
-use Rattle.pie_control.specs.Events.{ControlEvent, update_at, idled, reset}
-use Rattle.pie_control.specs.History.{probability, last_delay, last_moment, burst_allowance, is_calm_after}
-use Rattle.pie_early.specs.Decision.{effective_prob, is_considered}
-use Rattle.pie_early.specs.Events.{EarlyEvent, arrival, cleared}
-use Rattle.pie_early.specs.History.{accumulated}
-use Rattle.pie_event.specs.declared.verdict.Verdict.TheVariants.{Enqueued, Marked, DroppedEarly, DroppedBytes, DroppedPackets}
-use Rattle.pie_aqm.specs.Steps.{delay_by, keeps_wait, measures, wait_of, activates}
+use Rattle.pie_aqm.specs.Steps.{RawParams, Elements, Departure, departure, ControlState, Enqueue, Mark, Drop, Profile, One, Two, Verdict, Picking, ControllerState, ControllerEvent, Opened, Arrived, Departed, Updated, Reset, Changed, moment_of, params_set, delay_by, keeps_wait, measures, wait_of, activates}
+use Rattle.pie_rate.specs.Estimate.{average, begun, Estimate, begun_at}
+use Rattle.pie_control.specs.History.{delay_of, ControlEvent, update_at, idled, reset, probability, last_delay, last_moment, burst_allowance, is_calm_after}
+use Rattle.pie_early.specs.Decision.{effective_prob, is_considered, EarlyEvent, arrival, cleared, accumulated}
+use Rattle.pie_event.specs.declared.command.Verdict.TheVariants.{Enqueued, Marked, DroppedEarly, DroppedBytes, DroppedPackets}
 
 -- ---- Events with all events before them, and the greatest and the last element of a list.
 

@@ -1,10 +1,6 @@
-pub mod Types
-pub mod History
-pub mod ControllerState
 pub mod Steps
+pub mod History
 pub mod Calls
-unfoldable pub use Types.*
-unfoldable pub use History.*
-unfoldable pub use ControllerState.*
 unfoldable pub use Steps.*
+unfoldable pub use History.*
 unfoldable pub use Calls.*

@@ -1,19 +1,140 @@
--- The rules: the state of a controller after each call, from the state before it (RFC 8033, sections 4.1, 4.2, 4.4, 5.1
--- to 5.5, and Appendix A for tail drop; the conditions for switching in profile two are this project's own).
-use Rattle.std.specs.Prelude.{ℕ, ◌+◌, ◌-◌, ◌*◌, ◌^◌, ◌==◌, max, ◌&&◌, not, nat_lt, nat_le, Bool, true, false, Option, Some, None, is_none, min, option_map, if◌then◌else◌}
-use Rattle.pie_aqm.specs.Types.{RawParams, Elements, Delay, Rate, Stamp, departure, Estimate, ControlState, Offered, Choice, Enqueue, Profile, One, Two, ArrivingPacket, Verdict}
-use Rattle.pie_aqm.specs.ControllerState.{ControllerState}
-use Rattle.pie_rate.specs.Estimate.{Begun, after_departure}
-use Rattle.pie_control.specs.Delay.{delay_of}
-use Rattle.pie_control.specs.History.{burst_after, ends_calm}
-use Rattle.pie_control.specs.Next.{next}
+-- The state of a controller, its soundness, its opening, and its events.
+pub use Rattle.pie_params.specs.declared.raw.RawParams.{RawParams}
+pub use Rattle.pie_params.specs.declared.elements.Elements.{Elements}
+pub use Rattle.pie_params.specs.declared.elements.Delay.{Delay}
+pub use Rattle.pie_params.specs.declared.elements.Delay.TheVariants.{Rate, Stamp}
+pub use Rattle.pie_params.specs.declared.elements.Picking.{Picking}
+pub use Rattle.pie_params.specs.declared.elements.Picking.TheVariants.{Derandomized, Random}
+pub use Rattle.pie_params.specs.declared.elements.Step.TheVariants.{Capped, Uncapped}
+pub use Rattle.pie_params.specs.declared.elements.Size.{Size}
+pub use Rattle.pie_params.specs.declared.elements.Size.TheVariants.{Unscaled, Scaled}
+pub use Rattle.pie_rate.specs.Estimate.{Departure, departure, Begun, Estimate}
+pub use Rattle.pie_control.specs.History.{ControlEvent, ControlState}
+pub use Rattle.pie_early.specs.Decision.{EarlyEvent, chosen}
+pub use Rattle.pie_early.specs.declared.decision.Offered.{Offered}
+pub use Rattle.pie_early.specs.declared.early.Choice.{Choice}
+pub use Rattle.pie_early.specs.declared.early.Choice.TheVariants.{Enqueue, Mark, Drop}
+pub use Rattle.pie_event.specs.declared.opening.Profile.{Profile}
+pub use Rattle.pie_event.specs.declared.opening.Profile.TheVariants.{One, Two}
+pub use Rattle.pie_aqm.specs.declared.verdict.ArrivingPacket.{ArrivingPacket}
+pub use Rattle.pie_event.specs.declared.command.Verdict.{Verdict}
+use Rattle.std.specs.Prelude.{◌≡◌, ℕ, ◌^◌, ◌<◌, ◌≤◌, Bool, true, nat_le, nat_lt, not, is_none, Option, Some, None, find, List, [], ◌∷◌, ⊤, ◌+◌, ◌-◌, ◌*◌, ◌==◌, max, ◌&&◌, false, min, option_map, if◌then◌else◌}
+use Rattle.pie_params.specs.Params.{first_bad}
+use Rattle.pie_aqm.specs.declared.raw.RawController.{RawController}
+use Rattle.pie_event.specs.declared.registers.Register.{Register}
+use Rattle.pie_event.specs.declared.registers.Register.TheVariants as register
+use Rattle.pie_rate.specs.Estimate.{after_departure}
+use Rattle.pie_control.specs.History.{delay_of, burst_after, ends_calm, next}
 use Rattle.pie_early.specs.Cause.{early_cause}
 use Rattle.pie_early.specs.Decision.{accu_after, choice_of}
-pub use Rattle.pie_early.specs.Decision.{chosen}
 use Rattle.pie_event.specs.declared.cause.Cause.{Cause}
 use Rattle.pie_event.specs.declared.cause.Cause.TheVariants.{NoRoomInBytes, NoRoomInPackets, Inactive}
-use Rattle.pie_event.specs.declared.verdict.Verdict.TheVariants.{DroppedBytes, DroppedPackets}
+use Rattle.pie_event.specs.declared.command.Verdict.TheVariants.{DroppedBytes, DroppedPackets}
 use Rattle.pie_event.specs.Cause.{is_queued}
+
+-- the state of a controller: profile, optional elements, parameters in force, effective moment, activity, estimate of
+-- the departure rate, the last departed packet's time in the queue, state of the control law, and accumulated
+-- probability
+abbrev pub ControllerState : Type 0
+ControllerState = RawController
+
+-- an open cycle in range: it opened at or before `now` and has counted fewer bytes than the threshold
+abbrev pub IsWithin : ℕ → ℕ → Option Begun → Type 0
+IsWithin threshold now None = ⊤
+IsWithin threshold now (Some cycle) = (cycle.start ≤ now) × (cycle.count < threshold)
+
+-- a sound state: each number is in its range, and the numbers agree. No moment is later than the effective one, and in
+-- profile one the controller is active
+pub record IsSound (h : ControllerState) : Type 0 where
+  pub params : first_bad h.params ≡ None
+  pub moment : h.moment < 2 ^ 60
+  pub prob : h.control.prob ≤ 10 ^ 12
+  pub old_delay : h.control.old_delay ≤ 2 ^ 40
+  pub burst : h.control.burst ≤ 10 ^ 12
+  pub last : h.control.last ≤ h.moment
+  pub accu : h.accu < 8_500_000_000_000
+  pub average : h.rate.average < 2 ^ 60
+  pub cycle : IsWithin h.params.dq_threshold h.moment h.rate.begun
+  pub waited : h.waited ≤ 2 ^ 40
+  pub active : h.profile ≡ One → h.active ≡ true
+
+-- ---- Soundness of each number of a state
+
+-- true if an open cycle opened at or before `now`; below, true if it has counted fewer bytes than the threshold
+abbrev pub began_by : ℕ → Option Begun → Bool
+began_by now None = true
+began_by now (Some cycle) = nat_le cycle.start now
+
+abbrev pub counts_below : ℕ → Option Begun → Bool
+counts_below threshold None = true
+counts_below threshold (Some cycle) = nat_lt cycle.count threshold
+
+-- true if the activity is possible: in profile one a controller is active
+abbrev pub fits_profile : Profile → Bool → Bool
+fits_profile One active = active
+fits_profile Two active = true
+
+-- true if the number is in its range and agrees with the numbers before it
+abbrev pub is_sound_at : ControllerState → Register → Bool
+is_sound_at h register.Params = is_none (first_bad h.params)
+is_sound_at h register.Moment = nat_le h.moment 1152921504606846975
+is_sound_at h register.Prob = nat_le h.control.prob (10 ^ 12)
+is_sound_at h register.OldDelay = nat_le h.control.old_delay (2 ^ 40)
+is_sound_at h register.Accu = nat_lt h.accu 8_500_000_000_000
+is_sound_at h register.Burst = nat_le h.control.burst (10 ^ 12)
+is_sound_at h register.Last = nat_le h.control.last h.moment
+is_sound_at h register.Average = nat_le h.rate.average 1152921504606846975
+is_sound_at h register.CycleStart = began_by h.moment h.rate.begun
+is_sound_at h register.CycleCount = counts_below h.params.dq_threshold h.rate.begun
+is_sound_at h register.Waited = nat_le h.waited (2 ^ 40)
+is_sound_at h register.Active = fits_profile h.profile h.active
+
+-- the numbers, in the order of the checks
+abbrev pub checked_registers : List Register
+checked_registers =
+    register.Params ∷ register.Moment ∷ register.Prob ∷ register.OldDelay ∷ register.Accu ∷ register.Burst ∷ register.Last ∷ register.Average
+    ∷ register.CycleStart ∷ register.CycleCount ∷ register.Waited ∷ register.Active ∷ []
+
+-- the first number that is not sound
+unfoldable pub first_unsound : ControllerState → Option Register
+first_unsound h = find (λ register. not (is_sound_at h register)) checked_registers
+
+-- ---- The opening of a controller, and its events in order.
+
+-- the opening of a controller
+pub record Opened : Type 0 where
+  pub profile : Profile
+  pub elements : Elements
+  pub params : RawParams
+  pub moment : ℕ
+
+-- an arrival, with its verdict, the packet's size, and the bytes in the queue before and after it; a departure of a
+-- packet of this size that leaves these bytes and arrived at this moment; a departure that found no packet; an update,
+-- with the bytes in the queue; a reset; new parameters. The last number is the caller's moment
+pub data ControllerEvent : Type 0 where
+  Arrived : Verdict → ℕ → ℕ → ℕ → ℕ → ControllerEvent
+  Departed : ℕ → ℕ → ℕ → ℕ → ControllerEvent
+  Advanced : ℕ → ControllerEvent
+  Updated : ℕ → ℕ → ControllerEvent
+  Reset : ℕ → ControllerEvent
+  Changed : RawParams → ℕ → ControllerEvent
+
+-- the caller's moment
+abbrev pub moment_of : ControllerEvent → ℕ
+moment_of (Arrived verdict size before after moment) = moment
+moment_of (Departed size bytes_left since moment) = moment
+moment_of (Advanced moment) = moment
+moment_of (Updated queued moment) = moment
+moment_of (Reset moment) = moment
+moment_of (Changed params moment) = moment
+
+-- the new parameters, if the event sets them
+abbrev pub params_set : ControllerEvent → Option RawParams
+params_set (Changed params moment) = Some params
+params_set _ = None
+
+-- The rules: the state of a controller after each call, from the state before it (RFC 8033, sections 4.1, 4.2, 4.4, 5.1
+-- to 5.5, and Appendix A for tail drop; the conditions for switching in profile two are this project's own).
 
 -- the effective moment: the greatest up to now
 abbrev pub now_at : ControllerState → ℕ → ℕ

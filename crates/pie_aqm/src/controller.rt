@@ -17,7 +17,7 @@ pub struct Controller {
 }
 
 impl Model for Controller {
-    ghost use Rattle.pie_aqm.specs.ControllerState.{ControllerState, IsSound};
+    ghost use Rattle.pie_aqm.specs.Steps.{ControllerState, IsSound};
 
     ghost Value = { ControllerState };
 

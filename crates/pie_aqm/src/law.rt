@@ -2,7 +2,7 @@
 ghost use Rattle.std.specs.Prelude.{◌≡◌, ◌≤◌, ◌<◌, ◌^◌, ◌++◌, ◌∷◌, [], ℕ, List, None};
 ghost use Rattle.pie_aqm.specs.{RawParams, Elements, Profile, ControllerEvent, Opened, Call, IsTaken, after_call, event_of_call, IsSound, Represents, state_of, opened};
 ghost use Rattle.pie_params.specs.Params.{first_bad};
-ghost use Rattle.pie_aqm.specs.ControllerState.{ControllerState};
+ghost use Rattle.pie_aqm.specs.Steps.{ControllerState};
 
 /// States that a controller's state is sound at its opening and after each call whose moment and parameters are in
 /// their ranges: each number is in its range, no moment is later than the effective one, and in profile one the

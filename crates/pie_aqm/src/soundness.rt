@@ -39,7 +39,7 @@ impl RawController {
 
     /// Returns the first number that no controller can hold. Split from `first_unsound` for the proof of its clause
     /// `sound`.
-    #[tactic(auto, unfolding(crate::specs::ControllerState::first_unsound))]
+    #[tactic(auto, unfolding(crate::specs::Steps::first_unsound))]
     fn find_unsound(&self) -> Option<Register>
         ensures { result ≡ first_unsound self.now }
     {

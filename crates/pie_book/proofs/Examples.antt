@@ -6,17 +6,17 @@ use Rattle.std.proofs.Common.{refl, ap, arith}
 use Rattle.pie_params.specs.Params.{default_profile, usual}
 use Rattle.pie_queue.specs.declared.ecn.Ecn.TheVariants.{NotEct, Ect0}
 use Rattle.pie_event.specs.Event.{nothing}
-use Rattle.pie_event.specs.declared.register.Register.TheVariants.{Accu}
+use Rattle.pie_event.specs.declared.registers.Register.TheVariants.{Accu}
 use Rattle.pie_event.specs.declared.registers.Registers.{Registers}
-use Rattle.pie_event.specs.declared.resume_refusal.ResumeRefusal.TheVariants as resume
-use Rattle.pie_event.specs.declared.resume_refusal.QueueRefusal.TheVariants as queue
-use Rattle.pie_event.specs.declared.resume_refusal.EndRefusal.TheVariants as end
+use Rattle.pie_event.specs.declared.refusal.ResumeRefusal.TheVariants as resume
+use Rattle.pie_event.specs.declared.refusal.QueueRefusal.TheVariants as queue
+use Rattle.pie_event.specs.declared.refusal.EndRefusal.TheVariants as end
 use Rattle.pie_book.specs.declared.snapshot.CoreSnapshot.{CoreSnapshot}
 use Rattle.pie_event.specs.declared.refusal.Refusal.TheVariants.{Moment, Size, TooSoon, Exhausted, HistoryFull}
 use Rattle.pie_aqm.proofs.Examples.{small, worked as worked_calls}
 use Rattle.pie_book.specs.Book.{Step, applied, folded, start, without_folds, answers, answers_from, before_full, progress_after, event_of}
 use Rattle.pie_book.specs.{Packet, Command, Arrive, Depart, Update, Reset, SetParams, Answer, Enqueued, Marked, DroppedEarly, DroppedBytes, Empty, Left, Updated, Done, Event, Mode, Bounded, Rolling, One, Opening, RawParams, Stats, caller_moment, registers_after, largest_queue, largest_delay, stats_after, waited, state_after, effective_moment, admitted, departed_count, waiting_after, controller_events, effect, fits, last_events, without_last, tail_with, first_run, core_after, first_core, CoreView, IsLegalAt, refusal_after, state_after_calls, calls_of, after_calls, resume_refusal, queue_refusal, end_refusal, core_of, ResumingView, are_reached, DroppedPackets, ExcerptView, event_of_recorded, MayOpen, HasLimits, AreInOrder, AreQueued, ArrivedBy, ArrivedFrom, IsNotContinued, Profile, Two, Elements, Waiting, recorded_event_in, has_room, most_kept, apply_in, cause_in, core_along, no_stats, step_in, are_balanced, ControllerState}
-use Rattle.pie_book.proofs.BalanceFacts.{queued_none, queued_resumed}
+use Rattle.pie_book.proofs.CoreFacts.{queued_none, queued_resumed}
 use Rattle.std.proofs.lemmas.List.Elements.{All-head}
 use Rattle.pie_params.specs.declared.elements.Delay.{Delay}
 use Rattle.pie_params.specs.declared.elements.Delay.TheVariants.{Rate, Stamp}

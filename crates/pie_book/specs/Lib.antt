@@ -1,15 +1,11 @@
 pub mod Types
 pub mod History
-pub mod StateAfter
-pub mod Statistics
 pub mod Decision
 pub mod Core
 pub mod Book
 pub mod Snapshot
 unfoldable pub use Types.*
 unfoldable pub use History.*
-unfoldable pub use StateAfter.*
-unfoldable pub use Statistics.*
 unfoldable pub use Decision.*
 unfoldable pub use Core.*
 unfoldable pub use Book.*

@@ -3,9 +3,9 @@ pub use Rattle.pie_params.specs.declared.raw.RawParams.{RawParams}
 pub use Rattle.pie_params.specs.declared.elements.Elements.{Elements}
 pub use Rattle.pie_queue.specs.declared.packet.Packet.{Packet}
 pub use Rattle.pie_queue.specs.declared.packet.Waiting.{Waiting}
-pub use Rattle.pie_event.specs.declared.profile.Profile.{Profile}
-pub use Rattle.pie_event.specs.declared.profile.Profile.TheVariants.{One, Two}
-pub use Rattle.pie_event.specs.declared.verdict.Verdict.{Verdict}
+pub use Rattle.pie_event.specs.declared.opening.Profile.{Profile}
+pub use Rattle.pie_event.specs.declared.opening.Profile.TheVariants.{One, Two}
+pub use Rattle.pie_event.specs.declared.command.Verdict.{Verdict}
 pub use Rattle.pie_event.specs.declared.command.Command.{Command}
 pub use Rattle.pie_event.specs.declared.command.Command.TheVariants.{Arrive, Depart, Update, Reset, SetParams}
 pub use Rattle.pie_event.specs.declared.command.Answer.{Answer}
@@ -15,10 +15,10 @@ pub use Rattle.pie_event.specs.declared.opening.Mode.{Mode}
 pub use Rattle.pie_event.specs.declared.opening.Mode.TheVariants.{Bounded, Rolling}
 pub use Rattle.pie_event.specs.declared.opening.Opening.{Opening}
 pub use Rattle.pie_event.specs.declared.refusal.Refusal.{Refusal}
-pub use Rattle.pie_event.specs.declared.stats.Stats.{Stats}
+pub use Rattle.pie_event.specs.declared.registers.Stats.{Stats}
 pub use Rattle.pie_event.specs.declared.registers.Registers.{Registers}
 pub use Rattle.pie_aqm.specs.declared.verdict.ArrivingPacket.{ArrivingPacket}
-pub use Rattle.pie_aqm.specs.ControllerState.{ControllerState}
+pub use Rattle.pie_aqm.specs.Steps.{ControllerState}
 pub use Rattle.pie_queue.specs.Queue.{IsSize, bytes_of}
 pub use Rattle.pie_params.specs.Params.{first_bad, usual}
 pub use Rattle.pie_event.specs.Cause.{answer_of, verdict_of}
@@ -27,5 +27,5 @@ pub use Rattle.pie_event.specs.declared.opening.Limits.{Limits}
 pub use Rattle.pie_event.specs.declared.refusal.OpenRefusal.{OpenRefusal}
 pub use Rattle.pie_aqm.specs.Calls.{Call, HasThreshold, after_call}
 pub use Rattle.pie_aqm.specs.History.{Place, up_to}
-pub use Rattle.pie_control.specs.ControlState.{ControlState}
+pub use Rattle.pie_control.specs.History.{ControlState}
 unfoldable pub use Rattle.pie_aqm.specs.History.{greatest, places}

@@ -1,12 +1,9 @@
 //! Laws. Each function has an empty body: its contract is the law.
-ghost use Rattle.std.specs.Prelude.{◌≡◌, List, true, ◌++◌, ◌∷◌, [], ℕ, All, None, nat_lt};
-ghost use Rattle.pie_book.specs.{One, Event, Rolling, Opening, CoreView, Represents, registers_of, registers_after, active_after, answers, without_folds, AreSameUntilFull, RawParams, Command, IsLegal, decision, refusal_by_rule, event_of, stats_after, Update, first_core, core_after, state_after_calls, opened_by, call_of, refusal_of, answer_by, is_too_soon, waiting_after, first_bad, answer_in, apply_in, cause_after, cause_in, core_along, outcome, Follows, fits, opening_refusal, AnswerFits, CommandFits, ParamsFit, RegistersFit, StatsFit, after_call};
+ghost use Rattle.std.specs.Prelude.{◌≡◌, List, true, ◌++◌, ◌∷◌, [], ℕ, All, None, nat_lt, ◌↔◌};
+ghost use Rattle.pie_book.specs.{One, Event, Rolling, Opening, CoreView, Represents, registers_of, registers_after, active_after, answers, without_folds, AreSameUntilFull, RawParams, Command, IsLegal, decision, refusal_by_rule, event_of, stats_after, Update, first_core, core_after, state_after_calls, opened_by, call_of, refusal_of, answer_by, is_too_soon, waiting_after, first_bad, answer_in, apply_in, cause_after, cause_in, core_along, outcome, Follows, fits, opening_refusal, AnswerFits, CommandFits, ParamsFit, RegistersFit, StatsFit, after_call, core_of, SnapshotRepresents, AreQueued, Limits, MayOpen, Waiting, begun_with, end_refusal, queue_refusal, snapshot_of};
 ghost use Rattle.pie_book.specs.Book.{Step};
 ghost use Rattle.pie_aqm.specs.Steps.{due, due_of, now_at};
-ghost use Rattle.std.specs.Prelude.{◌↔◌};
-ghost use Rattle.pie_book.specs.{core_of, SnapshotRepresents};
 ghost use Rattle.pie_book.specs.declared.snapshot.CoreSnapshot.{CoreSnapshot};
-ghost use Rattle.pie_book.specs.{AreQueued, Limits, MayOpen, Waiting, begun_with, end_refusal, queue_refusal, snapshot_of};
 
 /// States that folds change no answer except `HistoryFull`. If two runs from one opening have the same commands in the
 /// same order and differ only in their folds, all commands have the same answers in both: in a rolling book always, in
@@ -71,7 +68,7 @@ pub fn steps_look_back()
 /// project's own).
 ///
 /// The body is empty: the contract is the law, for readers of histories without a book.
-#[tactic(auto, using(crate::proofs::RangeFacts::all_params_fit, crate::proofs::RangeFacts::all_registers_fit, crate::proofs::RangeFacts::all_stats_fit, crate::proofs::RangeFacts::all_answers_fit, crate::proofs::CoreFacts::answer_fits, crate::proofs::RangeFacts::legal_at_first, crate::proofs::RangeFacts::legal_with_one_more))]
+#[tactic(auto, using(crate::proofs::BookFacts::all_params_fit, crate::proofs::BookFacts::all_registers_fit, crate::proofs::BookFacts::all_stats_fit, crate::proofs::BookFacts::all_answers_fit, crate::proofs::CoreFacts::answer_fits, crate::proofs::BookFacts::legal_at_first, crate::proofs::BookFacts::legal_with_one_more))]
 pub fn all_numbers_fit()
     ensures params { (params : RawParams) → first_bad params ≡ None → ParamsFit params }
     ensures registers { (opening : Opening) (history : List Event) → opening_refusal opening.limits opening.moment ≡ None → ParamsFit opening.params

@@ -1,7 +1,6 @@
 //! Counts of events, and their statistics.
 ghost use Rattle.std.specs.Prelude.{◌≡◌, ◌+◌, ◌<◌, ◌≤◌, ◌^◌, ℕ};
-ghost use Rattle.pie_book.specs.{Packet, counted, with_queue, arrival_effect, found_none, updated, was_reset, departed, answer_of, TallyView};
-ghost use Rattle.pie_book.specs.{IsReached, no_stats};
+ghost use Rattle.pie_book.specs.{Packet, counted, with_queue, arrival_effect, found_none, updated, was_reset, departed, answer_of, TallyView, IsReached, no_stats};
 
 use crate::Stats;
 use pie_aqm::Verdict;
@@ -28,7 +27,7 @@ impl Model for Tally {
 
 impl Tally {
     /// Makes a tally without events.
-    #[tactic(auto, using(std::proofs::lemmas::Bool::Decides::nat_tests), unfolding(crate::specs::Statistics::are_reached))]
+    #[tactic(auto, using(std::proofs::lemmas::Bool::Decides::nat_tests), unfolding(crate::specs::Decision::are_reached))]
     pub(crate) fn empty() -> Tally
         ensures { result ≡ record { count = 0; stats = no_stats } }
     {
@@ -61,7 +60,7 @@ impl Tally {
     }
 
     /// Counts an arrival with its verdict.
-    #[tactic(auto, using(std::proofs::lemmas::Bool::Decides::nat_tests), unfolding(crate::specs::Statistics::are_reached))]
+    #[tactic(auto, using(std::proofs::lemmas::Bool::Decides::nat_tests), unfolding(crate::specs::Decision::are_reached))]
     pub(crate) fn arrived(&mut self, verdict: Verdict)
         requires { self.old.count < 2 ^ 47 }
         ensures count { self.new.count ≡ self.old.count + 1 }
@@ -79,7 +78,7 @@ impl Tally {
     }
 
     /// Counts a departed packet that spent `waited` nanoseconds in the queue.
-    #[tactic(auto, using(std::proofs::lemmas::Bool::Decides::nat_tests), unfolding(crate::specs::Statistics::are_reached))]
+    #[tactic(auto, using(std::proofs::lemmas::Bool::Decides::nat_tests), unfolding(crate::specs::Decision::are_reached))]
     pub(crate) fn departed(&mut self, packet: Packet, waited: u64)
         requires count { self.old.count < 2 ^ 47 }
         requires size { packet.size ≤ 65535 }
@@ -93,7 +92,7 @@ impl Tally {
     }
 
     /// Counts a departure that found no packet.
-    #[tactic(auto, using(std::proofs::lemmas::Bool::Decides::nat_tests), unfolding(crate::specs::Statistics::are_reached))]
+    #[tactic(auto, using(std::proofs::lemmas::Bool::Decides::nat_tests), unfolding(crate::specs::Decision::are_reached))]
     pub(crate) fn departed_empty(&mut self)
         requires { self.old.count < 2 ^ 47 }
         ensures { self.new ≡ record { count = self.old.count + 1; stats = counted self.old.stats found_none 0 0 } }
@@ -103,7 +102,7 @@ impl Tally {
     }
 
     /// Counts an update with its delay.
-    #[tactic(auto, using(std::proofs::lemmas::Bool::Decides::nat_tests), unfolding(crate::specs::Statistics::are_reached))]
+    #[tactic(auto, using(std::proofs::lemmas::Bool::Decides::nat_tests), unfolding(crate::specs::Decision::are_reached))]
     pub(crate) fn updated(&mut self, delay: u64)
         requires { self.old.count < 2 ^ 47 }
         ensures { self.new ≡ record { count = self.old.count + 1; stats = counted self.old.stats updated delay 0 } }
@@ -114,7 +113,7 @@ impl Tally {
     }
 
     /// Counts a reset.
-    #[tactic(auto, using(std::proofs::lemmas::Bool::Decides::nat_tests), unfolding(crate::specs::Statistics::are_reached))]
+    #[tactic(auto, using(std::proofs::lemmas::Bool::Decides::nat_tests), unfolding(crate::specs::Decision::are_reached))]
     pub(crate) fn reset_done(&mut self)
         requires { self.old.count < 2 ^ 47 }
         ensures { self.new ≡ record { count = self.old.count + 1; stats = counted self.old.stats was_reset 0 0 } }
@@ -124,7 +123,7 @@ impl Tally {
     }
 
     /// Counts a change of the parameters.
-    #[tactic(auto, using(std::proofs::lemmas::Bool::Decides::nat_tests), unfolding(crate::specs::Statistics::are_reached))]
+    #[tactic(auto, using(std::proofs::lemmas::Bool::Decides::nat_tests), unfolding(crate::specs::Decision::are_reached))]
     pub(crate) fn changed(&mut self)
         requires { self.old.count < 2 ^ 47 }
         ensures { self.new ≡ record { count = self.old.count + 1; stats = record self.old.stats { changes = self.old.stats.changes + 1 } } }
@@ -134,7 +133,7 @@ impl Tally {
     }
 
     /// Includes `bytes`, the bytes in the queue after the last event, in the largest queue.
-    #[tactic(auto, using(std::proofs::lemmas::Bool::Decides::nat_tests), unfolding(crate::specs::Statistics::are_reached))]
+    #[tactic(auto, using(std::proofs::lemmas::Bool::Decides::nat_tests), unfolding(crate::specs::Decision::are_reached))]
     pub(crate) fn update_largest_queue(&mut self, bytes: u64)
         ensures { self.new ≡ record { count = self.old.count; stats = with_queue self.old.stats bytes } }
     {

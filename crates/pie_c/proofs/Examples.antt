@@ -1,8 +1,5 @@
 -- Examples of the definitions: each theorem computes.
-use Rattle.pie_c.proofs.Names.{◌≡◌, ◌^◌, true, false, refl, default_profile, PieState, usual, Half, Stamp, Random, Uncapped, Scaled, One, accu_left}
-use Rattle.pie_c.proofs.Names.{arrived, capped, departed, opened, verdict, arrival_of, packet_refusal, waited_refusal, departure_refusal}
-use Rattle.pie_c.proofs.Names.{update_refusal, choices_of, elements_of, are_in_range, controller_state, is_activity_sound, is_rate_sound}
-use Rattle.pie_c.proofs.Names.{is_sound, state_of, with_arrival, with_rate}
+use Rattle.pie_c.proofs.Sound.{◌≡◌, ◌^◌, true, false, refl, default_profile, PieState, usual, Half, Stamp, Random, Uncapped, Scaled, One, accu_left, arrived, capped, departed, opened, verdict, arrival_of, packet_refusal, waited_refusal, departure_refusal, update_refusal, choices_of, elements_of, are_in_range, controller_state, is_activity_sound, is_rate_sound, is_sound, state_of, with_arrival, with_rate}
 use Rattle.pie_early.specs.Decision.{is_considered, is_picked}
 
 -- a controller that is opened with the default parameters at 0

@@ -1,4 +1,2 @@
-mod Names
 pub mod Sound
 mod Examples
-pub mod Packets

@@ -120,7 +120,7 @@ fn arrive_out_of_line(
 /// Adds the departure of a packet of `size` bytes that leaves `left` bytes in the queue (RFC 8033, section 5.2). For an
 /// inactive controller only the moment counts. If delays come from time stamps, the call is refused: use
 /// `pie_depart_waited`, which takes the packet's arrival.
-#[tactic(auto, using(crate::proofs::Packets::departs_by_rate))]
+#[tactic(auto, using(crate::proofs::Sound::departs_by_rate))]
 #[unsafe(no_mangle)]
 pub extern "C" fn pie_depart(state: &mut PieState, size: u32, left: u64, moment: u64) -> u32
     ensures answer { result ≡ departure_refusal state.old size left moment }
@@ -206,7 +206,7 @@ fn depart(state: &mut PieState, size: u32, left: u64, moment: u64) -> u32
 /// packet arrived at the moment `arrived`, which is the state's moment right after its `pie_arrive`. If delays come from
 /// the departure rate, it is equivalent to `pie_depart`.
 #[inline(always)]
-#[tactic(auto, using(crate::proofs::Packets::departs))]
+#[tactic(auto, using(crate::proofs::Sound::departs))]
 #[unsafe(no_mangle)]
 pub extern "C" fn pie_depart_waited(
     state: &mut PieState,

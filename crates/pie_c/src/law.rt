@@ -1,6 +1,6 @@
 //! Laws: the text that a sequence of writing calls produces is one that the laws of the readers apply to.
 ghost use Rattle.std.specs.Prelude.{◌≡◌, ◌++◌, ◌∷◌, [], ℕ, All, List, Option, Some, map, true};
-ghost use Rattle.pie_c.specs.Names.{Opening};
+ghost use Rattle.pie_c.specs.State.{Opening};
 ghost use Rattle.pie_c.specs.{flat_map, Event, cause_after, state_after, wait_of, effect_of, Setter, explanation, moment_of, with_after, Clock, rows_text, event_row, written_rows, resumed_rows, PieOpening, PieStats, PieState, WrittenEvent, KeepsSound, LooksBack, opening_text, event_of_written, written_text, opening_in, opening_of, opening_refusal, CanWait, is_snapshot, resume_of, resume_text, set_by_of, Waiting, snapshot_in, waiting_text, controller_state, is_sound, ExplainsCall};
 ghost use Rattle.pie_book.specs.History.{waiting_after};
 
@@ -13,7 +13,7 @@ ghost use Rattle.pie_book.specs.History.{waiting_after};
 ///
 /// If the events are legal, both texts are clean by the laws of pie_audit: `recorded_calls_are_clean` and
 /// `written_excerpts_are_read`. The body is empty: the contract is the law.
-#[tactic(auto, using(crate::proofs::Packets::whole_written, crate::proofs::Packets::part_written))]
+#[tactic(auto, using(crate::proofs::Sound::whole_written, crate::proofs::Sound::part_written))]
 pub fn written_calls_are_records()
     ensures whole { (o : PieOpening) (events : List Event) (kept : List WrittenEvent) → opening_refusal o ≡ 0 → map event_of_written kept ≡ map Some events
         → opening_text (opening_of o) ++ flat_map written_text kept ≡ rows_text (written_rows (opening_in o) events) }

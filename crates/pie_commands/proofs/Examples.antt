@@ -9,7 +9,7 @@ use Rattle.pie_commands.specs.declared.cut.Pieces.TheVariants.{Every, Excerpt, L
 use Rattle.pie_explain.specs.declared.choice.EventChoice.{EventChoice}
 use Rattle.pie_explain.specs.declared.choice.EventChoice.TheVariants.{Number, Lost, All}
 use Rattle.pie_explain.specs.declared.selection.Selection.{Selection}
-use Rattle.pie_units.specs.declared.when.When.TheVariants.{Moment, Unix}
+use Rattle.pie_units.specs.declared.utc.When.TheVariants.{Moment, Unix}
 use Rattle.pie_units.specs.Number.{is_word, time_scale, digit_count, number_after}
 use Rattle.pie_units.specs.Time.{day_number, date_part, has_marks, nanos_in, seconds_part, unix_of, utc_in, utc_with}
 

@@ -6,11 +6,11 @@ use Rattle.clap.specs.declared.builder.value_parser.ValueParser.TheVariants.{Uns
 use Rattle.clap.proofs.ValueTestLemmas.{Accepts-accepts, accepts-Accepts}
 use Rattle.std.specs.Option.{option_transpose}
 use Rattle.clap.specs.Matches.{TriesOne}
-use Rattle.pie_units.specs.declared.moment.Moment.{Moment}
-use Rattle.pie_units.specs.declared.moment.MomentFault.{MomentFault}
+use Rattle.pie_units.specs.declared.utc.Moment.{Moment}
+use Rattle.pie_units.specs.declared.utc.MomentFault.{MomentFault}
 use Rattle.pie_units.specs.Time.{ParsesMoment, moment_in, ParsesWhen, when_in}
-use Rattle.pie_units.specs.declared.when.When.{When}
-use Rattle.pie_units.specs.declared.when.WhenFault.{WhenFault}
+use Rattle.pie_units.specs.declared.utc.When.{When}
+use Rattle.pie_units.specs.declared.utc.WhenFault.{WhenFault}
 
 -- ---- a number
 

@@ -2,15 +2,15 @@
 use Rattle.std.specs.Prelude.{ℕ, ◌==◌, List, Bool, Option, Some, None, Result, Ok, Err, codes, if◌then◌else◌, option_and_then}
 use Rattle.std.specs.Result.{result_ok}
 use Rattle.clap.specs.Words.{Row, Text, first_of}
-use Rattle.pie_advise.specs.Request.{range_in}
+use Rattle.pie_advise.specs.Advice.{range_in}
 use Rattle.pie_advise.specs.declared.request.Range.{Range}
 use Rattle.pie_advise.specs.declared.request.Request.{Request}
 use Rattle.pie_units.specs.Number.{rate_of}
 use Rattle.pie_units.specs.Opening.{overhead_of}
 use Rattle.pie_units.specs.declared.layer.Overhead.{Overhead}
 use Rattle.pie_units.specs.declared.layer.Overhead.TheVariants.{Added}
-use Rattle.pie_units.specs.declared.unit.Quantity.{Quantity}
-use Rattle.pie_units.specs.declared.unit.Quantity.TheVariants.{Packets, Time}
+use Rattle.pie_units.specs.declared.number.Quantity.{Quantity}
+use Rattle.pie_units.specs.declared.number.Quantity.TheVariants.{Packets, Time}
 use Rattle.pie_commands.specs.Tuning.{given_or}
 use Rattle.pie_commands.specs.Values.{flag_given}
 

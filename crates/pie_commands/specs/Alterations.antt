@@ -9,8 +9,8 @@ use Rattle.pie_what_if.specs.Params.{over}
 use Rattle.pie_what_if.specs.declared.alteration.Alteration.{Alteration}
 use Rattle.pie_what_if.specs.declared.other_params.OtherParams.{OtherParams}
 use Rattle.pie_units.specs.Number.{time_of}
-use Rattle.pie_units.specs.declared.option_units.OptionFault.{OptionFault}
-use Rattle.pie_units.specs.declared.when.When.{When}
+use Rattle.pie_units.specs.declared.options.OptionFault.{OptionFault}
+use Rattle.pie_units.specs.declared.utc.When.{When}
 use Rattle.pie_commands.specs.Values.{bound_given, number_given}
 
 -- the gain of an option, from sixteenths to thousandths per second

@@ -1,8 +1,8 @@
 -- `pie storm`: the optional elements and the numbers of the plan that its options choose.
 use Rattle.std.specs.Prelude.{ℕ, ◌==◌, ◌-◌, ◌^◌, List, Option, Some, None, codes, option_and_then, if◌then◌else◌}
 use Rattle.clap.specs.Words.{Row, Text, first_of}
-use Rattle.pie_event.specs.declared.profile.Profile.{Profile}
-use Rattle.pie_event.specs.declared.profile.Profile.TheVariants.{One, Two}
+use Rattle.pie_event.specs.declared.opening.Profile.{Profile}
+use Rattle.pie_event.specs.declared.opening.Profile.TheVariants.{One, Two}
 use Rattle.pie_params.specs.declared.elements.Elements.{Elements}
 use Rattle.pie_params.specs.declared.elements.Decay.{Decay}
 use Rattle.pie_params.specs.declared.elements.Decay.TheVariants.{Half, Zero}
@@ -16,7 +16,7 @@ use Rattle.pie_params.specs.declared.elements.Size.{Size}
 use Rattle.pie_params.specs.declared.elements.Size.TheVariants.{Unscaled, Scaled}
 use Rattle.pie_record.specs.FirstRecord.{one_of_two}
 use Rattle.pie_record.specs.Field.{decay_word, delay_word, picking_word, size_word, step_word}
-use Rattle.pie_storm.specs.declared.plan_numbers.StormNumbers.{StormNumbers}
+use Rattle.pie_storm.specs.declared.plan.StormNumbers.{StormNumbers}
 use Rattle.pie_commands.specs.Values.{number_or}
 
 -- the choice that a word names, of two choices with their keywords; the first without a word

@@ -10,9 +10,9 @@ use Rattle.pie_units.specs.declared.layer.LinkLayer.{LinkLayer}
 use Rattle.pie_units.specs.declared.layer.LinkLayer.TheVariants.{Atm, Ethernet}
 use Rattle.pie_units.specs.declared.layer.Overhead.TheVariants.{Added}
 use Rattle.pie_units.specs.declared.options.TuningOptions.{TuningOptions}
-use Rattle.pie_units.specs.declared.option_units.OptionFault.{OptionFault}
-use Rattle.pie_units.specs.declared.unit.Quantity.{Quantity}
-use Rattle.pie_units.specs.declared.unit.Quantity.TheVariants.{Packets, Rate}
+use Rattle.pie_units.specs.declared.options.OptionFault.{OptionFault}
+use Rattle.pie_units.specs.declared.number.Quantity.{Quantity}
+use Rattle.pie_units.specs.declared.number.Quantity.TheVariants.{Packets, Rate}
 use Rattle.pie_units.specs.Number.{packets_of, rate_of, time_of}
 use Rattle.pie_commands.specs.Values.{flag_given, number_or}
 use Rattle.pie_commands.specs.Storms.{decay_in}

@@ -8,11 +8,11 @@ use Rattle.clap.specs.ValueTests.{accepts}
 use Rattle.clap.specs.Words.{Row, Text, one_of}
 use Rattle.clap.specs.declared.builder.value_parser.ValueParser.TheVariants.{Unsigned}
 use Rattle.pie_units.specs.Time.{moment_in, when_in}
-use Rattle.pie_units.specs.declared.moment.Moment.{Moment}
-use Rattle.pie_units.specs.declared.moment.MomentFault.{MomentFault}
-use Rattle.pie_units.specs.declared.when.When.{When}
-use Rattle.pie_units.specs.declared.when.When.TheVariants as when
-use Rattle.pie_units.specs.declared.when.WhenFault.{WhenFault}
+use Rattle.pie_units.specs.declared.utc.Moment.{Moment}
+use Rattle.pie_units.specs.declared.utc.MomentFault.{MomentFault}
+use Rattle.pie_units.specs.declared.utc.When.{When}
+use Rattle.pie_units.specs.declared.utc.When.TheVariants as when
+use Rattle.pie_units.specs.declared.utc.WhenFault.{WhenFault}
 
 -- ---- numbers and flags
 

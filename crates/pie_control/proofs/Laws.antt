@@ -6,7 +6,7 @@ use Rattle.std.proofs.lemmas.Bool.Decides.{nat_tests}
 use Rattle.pie_params.specs.declared.raw.RawParams.{RawParams}
 use Rattle.pie_params.specs.declared.elements.Elements.{Elements}
 use Rattle.pie_control.specs.{ControlEvent, updated, idled, reset, Update, update_at, updates_after_reset, probability, last_delay, last_moment, granted_burst, burst_allowance, burst_after, ends_calm, is_calm, updates_after_refill, burst_after_refill, Represents, next}
-use Rattle.pie_control.specs.ControlState.{ControlState}
+use Rattle.pie_control.specs.History.{ControlState}
 use Rattle.std.specs.Prelude.{ℤ, pos, negsuc, ◌≤ℤ◌, ◌*ℤ◌, int_div}
 use Rattle.std.proofs.lemmas.Int.{ints}
 use Rattle.std.proofs.lemmas.Nat.{mul-le}

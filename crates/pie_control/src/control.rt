@@ -16,7 +16,7 @@ pub struct Control {
 }
 
 impl Model for Control {
-    ghost use Rattle.pie_control.specs.ControlState.{IsWithin, ControlState};
+    ghost use Rattle.pie_control.specs.History.{IsWithin, ControlState};
 
     ghost Value = { ControlState };
 

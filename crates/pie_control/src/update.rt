@@ -24,7 +24,7 @@ const LARGEST_SUM: i64 = 2_000_000_000_000;
 
 /// Returns the queueing delay in nanoseconds, at most [`MAX_DELAY`]: `bytes * average / threshold`, rounded down.
 /// `average` is the average time, in nanoseconds, in which `threshold` bytes depart (RFC 8033, section 5.2).
-#[tactic(auto, unfolding(crate::specs::Delay::delay_of))]
+#[tactic(auto, unfolding(crate::specs::History::delay_of))]
 pub fn delay(bytes: u64, average: u64, threshold: u64) -> u64
     requires bytes { bytes ≤ 2 ^ 30 }
     requires average { average < 2 ^ 60 }
@@ -83,7 +83,7 @@ fn product(gain: u64, difference: i64) -> i64
 
 /// Returns the change of the probability before auto-tuning.
 #[inline(always)]
-#[tactic(auto, unfolding(crate::specs::Next::raw_step))]
+#[tactic(auto, unfolding(crate::specs::History::raw_step))]
 fn raw_step(params: &RawParams, delay: u64, old: u64) -> i64
     requires params { IsInRange params.now }
     requires delay { delay ≤ MAX_DELAY }
@@ -98,7 +98,7 @@ fn raw_step(params: &RawParams, delay: u64, old: u64) -> i64
 /// Divides `step` by the divisor of auto-tuning at `prob`, the probability before the update. Each divisor is a constant
 /// power of two, which the compiler turns into a shift.
 #[inline(always)]
-#[tactic(auto, using(crate::proofs::Laws::quotients), unfolding(crate::specs::Next::tuning_divisor))]
+#[tactic(auto, using(crate::proofs::Laws::quotients), unfolding(crate::specs::History::tuning_divisor))]
 fn tuned(prob: u64, step: i64) -> i64
     requires above { negsuc (2 ^ 62) ≤ℤ step }
     requires below { step ≤ℤ pos (2 ^ 62) }
@@ -119,7 +119,7 @@ fn tuned(prob: u64, step: i64) -> i64
 
 /// Returns the step after auto-tuning, and after the cap if it is chosen. `prob` is the probability before the update.
 #[inline(always)]
-#[tactic(auto, using(crate::proofs::Laws::quotients), unfolding(crate::specs::Next::tuned_step))]
+#[tactic(auto, using(crate::proofs::Laws::quotients), unfolding(crate::specs::History::tuned_step))]
 fn tuned_step(choice: Step, prob: u64, step: i64) -> i64
     requires above { negsuc (2 ^ 62) ≤ℤ step }
     requires below { step ≤ℤ pos (2 ^ 62) }
@@ -182,7 +182,7 @@ fn as_probability(value: i64) -> Prob
 /// Returns `sum`, of probability and step, as a probability, after the decay if `decays` is true. The sum is bounded
 /// before the decay too, so that its product fits in 64 bits.
 #[inline(always)]
-#[tactic(auto, unfolding(crate::specs::Next::decayed))]
+#[tactic(auto, unfolding(crate::specs::History::decayed))]
 fn decayed(decays: bool, sum: i64) -> Prob
     ensures value { result ≡ bounded_of (decayed decays sum) }
     ensures shrinks { (n : ℕ) → sum ≤ℤ pos n → result ≤ n }
@@ -212,7 +212,7 @@ pub fn next_probability(params: &Params, choice: Step, prob: Prob, delay: u64, o
 
 /// Returns the probability after an update with these elements, for plain numbers in their ranges.
 #[inline(always)]
-#[tactic(auto, unfolding(crate::specs::Next::next))]
+#[tactic(auto, unfolding(crate::specs::History::next))]
 pub(crate) fn next(params: &RawParams, elements: Elements, prob: u64, delay: u64, old: u64) -> Prob
     requires params { IsInRange params.now }
     requires prob { prob ≤ 10 ^ 12 }

@@ -4,7 +4,7 @@ use Rattle.pie_cut.specs.declared.snapshot_equality.UnlikeRecord.TheVariants.{Qu
 use Rattle.pie_queue.specs.declared.packet.Packet.{Packet}
 use Rattle.pie_cut.specs.{Excerpt.is_past, Excerpt.is_reached, Joined.JoinsBy, Excerpt.segment, declared.joint_audit.Joint.TheVariants.Follows}
 use Rattle.pie_record.specs.Field.{number}
-use Rattle.pie_units.specs.declared.{when.When.When, when.When.TheVariants.Moment, when.When.TheVariants.Unix}
+use Rattle.pie_units.specs.declared.{utc.When.When, utc.When.TheVariants.Moment, utc.When.TheVariants.Unix}
 
 -- ---- spans
 

@@ -7,7 +7,7 @@ pub use Rattle.pie_audit.specs.declared.{auditor.Finding.Finding, auditor.Findin
 pub use Rattle.pie_book.specs.{Snapshot.snapshot_of, Core.CoreView, Core.Represents, Decision.IsLegal, Snapshot.MayOpen}
 pub use Rattle.pie_book.specs.declared.snapshot.CoreSnapshot.{CoreSnapshot}
 pub use Rattle.pie_event.specs.Event.{are_in_range, opening_refusal}
-pub use Rattle.pie_event.specs.declared.{command.Event.Event, opening.Limits.Limits, opening.Opening.Opening, setter.Setter.Setter}
+pub use Rattle.pie_event.specs.declared.{command.Event.Event, opening.Limits.Limits, opening.Opening.Opening, command.Setter.Setter}
 pub use Rattle.pie_excerpt.specs.{Beginning.Continues, Beginning.is_set_within, Preamble.WaitingFits, Preamble.queued_row}
 pub use Rattle.pie_excerpt.specs.Beginning.{IsWritten, resume_with, resumed_rows, rows_from}
 pub use Rattle.pie_queue.specs.declared.packet.Waiting.{Waiting}

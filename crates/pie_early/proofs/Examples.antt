@@ -1,6 +1,6 @@
 -- Examples of the definitions: each theorem computes. bindings/c/rows.c has rows for the bounds of considered, picked
 -- and marked arrivals.
-use Rattle.pie_early.proofs.Names.{Elements, Random, ControlState, Ecn, Offered, Enqueue, Drop, a_fifth, accu_after, always_picked, choice_of, is_considered, is_picked, no_pick_below, arrival, accumulated}
+use Rattle.pie_early.proofs.Laws.{Elements, Random, ControlState, Ecn, Offered, Enqueue, Drop, a_fifth, accu_after, always_picked, choice_of, is_considered, is_picked, no_pick_below, arrival, accumulated}
 use Rattle.std.specs.Prelude.{◌≡◌, ℕ, ◌^◌, ◌*◌, ◌-◌, true, [], ◌∷◌, map, refl}
 use Rattle.pie_fixed.specs.declared.TheConstants.{ALWAYS_PICKED, ONE}
 use Rattle.pie_params.specs.Params.{default_profile, usual}

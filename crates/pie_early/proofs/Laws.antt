@@ -1,16 +1,28 @@
 -- The change of the accumulated probability when an event is added at the end of the list.
-use Rattle.pie_early.proofs.Names.{◌≡◌, ℕ, ◌+◌, ◌*◌, ◌<◌, Bool, true, false, cond, List, [], ◌∷◌, ◌++◌, refl, sym, ap, ◌∙◌, arith, if◌then◌else◌}
-use Rattle.pie_early.proofs.Names.{ne_eqb, Derandomized, Enqueue, EarlyEvent, arrival, accumulated, Represents, ◌≤◌, nat_tests, RawParams, Picking}
-use Rattle.pie_early.proofs.Names.{accumulates, cleared, ControlState, Ecn, Choice, always_picked, is_considered, is_picked, picked_choice, accu_at}
-use Rattle.pie_early.proofs.Names.{choice_at, choice_of, Elements, Offered, fate_of, effective_prob_of}
+pub use Rattle.std.proofs.Common.{Bool, List, [], ap, arith, cond, false, refl, sym, true, ℕ, ◌*◌, ◌++◌, ◌+◌, ◌<◌, ◌∙◌, ◌∷◌, ◌≡◌, ◌≤◌}
+pub use Rattle.std.proofs.lemmas.Bool.{ne_eqb}
+pub use Rattle.std.proofs.lemmas.Bool.Decides.{nat_tests}
+pub use Rattle.std.specs.Prelude.{if◌then◌else◌}
+pub use Rattle.pie_control.specs.History.{ControlState}
+pub use Rattle.pie_early.specs.Cause.{fate_of}
+pub use Rattle.pie_early.specs.Decision.{a_fifth, accu_after, accu_at, always_picked, choice_at, choice_of, effective_prob_of, no_pick_below, picked_choice, EarlyEvent, arrival, cleared, Represents}
+unfoldable pub use Rattle.pie_early.specs.Decision.{is_considered, is_picked, accumulated}
+pub use Rattle.pie_early.specs.declared.decision.Offered.{Offered}
+pub use Rattle.pie_early.specs.declared.early.Choice.{Choice}
+pub use Rattle.pie_early.specs.declared.early.Choice.TheVariants.{Drop, Enqueue}
+pub use Rattle.pie_params.specs.Params.{accumulates}
+pub use Rattle.pie_params.specs.declared.elements.Elements.{Elements}
+pub use Rattle.pie_params.specs.declared.elements.Picking.{Picking}
+pub use Rattle.pie_params.specs.declared.elements.Picking.TheVariants.{Derandomized, Random}
+pub use Rattle.pie_params.specs.declared.raw.RawParams.{RawParams}
+pub use Rattle.pie_queue.specs.declared.ecn.Ecn.{Ecn}
 use Rattle.std.proofs.Common.{zero, suc, ◌-◌, not, length, drop, filter, replicate, add-one, append_assoc, ◌↔◌, ◌&&◌, ◌/◌}
 use Rattle.std.specs.Prelude.{sum_by, IsTrue}
 use Rattle.std.specs.List.{after_last, suffix_len}
 use Rattle.std.proofs.lemmas.List.{drop-append-le, drop_all, length_push, reverse-append, replicate_more}
 use Rattle.std.proofs.lemmas.List.Elements.{filter-append}
 use Rattle.std.proofs.lemmas.List.Sums.{sum_by-append, suffix_len-le-length}
-use Rattle.pie_early.specs.Events.{is_clearing, joins, prob_of}
-use Rattle.pie_early.specs.Decision.{is_pick, IsPicked, chosen}
+use Rattle.pie_early.specs.Decision.{is_clearing, joins, prob_of, is_pick, IsPicked, chosen}
 use Rattle.pie_event.specs.Cause.{verdict_of}
 use Rattle.pie_early.specs.Cause.{considered_cause, early_cause}
 use Rattle.std.proofs.Math.Nat.{div-le_of_le-mul}

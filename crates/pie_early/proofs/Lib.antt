@@ -1,3 +1,2 @@
-mod Names
-mod Examples
 pub mod Laws
+mod Examples

@@ -6,7 +6,7 @@ use Rattle.pie_params.specs.declared.raw.RawParams.{RawParams}
 use Rattle.pie_params.specs.declared.elements.Elements.{Elements}
 use Rattle.pie_params.specs.declared.elements.Picking.{Picking}
 use Rattle.pie_params.specs.Params.{accumulates}
-use Rattle.pie_control.specs.ControlState.{ControlState}
+use Rattle.pie_control.specs.History.{ControlState}
 use Rattle.pie_queue.specs.declared.ecn.Ecn.{Ecn}
 use Rattle.pie_queue.specs.Queue.{is_capable}
 use Rattle.pie_event.specs.declared.cause.Cause.{Cause}

@@ -1,7 +1,7 @@
 -- Decisions of early drop: the considered arrivals, the effective probability of each, the picked arrivals, and the
 -- choice for a picked packet (RFC 8033, sections 4.1, 5.1 and 5.4; the comparison with a random word of 64 bits is this
 -- project's own).
-use Rattle.std.specs.Prelude.{◌≡◌, ℕ, ◌+◌, ◌*◌, ◌/◌, ◌^◌, ◌<◌, ◌≤◌, ◌⊎◌, Bool, true, false, not, ◌&&◌, ◌||◌, ◌==◌, nat_lt, nat_le, if◌then◌else◌}
+use Rattle.std.specs.Prelude.{◌≡◌, ℕ, ◌+◌, ◌*◌, ◌/◌, ◌^◌, ◌<◌, ◌≤◌, ◌⊎◌, Bool, true, false, not, ◌&&◌, ◌||◌, ◌==◌, nat_lt, nat_le, if◌then◌else◌, List, filter, sum_by}
 use Rattle.pie_fixed.specs.Fixed.{Picks}
 use Rattle.pie_params.specs.declared.raw.RawParams.{RawParams}
 use Rattle.pie_params.specs.declared.elements.Elements.{Elements}
@@ -10,14 +10,15 @@ use Rattle.pie_params.specs.declared.elements.Picking.TheVariants.{Derandomized,
 use Rattle.pie_params.specs.declared.elements.Size.{Size}
 use Rattle.pie_params.specs.declared.elements.Size.TheVariants.{Unscaled, Scaled}
 use Rattle.pie_params.specs.Params.{accumulates}
-use Rattle.pie_control.specs.ControlState.{ControlState}
+use Rattle.pie_control.specs.History.{ControlState}
 use Rattle.pie_queue.specs.declared.ecn.Ecn.{Ecn}
 use Rattle.pie_queue.specs.Queue.{is_capable}
 use Rattle.pie_early.specs.declared.decision.Offered.{Offered}
 use Rattle.pie_early.specs.declared.early.Choice.{Choice}
 use Rattle.pie_early.specs.declared.early.Choice.TheVariants.{Enqueue, Mark, Drop}
-use Rattle.pie_event.specs.declared.verdict.Verdict.{Verdict}
-use Rattle.pie_event.specs.declared.verdict.Verdict.TheVariants.{Enqueued, Marked, DroppedEarly}
+use Rattle.pie_event.specs.declared.command.Verdict.{Verdict}
+use Rattle.pie_event.specs.declared.command.Verdict.TheVariants.{Enqueued, Marked, DroppedEarly}
+use Rattle.std.specs.List.{after_last}
 
 -- 0.2, 0.85 and 8.5, in units of 10^-12
 abbrev pub a_fifth : ℕ
@@ -114,3 +115,48 @@ abbrev pub chosen : Choice → Verdict
 chosen Enqueue = Enqueued
 chosen Mark = Marked
 chosen Drop = DroppedEarly
+
+-- Inputs of an `Early`: arrivals and clears, in order.
+
+-- an arrival that was not a tail drop: a flag that is true if it was considered, its effective probability, the method of
+-- picking, and the choice
+pub record Arrival : Type 0 where
+  pub considered : Bool
+  pub prob : ℕ
+  pub picking : Picking
+  pub choice : Choice
+
+-- an arrival, or a clear from a tail drop or a reset
+pub data EarlyEvent : Type 0 where
+  arrived : Arrival → EarlyEvent
+  cleared : EarlyEvent
+
+-- an arrival: considered or not, with its effective probability, the picking and the choice
+abbrev pub arrival : Bool → ℕ → Picking → Choice → EarlyEvent
+arrival considered prob picking choice = arrived (record { considered = considered; prob = prob; picking = picking; choice = choice })
+
+-- true for an event that clears the accumulated probability: a clear, a marked or dropped arrival, or an arrival that
+-- is considered at probability 0
+abbrev pub is_clearing : EarlyEvent → Bool
+is_clearing cleared = true
+is_clearing (arrived a) = is_pick a.choice || (a.considered && (a.prob == 0))
+
+-- true for a considered arrival whose probability accumulates
+abbrev pub joins : EarlyEvent → Bool
+joins cleared = false
+joins (arrived a) = a.considered && accumulates a.picking
+
+-- the effective probability of an arrival
+abbrev pub prob_of : EarlyEvent → ℕ
+prob_of cleared = 0
+prob_of (arrived a) = a.prob
+
+-- The accumulated probability as a look-back over all inputs (RFC 8033, section 5.4).
+
+-- the sum of the probabilities at the considered arrivals after the last clearing event, as far as they accumulate
+unfoldable pub accumulated : List EarlyEvent → ℕ
+accumulated events = sum_by prob_of (filter joins (after_last is_clearing events))
+
+-- the abstraction relation: the accumulated probability after these events
+abbrev pub Represents : List EarlyEvent → ℕ → Type 0
+Represents events held = held ≡ accumulated events

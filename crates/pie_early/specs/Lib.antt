@@ -1,4 +1,2 @@
 pub mod Decision
 pub mod Cause
-pub mod Events
-pub mod History

@@ -2,9 +2,7 @@
 ghost use Rattle.std.specs.Prelude.{◌≡◌, ℕ, ◌+◌, ◌*◌, ◌<◌, ◌↔◌, List, [], ◌∷◌, ◌++◌, true, replicate, IsTrue};
 ghost use Rattle.pie_fixed.specs.declared.TheConstants.{ALWAYS_PICKED};
 ghost use Rattle.pie_params.specs.declared.elements.Picking.TheVariants.{Derandomized};
-ghost use Rattle.pie_early.specs.Decision.{accu_after, choice_of, chosen, effective_prob_of, is_considered, is_pick, IsPicked};
-ghost use Rattle.pie_early.specs.Events.{EarlyEvent, arrival, cleared, is_clearing};
-ghost use Rattle.pie_early.specs.History.{Represents, accumulated};
+ghost use Rattle.pie_early.specs.Decision.{accu_after, choice_of, chosen, effective_prob_of, is_considered, is_pick, IsPicked, EarlyEvent, arrival, cleared, is_clearing, Represents, accumulated};
 
 use crate::decision::{Offered, decide};
 use pie_control::Control;
@@ -67,7 +65,7 @@ impl Model for Early {
 
 impl Early {
     /// Makes early drop before any arrival, with the accumulated probability 0.
-    #[tactic(auto, unfolding(crate::specs::History::accumulated))]
+    #[tactic(auto, unfolding(crate::specs::Decision::accumulated))]
     pub fn opened() -> Self
         ensures value { result ≡ 0 }
         ensures represents { Represents [] result }

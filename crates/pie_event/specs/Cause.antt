@@ -2,13 +2,13 @@
 use Rattle.std.specs.Prelude.{Bool, true, false, ℕ, List, [], ◌∷◌, codes}
 use Rattle.pie_event.specs.declared.command.Answer.{Answer}
 use Rattle.pie_event.specs.declared.command.Answer.TheVariants as answer
-use Rattle.pie_event.specs.declared.verdict.Verdict.{Verdict}
-use Rattle.pie_event.specs.declared.verdict.Verdict.TheVariants.{Enqueued, Marked, DroppedEarly, DroppedBytes, DroppedPackets}
+use Rattle.pie_event.specs.declared.command.Verdict.{Verdict}
+use Rattle.pie_event.specs.declared.command.Verdict.TheVariants.{Enqueued, Marked, DroppedEarly, DroppedBytes, DroppedPackets}
 use Rattle.pie_event.specs.declared.cause.Cause.{Cause}
 use Rattle.pie_event.specs.declared.cause.Cause.TheVariants as cause
 use Rattle.pie_event.specs.declared.cause.Fate.TheVariants as fate
-use Rattle.pie_event.specs.declared.cause_name.CauseName.{CauseName}
-use Rattle.pie_event.specs.declared.cause_name.CauseName.TheVariants.{NoRoomInBytes, NoRoomInPackets, Inactive, BurstAllowed, LowDelay, ShortQueue, NoProbability, LittleAccumulated, PickedBySumMarked, PickedBySumNotCapable, PickedBySumNotBelow, PickedByWordMarked, PickedByWordNotCapable, PickedByWordNotBelow, WordNotBelow}
+use Rattle.pie_event.specs.declared.cause.CauseName.{CauseName}
+use Rattle.pie_event.specs.declared.cause.CauseName.TheVariants.{NoRoomInBytes, NoRoomInPackets, Inactive, BurstAllowed, LowDelay, ShortQueue, NoProbability, LittleAccumulated, PickedBySumMarked, PickedBySumNotCapable, PickedBySumNotBelow, PickedByWordMarked, PickedByWordNotCapable, PickedByWordNotBelow, WordNotBelow}
 
 -- ---- The verdict on an arriving packet, and the answer to its arrival.
 

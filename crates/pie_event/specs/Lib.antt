@@ -1,3 +1,2 @@
-pub mod Types
-pub mod Cause
 pub mod Event
+pub mod Cause

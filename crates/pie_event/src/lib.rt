@@ -6,26 +6,15 @@
 #![tactic(auto)]
 
 mod cause;
-mod cause_name;
 mod command;
 mod opening;
-mod profile;
 mod refusal;
-mod register;
 mod registers;
-mod resume_refusal;
-mod setter;
-mod stats;
-mod verdict;
 
-pub use cause::{Cause, Fate};
-pub use cause_name::CauseName;
-pub use command::{Answer, Command, Event};
+pub use cause::{Cause, CauseName, Fate};
+pub use command::{Answer, Command, Event, Setter, Verdict};
 pub use opening::{Choices, Elements, Limits, Mode, Opening, Profile};
-pub use refusal::{FoldRefusal, OpenRefusal, Refusal, TooSmall};
-pub use register::Register;
-pub use registers::Registers;
-pub use resume_refusal::{EndRefusal, QueueRefusal, ResumeRefusal};
-pub use setter::Setter;
-pub use stats::Stats;
-pub use verdict::Verdict;
+pub use refusal::{
+    EndRefusal, FoldRefusal, OpenRefusal, QueueRefusal, Refusal, ResumeRefusal, TooSmall,
+};
+pub use registers::{Register, Registers, Stats};

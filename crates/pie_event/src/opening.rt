@@ -1,11 +1,9 @@
 //! The opening of a book.
-
+//! The times at which a controller is active.
 ghost use Rattle.std.specs.Prelude.{◌≡◌};
-ghost use Rattle.pie_event.specs.Event.{are_in_range, are_of_version_two};
-ghost use Rattle.pie_event.specs.Types.{Bounded, One};
+ghost use Rattle.pie_event.specs.Event.{are_in_range, are_of_version_two, Bounded, One};
 ghost use Rattle.pie_params.specs.Params.{usual};
 
-pub use crate::profile::Profile;
 pub use pie_params::Elements;
 use pie_params::Params;
 
@@ -96,4 +94,16 @@ impl Opening {
             },
         }
     }
+}
+
+/// The times at which the controller is active (after RFC 8033, section 5.3; the conditions for switching, and the
+/// state that is reset, are this project's own).
+#[derive(Clone, Copy, Debug, PartialEq, Eq)]
+pub enum Profile {
+    /// Always.
+    One,
+    /// Inactive at the opening. An arrival after which a third of `limit_bytes` is queued activates the controller, and
+    /// so does a reset. A calm update deactivates it. While it is inactive, no packet is marked or dropped early, and
+    /// updates compute nothing.
+    Two,
 }

@@ -1,5 +1,5 @@
 -- Definitions from lower crates that the files of this folder use.
-pub use Rattle.pie_aqm.specs.ControllerState.{ControllerState}
+pub use Rattle.pie_aqm.specs.Steps.{ControllerState}
 pub use Rattle.pie_excerpt.specs.{Beginning.Beginning, IfErr, IfOk, Result, TraceFault, is_io_or_memory, All, Appends, Err, Ok, Option, Resume, Row, Some, Waiting, WaitingFits, append_known, begun_at, opened_at, codes, ecn_word, state_numbers, opened_numbers, resume_refusal, resume_with, setter_field, snapshot_row, text_of, choices_of}
 pub use Rattle.pie_params.specs.declared.{elements.Decay.Decay, elements.Decay.TheVariants.Half, elements.Decay.TheVariants.Zero}
 pub use Rattle.pie_record.specs.{FirstRecord.Checked, FirstRecord.first_fields, FirstRecord.kind_word, FirstRecord.opening_by, FirstRecord.opening_read, Text.Took, declared.first_record.FirstKind.FirstKind}

@@ -3,7 +3,7 @@ pub use Rattle.csv.specs.Writing.{needs_quotes}
 pub use Rattle.pie_book.specs.Snapshot.{AreQueued, snapshot_of, MayOpen, ResumingView, SnapshotRepresents, begun_with, core_of, end_refusal, queue_refusal, resume_refusal, with_packet}
 pub use Rattle.pie_book.specs.{Core.CoreView, Core.Represents, Core.first_core, Snapshot.ExcerptView, declared.snapshot.CoreSnapshot.CoreSnapshot}
 pub use Rattle.pie_event.specs.{Event.opening_refusal, Event.CommandFits, Event.StatsFit}
-pub use Rattle.pie_event.specs.declared.{command.Event.Event, opening.Choices.Choices, opening.Opening.Opening, resume_refusal.EndRefusal.EndRefusal, resume_refusal.QueueRefusal.QueueRefusal, resume_refusal.ResumeRefusal.ResumeRefusal, stats.Stats.Stats}
+pub use Rattle.pie_event.specs.declared.{command.Event.Event, opening.Choices.Choices, opening.Opening.Opening, refusal.EndRefusal.EndRefusal, refusal.QueueRefusal.QueueRefusal, refusal.ResumeRefusal.ResumeRefusal, registers.Stats.Stats}
 pub use Rattle.pie_excerpt.specs.declared.resume.Resume.{Resume}
 pub use Rattle.pie_params.specs.{Params.first_bad, declared.raw.RawParams.RawParams}
 pub use Rattle.pie_queue.specs.declared.{packet.Packet.Packet, packet.Waiting.Waiting}

@@ -9,18 +9,15 @@ use Rattle.pie_audit.specs.Beginnings.{ReplaysText}
 use Rattle.pie_audit.specs.Text.{BeginsAtCore, remaining_of, text_fault}
 use Rattle.pie_audit.specs.declared.auditor.Finding.TheVariants.{Differs}
 use Rattle.pie_book.specs.Core.{CoreView, Represents, answer_in, core_after, refusal_of, registers_of}
-use Rattle.pie_book.specs.Decision.{decision, refusal_by_rule}
-use Rattle.pie_book.specs.StateAfter.{delay_after}
-use Rattle.pie_book.specs.Statistics.{registers_after, wait_of}
-use Rattle.pie_book.specs.Book.{refused_or}
-use Rattle.pie_book.specs.Book.{step_in}
+use Rattle.pie_book.specs.Decision.{decision, refusal_by_rule, delay_after, registers_after, wait_of}
+use Rattle.pie_book.specs.Book.{refused_or, step_in}
 use Rattle.pie_event.specs.Event.{effect}
 use Rattle.pie_event.specs.declared.command.Answer.{Answer}
 use Rattle.pie_event.specs.declared.command.Event.{Event}
 use Rattle.pie_event.specs.declared.opening.Opening.{Opening}
 use Rattle.pie_event.specs.declared.refusal.Refusal.{Refusal}
 use Rattle.pie_event.specs.declared.registers.Registers.{Registers}
-use Rattle.pie_event.specs.declared.setter.Setter.{Setter}
+use Rattle.pie_event.specs.declared.command.Setter.{Setter}
 use Rattle.pie_excerpt.specs.Beginning.{Beginning, beginning_of}
 use Rattle.pie_explain.specs.DecidedEvent.{DecidesAfter, DecidesEvent, HasReached, IsDecided, IsPast, last_decided, decision_at, decision_by, result_after, wait_if_decided, with_answer}
 use Rattle.pie_explain.specs.Explanation.{explanation, explanation_in, with_core}

@@ -1,7 +1,7 @@
 -- Worked examples: excerpts and the event that set the probability before them.
 use Rattle.pie_explain.proofs.Names.{◌≡◌, Bool, true, false, Some, None, refl, no_event, Start, from_opening, setter_from_start}
 use Rattle.pie_explain.specs.declared.fault.ExplainFault.TheVariants.{Earlier, NoEvent}
-use Rattle.pie_event.specs.declared.setter.Setter.TheVariants.{Event, Opening, Unknown}
+use Rattle.pie_event.specs.declared.command.Setter.TheVariants.{Event, Opening, Unknown}
 use Rattle.pie_event.specs.Event.{setter_number, setter_from}
 
 -- an excerpt of the events from 101 on. If `tells`, it names the event that set the probability before it

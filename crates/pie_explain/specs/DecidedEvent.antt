@@ -6,17 +6,15 @@ use Rattle.pie_audit.specs.Text.{BeginsAtCore, finding_at, text_fault, text_line
 use Rattle.pie_audit.specs.declared.auditor.Finding.{Finding}
 use Rattle.pie_audit.specs.declared.auditor.Finding.TheVariants.{Clean, Differs}
 use Rattle.pie_book.specs.Core.{CoreView, answer_in, core_along}
-use Rattle.pie_book.specs.Decision.{decision, refusal_by_rule}
-use Rattle.pie_book.specs.Book.{refused_or}
-use Rattle.pie_book.specs.Book.{step_in}
-use Rattle.pie_book.specs.Statistics.{wait_of}
+use Rattle.pie_book.specs.Decision.{decision, refusal_by_rule, wait_of}
+use Rattle.pie_book.specs.Book.{refused_or, step_in}
 use Rattle.pie_event.specs.Event.{effect}
 use Rattle.pie_event.specs.declared.command.Answer.{Answer}
 use Rattle.pie_event.specs.declared.command.Command.{Command}
 use Rattle.pie_event.specs.declared.command.Event.{Event}
 use Rattle.pie_event.specs.declared.opening.Opening.{Opening}
 use Rattle.pie_event.specs.declared.refusal.Refusal.{Refusal}
-use Rattle.pie_event.specs.declared.setter.Setter.{Setter}
+use Rattle.pie_event.specs.declared.command.Setter.{Setter}
 use Rattle.pie_excerpt.specs.Beginning.{Beginning, beginning_of}
 use Rattle.pie_record.specs.Field.{is_io_or_memory}
 use Rattle.pie_record.specs.HistoryLines.{RemainingLines, is_event, latest_clock}

@@ -8,13 +8,11 @@ use Rattle.pie_event.specs.declared.command.Event.{Event}
 use Rattle.pie_event.specs.declared.opening.Opening.{Opening}
 use Rattle.pie_event.specs.Event.{effect_of, caller_moment, is_update}
 use Rattle.pie_book.specs.History.{effective_moment, waiting_after}
-use Rattle.pie_book.specs.StateAfter.{delay_after}
-use Rattle.pie_book.specs.Statistics.{registers_after, count_of, wait_of}
-use Rattle.pie_book.specs.Decision.{cause_after}
+use Rattle.pie_book.specs.Decision.{delay_after, registers_after, count_of, wait_of, cause_after}
 use Rattle.pie_record.specs.declared.clock.Clock.{Clock}
 use Rattle.pie_explain.specs.declared.explanation.Explained.{Explained}
 use Rattle.pie_explain.specs.declared.explanation.Explanation.{Explanation}
-use Rattle.pie_event.specs.declared.setter.Setter.{Setter}
+use Rattle.pie_event.specs.declared.command.Setter.{Setter}
 
 -- the effective moment of an event after a history
 abbrev pub moment_of : Opening → List Event → Event → ℕ

@@ -7,7 +7,7 @@ pub use Rattle.pie_book.specs.Core.{core_along}
 pub use Rattle.pie_audit.specs.declared.auditor.Finding.{Finding}
 pub use Rattle.pie_event.specs.declared.command.Event.{Event}
 pub use Rattle.pie_event.specs.declared.opening.Opening.{Opening}
-pub use Rattle.pie_event.specs.declared.setter.Setter.{Setter}
+pub use Rattle.pie_event.specs.declared.command.Setter.{Setter}
 pub use Rattle.pie_explain.specs.Selection.{is_whole, picks}
 pub use Rattle.pie_explain.specs.Explanation.{ended_after, explanation_after, moment_after, moment_at, moment_of, with_after, with_core}
 unfoldable pub use Rattle.pie_explain.specs.Explanation.{explanation, explanation_in}

@@ -3,9 +3,8 @@ ghost use Rattle.std.specs.Prelude.{◌≡◌, List};
 ghost use Rattle.pie_event.specs.declared.command.Event.{Event};
 ghost use Rattle.pie_event.specs.declared.opening.Opening.{Opening};
 ghost use Rattle.pie_book.specs.Core.{Represents, cause_in};
-ghost use Rattle.pie_book.specs.Decision.{cause_after};
+ghost use Rattle.pie_book.specs.Decision.{cause_after, wait_of};
 ghost use Rattle.pie_event.specs.Event.{effect_of};
-ghost use Rattle.pie_book.specs.Statistics.{wait_of};
 ghost use Rattle.pie_explain.specs.Explanation.{moment_at, moment_of};
 
 use pie_book::{Answer, Cause, Command, Core, Event, Registers};
@@ -82,7 +81,7 @@ fn waited(core: &Core, event: &Event, now: u64) -> u64
 }
 
 /// Returns the effective moment of an event that a core is about to decide.
-#[tactic(auto, unfolding(pie_book::specs::Statistics::registers_after))]
+#[tactic(auto, unfolding(pie_book::specs::Decision::registers_after))]
 pub fn moment_of(core: &Core, event: &Event) -> u64
     ensures after { (opening : Opening) (history : List Event) → Represents opening core.now history → result ≡ moment_of opening history event.now }
     ensures in_state { result ≡ moment_at core.now event.now }

@@ -1,11 +1,8 @@
 -- Worked histories: statements that do not follow, and cases close to the bounds.
-use Rattle.pie_guarantees.proofs.Names.{refl, worked, places, IsEarly, IsLegal, IsWhole, bytes_after, params_after, effective_moment, Update, Some}
-use Rattle.pie_guarantees.proofs.Names.{◌≡◌, ◌<◌, ◌++◌, ◌∷◌, [], ℕ, arith, refusal_by_rule, burst_begins, burst_continues, burst_opening, first_drop}
-use Rattle.pie_guarantees.proofs.Names.{lowered, lowered_opening, flows_in_turn, flows_opening, half_is_reached, last_update}
+use Rattle.pie_guarantees.proofs.LawfulFacts.{refl, worked, places, IsEarly, IsLegal, IsWhole, bytes_after, params_after, effective_moment, Update, Some, ◌≡◌, ◌<◌, ◌++◌, ◌∷◌, [], ℕ, arith, refusal_by_rule, burst_begins, burst_continues, burst_opening, first_drop, lowered, lowered_opening, flows_in_turn, flows_opening, half_is_reached, last_update, all_legal}
 use Rattle.pie_guarantees.specs.{picks_of}
 use Rattle.pie_event.specs.declared.refusal.Refusal.TheVariants.{TooSoon}
 use Rattle.pie_guarantees.proofs.BurstFacts.{refused_with}
-use Rattle.pie_guarantees.proofs.LawfulFacts.{all_legal}
 
 pub lowered_below : IsLegal lowered_opening lowered × (bytes_after lowered_opening lowered ≡ 1000)
     × ((params_after lowered_opening lowered).limit_bytes ≡ 500)

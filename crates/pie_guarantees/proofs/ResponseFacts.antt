@@ -1,17 +1,9 @@
 -- The decrease of the probability without delay, from any state, and the effect of a lasting delay on it and on the burst allowance.
-use Rattle.pie_guarantees.proofs.Names.{◌≡◌, ◌≤◌, ◌<◌, ◌+◌, ◌*◌, ◌-◌, ◌/◌, ◌^◌, ℕ, zero, suc, List, [], ◌∷◌, ◌++◌, true, false, refl, sym, ap, ◌∙◌}
-use Rattle.pie_guarantees.proofs.Names.{arith, subst, min, max, nat_tests, clamps, ints, BetweenAny, AllAlong, IsLawful, Elements, RawParams, decayed}
-use Rattle.pie_guarantees.proofs.Names.{decays, next, tuned_step, raw_step, tuning_divisor, next-hold, in-range, effect, is_update, after_call, call_of}
-use Rattle.pie_guarantees.proofs.Names.{ControllerState, Waiting, Command, Update, Answer, Event, Opening, bytes_of, active_after, state_after, params_after}
-use Rattle.pie_guarantees.proofs.Names.{waiting_after, updates_in, KeepsParams, untuned_fall, Bool, nat_lt, if◌then◌else◌, append_assoc, Empty}
-use Rattle.pie_guarantees.proofs.Names.{after_updates, usual, default_profile, effect_of, is_reset, bytes_after, burst_left, untuned_rise}
-use Rattle.pie_guarantees.proofs.Names.{updates_to_a_tenth, probability_after, is_considered, ◌&&◌}
+use Rattle.pie_guarantees.proofs.LawfulFacts.{◌≡◌, ◌≤◌, ◌<◌, ◌+◌, ◌*◌, ◌-◌, ◌/◌, ◌^◌, ℕ, zero, suc, List, [], ◌∷◌, ◌++◌, true, false, refl, sym, ap, ◌∙◌, arith, subst, min, max, nat_tests, clamps, ints, BetweenAny, AllAlong, IsLawful, Elements, RawParams, decayed, decays, next, tuned_step, raw_step, tuning_divisor, next-hold, in-range, effect, is_update, after_call, call_of, ControllerState, Waiting, Command, Update, Answer, Event, Opening, bytes_of, active_after, state_after, params_after, waiting_after, updates_in, KeepsParams, untuned_fall, Bool, nat_lt, if◌then◌else◌, append_assoc, Empty, after_updates, usual, default_profile, effect_of, is_reset, bytes_after, burst_left, untuned_rise, updates_to_a_tenth, probability_after, is_considered, ◌&&◌, IsStep, along_updates, counted_with, sound_at}
 use Rattle.pie_guarantees.specs.{FindsNoDelay, HasRecovered, IsLasting, had_room, was_considered}
 use Rattle.pie_params.specs.declared.elements.Decay.{Decay}
 use Rattle.pie_aqm.specs.Steps as Steps
-use Rattle.pie_guarantees.proofs.LawfulFacts.{IsStep, along_updates, counted_with, sound_at}
-use Rattle.pie_guarantees.proofs.NextFacts.{div-mono, divisor-some, fallen-step, next_above, low_none, lows, low_rise, low_tenth, more-times}
-use Rattle.pie_guarantees.proofs.NextFacts.{one-rise}
+use Rattle.pie_guarantees.proofs.ProbabilityFacts.{div-mono, divisor-some, fallen-step, next_above, low_none, lows, low_rise, low_tenth, more-times, one-rise}
 
 -- ---- one update
 

@@ -1,18 +1,11 @@
 -- The growth of the accumulated probability, its restarts, and the shares of picks in the sum of effective
 -- probabilities.
-use Rattle.pie_guarantees.proofs.Names.{◌≡◌, ◌≤◌, ◌<◌, ◌+◌, ◌*◌, ◌^◌, ◌&&◌, ◌||◌, ◌==◌, not, ⊤, ℕ, List, [], ◌∷◌, ◌++◌, Bool, true}
-use Rattle.pie_guarantees.proofs.Names.{refl, subst, sym, ap, ◌∙◌, if◌then◌else◌, AtEachEvent, BetweenAny, Packet, append_assoc, sum_by-cons, mul-le}
-use Rattle.pie_guarantees.proofs.Names.{arith, nat_tests, bytes_of, effective_prob, is_considered, div-le_of_le-mul, RawParams}
-use Rattle.pie_guarantees.proofs.Names.{is_picked, effect, answer_of, after_call, ControllerState, Waiting, ArrivingPacket, Command}
-use Rattle.pie_guarantees.proofs.Names.{Arrive, Answer, Event, Opening, arrival_of, call_of, answer_by, state_after, waiting_after}
-use Rattle.pie_guarantees.proofs.Names.{is_dropped_bytes, is_dropped_packets, is_reset, AllAlong, IsLawful, IsEarly, is_early, state_of}
+use Rattle.pie_guarantees.proofs.LawfulFacts.{◌≡◌, ◌≤◌, ◌<◌, ◌+◌, ◌*◌, ◌^◌, ◌&&◌, ◌||◌, ◌==◌, not, ⊤, ℕ, List, [], ◌∷◌, ◌++◌, Bool, true, refl, subst, sym, ap, ◌∙◌, if◌then◌else◌, AtEachEvent, BetweenAny, Packet, append_assoc, sum_by-cons, mul-le, arith, nat_tests, bytes_of, effective_prob, is_considered, div-le_of_le-mul, RawParams, is_picked, effect, answer_of, after_call, ControllerState, Waiting, ArrivingPacket, Command, Arrive, Answer, Event, Opening, arrival_of, call_of, answer_by, state_after, waiting_after, is_dropped_bytes, is_dropped_packets, is_reset, AllAlong, IsLawful, IsEarly, is_early, state_of, IsStep, all_along, along, at-step, sound_at, step_at}
 use Rattle.pie_params.specs.declared.elements.Picking.TheVariants.{Derandomized}
 use Rattle.pie_params.specs.declared.elements.Size.{Size}
-use Rattle.pie_guarantees.specs.{arriving_size, EffectiveAtLeast, EffectiveAtMost, IsUnpicked, considered_in, effective_prob_at, effective_sum_in, had_room, picks_in}
-use Rattle.pie_guarantees.specs.{restarts_in, starts_anew, sum_along, was_considered}
+use Rattle.pie_guarantees.specs.{arriving_size, EffectiveAtLeast, EffectiveAtMost, IsUnpicked, considered_in, effective_prob_at, effective_sum_in, had_room, picks_in, restarts_in, starts_anew, sum_along, was_considered}
 use Rattle.pie_aqm.specs.Steps as Steps
-use Rattle.pie_book.specs.StateAfter as Book
-use Rattle.pie_guarantees.proofs.LawfulFacts.{IsStep, all_along, along, at-step, sound_at, step_at}
+use Rattle.pie_book.specs.Decision as Book
 use Rattle.pie_guarantees.proofs.ProbabilityFacts.{elements-is}
 
 -- ---- one command

@@ -1,7 +1,7 @@
 -- The contents of a valid text: an accepted opening, and parameters in their ranges.
 use Rattle.std.proofs.lemmas.Bool.Decides.{nat_tests}
 use Rattle.std.proofs.Common.{arith}
-use Rattle.pie_guarantees.proofs.Names.{◌≡◌, ℕ, List, [], ◌∷◌, subst, All, None, Some, Option, Result, Ok, Err, All-cons, All-head, All-nil, All-tail, first_bad, Command, Event, Opening, SetsInRange}
+use Rattle.pie_guarantees.proofs.LawfulFacts.{◌≡◌, ℕ, List, [], ◌∷◌, subst, All, None, Some, Option, Result, Ok, Err, All-cons, All-head, All-nil, All-tail, first_bad, Command, Event, Opening, SetsInRange}
 use Rattle.std.specs.List.{filter_map}
 use Rattle.pie_event.specs.Event.{opening_refusal, CommandFits}
 use Rattle.pie_record.specs.declared.fault.RecordFault.{RecordFault}

@@ -3,8 +3,7 @@ use Rattle.std.specs.Prelude.{ℕ, List, [], ◌∷◌, ◌&&◌, ◌==◌, coun
 use Rattle.pie_params.specs.Params.{usual}
 use Rattle.pie_params.specs.declared.elements.Delay.TheVariants.{Stamp}
 use Rattle.pie_params.specs.declared.elements.Picking.TheVariants.{Random}
-use Rattle.pie_guarantees.specs.Names.{NotEct, RawParams, One, Command, Arrive, Depart, Update, SetParams, Answer, Enqueued, DroppedEarly, Left, Updated, Done, Event, Bounded, Elements, Opening, Packet}
-use Rattle.pie_guarantees.specs.Verdicts.{is_early}
+use Rattle.pie_guarantees.specs.Verdicts.{NotEct, RawParams, One, Command, Arrive, Depart, Update, SetParams, Answer, Enqueued, DroppedEarly, Left, Updated, Done, Event, Bounded, Elements, Opening, Packet, is_early}
 
 abbrev pub happened : Command → Answer → Event
 happened command answer = record { caller = 1; command = command; answer = answer }

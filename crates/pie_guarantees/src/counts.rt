@@ -1,16 +1,13 @@
 //! Conservation of packets: the fate of every packet, the size of the queue, and the waiting times.
 ghost use Rattle.std.specs.Prelude.{◌≡◌, ◌≤◌, ◌+◌, ◌*◌, ◌^◌, ◌++◌, ◌∷◌, [], All, List, ℕ, Some, length};
-ghost use Rattle.pie_guarantees.specs.{effect_of, Event, Opening, Packet, params_after, bytes_after, waiting_after, count_of, is_dropped_bytes};
-ghost use Rattle.pie_guarantees.specs.{AtEachEvent, AtEachHistory, BetweenAny};
-ghost use Rattle.pie_guarantees.specs.{is_dropped_packets, Carries, SetsLimit, packet_queued, packets_departed, packets_arrived, packets_queued};
-ghost use Rattle.pie_guarantees.specs.{packets_waiting, time_of, IsLawful};
-ghost use Rattle.pie_book.specs.Statistics.{is_dropped_early, is_marked, is_queued};
+ghost use Rattle.pie_guarantees.specs.{effect_of, Event, Opening, Packet, params_after, bytes_after, waiting_after, count_of, is_dropped_bytes, AtEachEvent, AtEachHistory, BetweenAny, is_dropped_packets, Carries, SetsLimit, packet_queued, packets_departed, packets_arrived, packets_queued, packets_waiting, time_of, IsLawful};
+ghost use Rattle.pie_book.specs.Decision.{is_dropped_early, is_marked, is_queued};
 
 /// Every arriving packet is queued, marked, dropped early, or dropped because there is no room, exactly once
 /// (`once`). The packets that departed, followed by the queued ones, are exactly those that were queued or marked,
 /// in the order of their arrivals (`order`). They are unchanged except for CE if one was marked. Both are this
 /// project's own.
-#[tactic(auto, using(crate::proofs::CountFacts::each_once, crate::proofs::CountFacts::in_order))]
+#[tactic(auto, using(crate::proofs::LawfulFacts::each_once, crate::proofs::LawfulFacts::in_order))]
 pub fn every_packet_is_accounted_for()
     ensures once { AtEachHistory (λ opening history. packets_arrived history ≡ count_of is_queued history + count_of is_marked history + count_of is_dropped_early history
         + count_of is_dropped_bytes history + count_of is_dropped_packets history) }
@@ -21,7 +18,7 @@ pub fn every_packet_is_accounted_for()
 /// No more packets wait than the ring holds (`packets`). A packet that is queued or marked fits under `limit_bytes` with all that wait
 /// (`bytes_queued`, RFC 8033, Appendix A). So no more bytes ever wait than the greatest `limit_bytes` that was ever in force (`bytes`); new
 /// parameters may lower it below the bytes that wait already.
-#[tactic(auto, using(crate::proofs::CountFacts::in_the_ring, crate::proofs::CountFacts::room_for_bytes, crate::proofs::CountFacts::bytes_below))]
+#[tactic(auto, using(crate::proofs::LawfulFacts::in_the_ring, crate::proofs::LawfulFacts::room_for_bytes, crate::proofs::LawfulFacts::bytes_below))]
 pub fn queues_stay_within_their_limits()
     ensures packets { AtEachHistory (λ opening history. length (waiting_after opening history) ≤ opening.limits.packets) }
     ensures bytes_queued { AtEachEvent (λ opening before event. (packet : Packet) → packet_queued (effect_of event) ≡ Some packet

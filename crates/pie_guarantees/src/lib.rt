@@ -6,19 +6,15 @@
 
 mod bursts;
 mod clean_histories;
-mod clock;
 mod counts;
 mod early_drop;
-mod links;
 mod probability;
-mod rates;
 mod response;
 mod spacing;
 mod worked;
 
-pub use bursts::{allowances_begin_whole, burst_allowance_lasts};
-pub use clean_histories::clean_histories_are_lawful;
-pub use clock::a_clock_ahead_delays_updates;
+pub use bursts::{a_clock_ahead_delays_updates, allowances_begin_whole, burst_allowance_lasts};
+pub use clean_histories::{clean_histories_are_lawful, links_are_lawful};
 pub use counts::{
     every_packet_is_accounted_for, queues_stay_within_their_limits, waits_are_bounded,
 };
@@ -27,12 +23,11 @@ pub use early_drop::{
     no_early_drop_in_short_queues, no_early_drop_while_inactive,
     no_early_drop_within_burst_allowance, only_capable_packets_are_marked, the_link_does_not_idle,
 };
-pub use links::links_are_lawful;
 pub use probability::{
     causes_of_a_higher_probability, speed_of_the_probability, steady_delays_move_the_probability,
-    the_probability_follows_the_delay,
+    the_estimated_delay_lies_between, the_probability_follows_the_delay,
+    the_rate_lies_between_its_samples,
 };
-pub use rates::{the_estimated_delay_lies_between, the_rate_lies_between_its_samples};
 pub use response::{controllers_recover, lasting_delays_raise_the_probability};
 pub use spacing::{
     picks_are_far_apart, picks_are_not_consecutive, picks_are_not_too_far_apart,

@@ -1,9 +1,12 @@
 //! The relation of the probability to the delay (RFC 8033, sections 4.2, 5.1 and 5.5).
-ghost use Rattle.std.specs.Prelude.{◌≡◌, ◌≤◌, ◌<◌, ◌+◌, ◌*◌, ◌/◌, ◌^◌, min, ◌⊎◌, ◌++◌, ◌∷◌, [], List, ℕ, true, false};
-ghost use Rattle.pie_control.specs.Next.{decays, next, tuning_divisor};
-ghost use Rattle.pie_guarantees.specs.{effect_of, is_update, Event, Opening, RawParams, active_after, delay_after, params_after, updates_in, AllAlong, AtEachEvent, BetweenAny, IsLawful, IsActiveUpdate, IsSteady, after_updates, least_rise, old_delay_after, probability_after, untuned_fall, untuned_rise, updates_to_a_tenth};
+//! The bounds of the departure rate estimate (RFC 8033, section 5.2).
+ghost use Rattle.std.specs.Prelude.{◌≡◌, ◌≤◌, ◌<◌, ◌+◌, ◌*◌, ◌/◌, ◌^◌, min, ◌⊎◌, ◌++◌, ◌∷◌, [], List, ℕ, true, false, All, length};
+ghost use Rattle.pie_control.specs.History.{decays, next, tuning_divisor};
+ghost use Rattle.pie_guarantees.specs.{effect_of, is_update, Event, Opening, RawParams, active_after, delay_after, params_after, updates_in, AllAlong, AtEachEvent, BetweenAny, IsLawful, IsActiveUpdate, IsSteady, after_updates, least_rise, old_delay_after, probability_after, untuned_fall, untuned_rise, updates_to_a_tenth, AtEachHistory, IsBetween, samples_after, bytes_after};
 ghost use Rattle.pie_params.specs.Params.{is_capped, usual, default_profile};
 ghost use Rattle.pie_params.specs.declared.elements.Elements.{Elements};
+ghost use Rattle.pie_params.specs.declared.elements.Delay.TheVariants.{Rate};
+ghost use Rattle.pie_book.specs.Decision.{average_after};
 
 /// The probability is always 0 to 1, in units of 10^-12 (`bounded`). An update of an active controller does not
 /// decrease it if the delay is at least the target and has not fallen (`rises`). It does not increase it if the delay
@@ -32,7 +35,7 @@ pub fn the_probability_follows_the_delay()
 /// A higher delay never gives a lower next probability, if all other numbers are equal (`delay`). If rises are capped, a higher probability before an
 /// update can give a lower one after it: at a delay of one second, after none, 10 per cent becomes 12, and a hair less than 10 becomes 78.7 (`below`,
 /// `from_a_tenth`).
-#[tactic(auto, using(crate::proofs::NextFacts::next_mono, crate::proofs::ProbabilityFacts::at_a_tenth))]
+#[tactic(auto, using(crate::proofs::ProbabilityFacts::next_mono, crate::proofs::ProbabilityFacts::at_a_tenth))]
 pub fn causes_of_a_higher_probability()
     ensures delay { (elements : Elements) (params : RawParams) (prob : ℕ) (old : ℕ) (delay : ℕ) (more : ℕ) → delay ≤ more
         → next elements params prob delay old ≤ next elements params prob more old }
@@ -70,7 +73,7 @@ pub fn speed_of_the_probability()
 /// cent after the sum of the updates that each row of the table takes (`to_a_tenth`): with the defaults at twice the
 /// target after 164 (`at_twice_the_target`); the exact number is 162. If it decays, 114 updates leave at most a tenth
 /// (`fades_to_a_tenth`).
-#[tactic(auto, using(crate::proofs::ProbabilityFacts::a_tenth_is_left, crate::proofs::NextFacts::falls_at_least, crate::proofs::NextFacts::falls_at_most, crate::proofs::NextFacts::reaches_a_tenth, crate::proofs::NextFacts::rises_at_least, crate::proofs::NextFacts::rises_at_most), unfolding(pie_control::specs::Next::tuning_divisor))]
+#[tactic(auto, using(crate::proofs::ProbabilityFacts::a_tenth_is_left, crate::proofs::ProbabilityFacts::falls_at_least, crate::proofs::ProbabilityFacts::falls_at_most, crate::proofs::ProbabilityFacts::reaches_a_tenth, crate::proofs::ProbabilityFacts::rises_at_least, crate::proofs::ProbabilityFacts::rises_at_most), unfolding(pie_control::specs::History::tuning_divisor))]
 pub fn steady_delays_move_the_probability()
     ensures rises { (elements : Elements) (params : RawParams) (delay : ℕ) → 0 < params.target → params.target ≤ delay → (n : ℕ) (prob : ℕ)
         → prob ≤ 10 ^ 12 → min (10 ^ 12) (prob + n * least_rise params delay prob) ≤ after_updates n elements params delay prob }
@@ -89,4 +92,25 @@ pub fn steady_delays_move_the_probability()
     ensures at_twice_the_target { updates_to_a_tenth default_profile 30_000_000 ≡ 164 }
     ensures fades_to_a_tenth { (n : ℕ) (elements : Elements) (params : RawParams) (delay : ℕ) (prob : ℕ)
         → decays elements.decay params delay delay ≡ true → 114 ≤ n → after_updates n elements params delay prob * 10 ≤ prob }
+{}
+
+/// The estimated time in which `dq_threshold` bytes depart lies between the shortest and the longest sample since
+/// the estimate was cleared, if there is a sample (`between`, RFC 8033, section 5.2). Without a sample it is 0
+/// (`unmeasured`), and the delay counts as 0.
+#[tactic(auto, using(crate::proofs::ProbabilityFacts::average_between, crate::proofs::ProbabilityFacts::no_average))]
+pub fn the_rate_lies_between_its_samples()
+    ensures between { (least : ℕ) (most : ℕ) → AtEachHistory (λ opening history. 0 < length (samples_after opening history)
+        → All (IsBetween least most) (samples_after opening history) → IsBetween least most (average_after opening history)) }
+    ensures unmeasured { AtEachHistory (λ opening history. length (samples_after opening history) ≡ 0 → average_after opening history ≡ 0) }
+{}
+
+/// The bounds of the estimated delay, if the delay comes from the departure rate and there is a sample. It is at most the queued bytes times the
+/// longest sample, over `dq_threshold`. It is at least the queued bytes times the shortest sample, over `dq_threshold`, or 2^40 nanoseconds, the
+/// greatest delay, if that is less (RFC 8033, section 5.2; the greatest delay is this project's own).
+#[tactic(auto, using(crate::proofs::ProbabilityFacts::estimate_between))]
+pub fn the_estimated_delay_lies_between()
+    ensures { (least : ℕ) (most : ℕ) → AtEachHistory (λ opening history. opening.choices.elements.delay ≡ Rate
+        → 0 < length (samples_after opening history) → All (IsBetween least most) (samples_after opening history)
+        → IsBetween (min (2 ^ 40) (bytes_after opening history * least / (params_after opening history).dq_threshold))
+        (bytes_after opening history * most / (params_after opening history).dq_threshold) (delay_after opening history)) }
 {}

@@ -1,7 +1,7 @@
 //! The time within which a lasting delay is answered, and the time in which a controller recovers without delay (RFC 8033, sections 4.1, 4.2,
 //! 4.4 and 5.4).
 ghost use Rattle.std.specs.Prelude.{◌≡◌, ◌≤◌, ◌<◌, ◌*◌, ◌^◌, ◌++◌, ◌∷◌, List, ℕ, true};
-ghost use Rattle.pie_control.specs.Next.{next};
+ghost use Rattle.pie_control.specs.History.{next};
 ghost use Rattle.pie_params.specs.Params.{usual, default_profile};
 ghost use Rattle.pie_guarantees.specs.{Event, Opening, active_after, bytes_after, effect_of, params_after, AllAlong, BetweenAny, IsLasting, IsLawful, burst_left, had_room, probability_after, untuned_rise, updates_in, updates_to_a_tenth, was_considered, after_updates, untuned_fall, FindsNoDelay, HasRecovered};
 

@@ -1,9 +1,8 @@
 //! The distance between picked packets if probabilities accumulate (RFC 8033, section 5.4).
 ghost use Rattle.std.specs.Prelude.{◌≡◌, ◌≤◌, ◌<◌, ◌+◌, ◌*◌, ◌++◌, ◌∷◌, [], List, ℕ};
 ghost use Rattle.pie_params.specs.declared.elements.Picking.TheVariants.{Derandomized};
-ghost use Rattle.pie_guarantees.specs.{Event, Opening, AllAlong, IsLawful, EffectiveAtLeast, EffectiveAtMost, IsUnpicked, considered_in, effective_prob_at, IsEarly};
-ghost use Rattle.pie_guarantees.specs.{AtEachEvent, BetweenAny, effective_sum_in, picks_in, restarts_in};
-ghost use Rattle.pie_book.specs.StateAfter.{accu_after};
+ghost use Rattle.pie_guarantees.specs.{Event, Opening, AllAlong, IsLawful, EffectiveAtLeast, EffectiveAtMost, IsUnpicked, considered_in, effective_prob_at, IsEarly, AtEachEvent, BetweenAny, effective_sum_in, picks_in, restarts_in};
+ghost use Rattle.pie_book.specs.Decision.{accu_after};
 
 /// A packet that is marked or dropped early leaves an accumulated probability of 0 (RFC 8033, section 5.4).
 #[tactic(auto, using(crate::proofs::SpacingFacts::picks_clear))]

@@ -1,7 +1,7 @@
 //! The lock, over the counter that pie_lock has for tests. The results of its calls are proved, with three exceptions: there is memory, a free lock
 //! is taken and closed (src/links.rt), and threads that sleep at a held lock are woken. After a missed wake a test does not end.
 ghost use Rattle.std.specs.Prelude.{◌≡◌, Some};
-ghost use Rattle.pie_lock.specs.Promises.{Represents};
+ghost use Rattle.pie_lock.specs.Rule.{Represents};
 
 use crate::places::{Place, jobs_at, toil_all};
 use pie_lock::{Counter, CounterEntry, Held, Pass, RuledLock, no_entries, one_entry};

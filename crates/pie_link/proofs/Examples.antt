@@ -1,15 +1,15 @@
 -- The link's definitions at small values, worked out by hand.
 use Rattle.std.specs.Prelude.{ℕ, ◌≡◌, [], ◌∷◌, Some, None, List, Ok, Err}
-use Rattle.pie_link.proofs.Names.{refl, PassKnowledge, Spent, Idle, HasTwo, Opening, Entry, CallerKnowledge, callers_of, Depart, Empty, Event, Bounded, Applied, Folded, events_in, left_when_rolling, tail_in, folded_events, state_after, waiting_after, Command, Arrive, Answer, Reply, entries_within, replies_within, ⊤, always, burst_within, departures, has_left}
+use Rattle.pie_link.proofs.KeptFacts.{refl, PassKnowledge, Spent, Idle, HasTwo, Opening, Entry, CallerKnowledge, callers_of, Depart, Empty, Event, Bounded, Applied, Folded, events_in, left_when_rolling, tail_in, folded_events, state_after, waiting_after, Command, Arrive, Answer, Reply, entries_within, replies_within, ⊤, always, burst_within, departures, has_left}
 use Rattle.pie_event.specs.declared.opening.Limits.{Limits}
-use Rattle.pie_link.specs.declared.refusal.LinkRefusal.TheVariants.{Book, NoCallers}
+use Rattle.pie_link.specs.declared.entry.LinkRefusal.TheVariants.{Book, NoCallers}
 use Rattle.pie_link.specs.Headline.{link_refusal}
 use Rattle.pie_params.specs.Params.{default_profile, usual}
 use Rattle.pie_queue.specs.declared.ecn.Ecn.TheVariants.{NotEct}
 use Rattle.pie_queue.specs.declared.packet.Packet.{Packet}
 use Rattle.pie_aqm.specs.History.{active_of, arrival_inputs, control_of, delay_at_end, departures_of, departure_inputs, early_of, state_of, is_active, activity_events, activity_events_after, now_of, params_of, update_inputs, waited_at_end, waited_of, places, greatest, last_or}
 use Rattle.pie_aqm.specs.Steps.{verdict}
-use Rattle.pie_event.specs.declared.profile.Profile.TheVariants.{One}
+use Rattle.pie_event.specs.declared.opening.Profile.TheVariants.{One}
 use Rattle.pie_book.specs.History.{effective_moment, admitted, departed_count, controller_events}
 use Rattle.pie_event.specs.declared.command.Answer.TheVariants.{DroppedBytes, Enqueued, Left}
 use Rattle.pie_event.specs.declared.refusal.Refusal.TheVariants.{HistoryFull, Size}

@@ -1,16 +1,16 @@
 -- The headline, from the rule of the lock.
 use Rattle.std.proofs.lemmas.Bool.Decides.{nat_tests}
-use Rattle.pie_link.proofs.Names.{◌≡◌, ℕ, suc, Option, List, [], ◌∷◌, refl, subst, ⊎_elim, arith, PassKnowledge, Opening, Entry, number_of, events_in, KeptView, RepresentsHistory, CallerKnowledge, BeginsWith, HasCallsOf, caller_knowledge, callers_at, callers_of, LockKey, LockState, LiesIn, IsOneHistory, KeepsOneHistory}
+use Rattle.pie_link.proofs.KeptFacts.{◌≡◌, ℕ, suc, Option, List, [], ◌∷◌, refl, subst, ⊎_elim, arith, PassKnowledge, Opening, Entry, number_of, events_in, KeptView, RepresentsHistory, CallerKnowledge, BeginsWith, HasCallsOf, caller_knowledge, callers_at, callers_of, LockKey, LockState, LiesIn, IsOneHistory, KeepsOneHistory}
 use Rattle.std.specs.List.{All}
 use Rattle.std.proofs.lemmas.List.Elements.{All-nil, All-cons, All-append}
 use mathlib.Core.Option.{some}
 use lib.ListN.{get_elem?}
-use Rattle.pie_lock.specs.declared.view.SeatKnowledge.{SeatKnowledge}
+use Rattle.pie_lock.specs.declared.entries.SeatKnowledge.{SeatKnowledge}
 use Rattle.pie_lock.specs.Rule.{EachPass, Follows, Agreed, Ruled, WhileFree}
 use Rattle.pie_event.specs.declared.command.Event.{Event}
 use Rattle.pie_book.specs.Book.{BookView}
 use Rattle.pie_book.specs.Core.{CoreView, Represents, registers_of}
-use Rattle.pie_book.specs.Statistics.{registers_after}
+use Rattle.pie_book.specs.Decision.{registers_after}
 use Rattle.pie_link.specs.Callers.{LinkView}
 
 module _ (P : PassKnowledge Entry Opening → Type 0) (Q : CallerKnowledge → Type 0) (follows : (p : PassKnowledge Entry Opening) → P p → Q (caller_knowledge p)) where

@@ -1,5 +1,3 @@
-mod Names
 pub mod KeptFacts
-pub mod Bursting
 pub mod Headline
 pub mod Examples

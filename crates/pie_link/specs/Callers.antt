@@ -2,13 +2,12 @@
 -- excerpt.
 use Rattle.std.specs.Prelude.{◌≡◌, List, Some, Result, Ok, Err, ℕ, Bool, [], ◌∷◌, ◌++◌, Option, None, Vec}
 use Rattle.pie_lock.specs.Rule.{LockView, PassView, HasAllNumbers, Extends}
-use Rattle.pie_link.specs.Names.{Opening, IsLegal, Entry, number_of, events_in, Command, Reply, entries_within, replies_within, Event, Refusal, Told, entries_by, reply_in}
-use Rattle.pie_link.specs.declared.call_result.Tried.{Tried}
-use Rattle.pie_link.specs.declared.call_result.Tried.TheVariants.{Busy, Refused}
-use Rattle.pie_link.specs.declared.call_result.NoRoom.{NoRoom}
+use Rattle.pie_link.specs.Entries.{Opening, IsLegal, Entry, number_of, events_in, Command, Reply, entries_within, replies_within, Event, Refusal, Told, entries_by, reply_in, IsExcerptOf, IsFold, IsFoldedInto, fold_entries, IsReading}
+use Rattle.pie_link.specs.declared.entry.Tried.{Tried}
+use Rattle.pie_link.specs.declared.entry.Tried.TheVariants.{Busy, Refused}
+use Rattle.pie_link.specs.declared.entry.NoRoom.{NoRoom}
 use Rattle.pie_event.specs.declared.refusal.TooSmall.{TooSmall}
 use Rattle.pie_book.specs.Snapshot.{ExcerptView}
-use Rattle.pie_link.specs.Entries.{IsExcerptOf, IsFold, IsFoldedInto, fold_entries, IsReading}
 use Rattle.std.specs.declared.alloc.Global.{Global}
 use Rattle.pie_event.specs.declared.refusal.FoldRefusal.{FoldRefusal}
 use Rattle.pie_link.specs.declared.entry.Entry.TheVariants.{Folded}

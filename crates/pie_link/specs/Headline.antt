@@ -8,26 +8,25 @@ use mathlib.Core.List.{IsPrefix}
 use mathlib.Core.Option.{some}
 use lib.ListN.{get_elem?}
 use Rattle.atomic_table.specs.Table.{State}
-use Rattle.pie_lock.specs.declared.view.PassKnowledge.{PassKnowledge}
-use Rattle.pie_lock.specs.declared.view.SeatKnowledge.{SeatKnowledge}
-use Rattle.pie_lock.specs.declared.view.SeatKnowledge.TheVariants.{Spent, Idle, Holds, HasTwo}
+use Rattle.pie_lock.specs.declared.entries.PassKnowledge.{PassKnowledge}
+use Rattle.pie_lock.specs.declared.entries.SeatKnowledge.{SeatKnowledge}
+use Rattle.pie_lock.specs.declared.entries.SeatKnowledge.TheVariants.{Spent, Idle, Holds, HasTwo}
 use Rattle.pie_lock.specs.Rule.{own}
-use Rattle.pie_lock.specs.declared.view.LockOpening.{LockOpening}
+use Rattle.pie_lock.specs.declared.entries.LockOpening.{LockOpening}
 use Rattle.pie_event.specs.declared.opening.Mode.TheVariants.{Bounded}
-use Rattle.pie_link.specs.Names.{Opening, IsLegal, Entry, number_of, events_in, tail_in, folded_events, Command, Reply, entries_within}
+use Rattle.pie_link.specs.Entries.{Opening, IsLegal, Entry, number_of, events_in, tail_in, folded_events, Command, Reply, entries_within, KeptView, SetsInRange, departed_bytes, folded_for}
 use Rattle.pie_book.specs.Book.{BookView, BookRepresents, last_events}
 use Rattle.pie_book.specs.Core.{registers_of}
 use Rattle.pie_book.specs.History.{waiting_after}
-use Rattle.pie_book.specs.Statistics.{registers_after, stats_after}
+use Rattle.pie_book.specs.Decision.{registers_after, stats_after}
 use Rattle.pie_params.specs.Params.{first_bad}
 use Rattle.pie_event.specs.Event.{opening_refusal}
-use Rattle.pie_link.specs.Entries.{KeptView, SetsInRange, departed_bytes, folded_for}
 use Rattle.pie_link.specs.Callers.{LinkView}
 use Rattle.pie_event.specs.declared.opening.Limits.{Limits}
 use Rattle.pie_event.specs.declared.refusal.OpenRefusal.{OpenRefusal}
 use Rattle.pie_event.specs.declared.refusal.OpenRefusal.TheVariants as of_book
-use Rattle.pie_link.specs.declared.refusal.LinkRefusal.{LinkRefusal}
-use Rattle.pie_link.specs.declared.refusal.LinkRefusal.TheVariants.{Book, NoCallers, Memory}
+use Rattle.pie_link.specs.declared.entry.LinkRefusal.{LinkRefusal}
+use Rattle.pie_link.specs.declared.entry.LinkRefusal.TheVariants.{Book, NoCallers, Memory}
 
 -- a caller: its front, and its numbers first..limit
 pub record CallerKnowledge : Type 0 where

@@ -1,4 +1,3 @@
 pub mod Entries
-pub mod Names
 pub mod Headline
 pub mod Callers

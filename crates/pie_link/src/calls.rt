@@ -4,11 +4,11 @@
 //! of the calls of two callers.
 ghost use Rattle.std.specs.Prelude.{◌≡◌, ◌+◌, ◌-◌, ◌≤◌, min, vec_capacity, vec_len};
 ghost use Rattle.pie_event.specs.declared.command.Command.TheVariants.{Arrive, Depart, Update, Reset, SetParams};
-ghost use Rattle.pie_book.specs.Statistics.{registers_after, stats_after};
+ghost use Rattle.pie_book.specs.Decision.{registers_after, stats_after};
 ghost use Rattle.pie_link.specs.Callers.{Answers, TriesToAnswer, Folds, TriesToFold, TriesToFoldInto, Reads, TriesToRead, HasSameNumbers, FillsExcerpt, TriesToFillExcerpt};
 
-use crate::call_result::{Told, Tried};
 use crate::caller::Caller;
+use crate::entry::{Told, Tried};
 use crate::link::Link;
 use crate::turn;
 use core::mem::{replace, replace_with};

@@ -13,7 +13,7 @@ pub fn entries_look_back()
 /// The packets that depart in a burst with a budget have at most that many bytes together.
 ///
 /// The function does nothing: its contract is the law.
-#[tactic(auto, using(crate::proofs::Bursting::bursts_stay_within))]
+#[tactic(auto, using(crate::proofs::KeptFacts::bursts_stay_within))]
 pub fn bursts_stay_within_their_bytes()
     ensures { BurstsStayWithin }
 {}

@@ -40,27 +40,19 @@
 //! numbers, and the front of a dropped caller.
 #![tactic(auto)]
 
-mod arrival;
 mod burst;
-mod burst_calls;
-mod call_result;
 mod caller;
 mod calls;
 mod entry;
 mod kept_book;
-mod kept_bursts;
 pub mod law;
 mod link;
-mod refusal;
 mod turn;
 mod vectors;
 
-pub use arrival::Arrival;
 pub use burst::{Burst, Replies, Reply};
-pub use call_result::{NoRoom, Told, Tried};
 pub use caller::Caller;
-pub use entry::Entry;
+pub use entry::{Arrival, Entry, LinkRefusal, NoRoom, Told, Tried};
 pub use kept_book::KeptBook;
 pub use link::Link;
-pub use refusal::LinkRefusal;
 pub use vectors::{Arrivals, Departures};

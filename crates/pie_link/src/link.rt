@@ -3,13 +3,12 @@ ghost use Rattle.std.specs.Prelude.{◌≡◌, ◌+◌, ◌<◌, ◌≤◌, ◌�
 ghost use Rattle.pie_params.specs.Params.{first_bad, usual};
 ghost use Rattle.pie_event.specs.Event.{opening_refusal};
 ghost use Rattle.pie_event.specs.declared.opening.Mode.TheVariants.{Bounded};
-ghost use Rattle.pie_event.specs.declared.profile.Profile.TheVariants.{One};
+ghost use Rattle.pie_event.specs.declared.opening.Profile.TheVariants.{One};
 ghost use Rattle.pie_link.specs.declared.entry.Entry.{Entry};
 
 use crate::caller::Caller;
-use crate::entry::Entry;
+use crate::entry::{Entry, LinkRefusal};
 use crate::kept_book::KeptBook;
-use crate::refusal::LinkRefusal;
 use atomic_table::TableRule;
 use pie_book::{Book, Limits, OpenRefusal, Opening};
 use pie_lock::{LockOpening, LockRule, OneNumber, Pass, RuledLock, SeatKnowledge, StillHeld};
@@ -34,8 +33,7 @@ impl Model for Link {
 
 impl Link {
     ghost use Rattle.pie_book.specs.Book.{BookRepresents};
-    ghost use Rattle.pie_lock.specs.Rule.{HasAllNumbers};
-    ghost use Rattle.pie_lock.specs.Promises.{first_pass, without_highest, highest_alone, IsBeside, IsBothOf};
+    ghost use Rattle.pie_lock.specs.Rule.{HasAllNumbers, first_pass, without_highest, highest_alone, IsBeside, IsBothOf};
     ghost use Rattle.pie_link.specs.Entries.{number_of, RepresentsEntries};
     ghost use Rattle.pie_link.specs.Callers.{IsHistoryFor};
     ghost use Rattle.pie_link.specs.Headline.{KeepsOneHistory, link_refusal, IsRefusedFor};

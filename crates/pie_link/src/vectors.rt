@@ -3,8 +3,8 @@ ghost use Rattle.std.specs.Prelude.{◌≡◌, ◌+◌, ◌-◌, ◌≤◌, drop
 ghost use Rattle.pie_event.specs.declared.command.Command.TheVariants.{Depart};
 ghost use Rattle.pie_link.specs.Entries.{always, arrive, departures, has_left};
 
-use crate::arrival::Arrival;
 use crate::burst::{Burst, Replies, Reply};
+use crate::entry::Arrival;
 use pie_book::{Answer, Command};
 
 /// A burst of arrivals. Each packet is decided.

@@ -1,6 +1,6 @@
 //! Readings: the state of the book behind a port, in the caller's structs.
 ghost use Rattle.pie_port.specs.Bursts.{TriesToReadInto, registers_of, totals_of};
-ghost use Rattle.pie_book.specs.Statistics.{registers_after, stats_after};
+ghost use Rattle.pie_book.specs.Decision.{registers_after, stats_after};
 
 use pie_port::{PiePort, PieRegisters, PieTotals};
 use std::alloc::Global;

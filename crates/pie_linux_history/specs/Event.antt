@@ -24,8 +24,8 @@ use Rattle.pie_event.specs.declared.cause.Cause.TheVariants as cause
 use Rattle.pie_event.specs.declared.cause.Fate.{Fate}
 use Rattle.pie_event.specs.declared.cause.Fate.TheVariants as fate
 use Rattle.pie_event.specs.declared.registers.Registers.{Registers}
-use Rattle.pie_event.specs.declared.setter.Setter.{Setter}
-use Rattle.pie_event.specs.declared.setter.Setter.TheVariants as setter
+use Rattle.pie_event.specs.declared.command.Setter.{Setter}
+use Rattle.pie_event.specs.declared.command.Setter.TheVariants as setter
 use Rattle.pie_explain.specs.declared.explanation.Explained.{Explained}
 use Rattle.pie_linux_history.specs.declared.decided.DecidedStep.{DecidedStep}
 use Rattle.pie_linux_history.specs.declared.decided.StepNumbers.{StepNumbers}

@@ -1,8 +1,8 @@
 -- The definitions at small values, worked out by hand: a lock around a counter with three numbers, after two calls.
-use Rattle.pie_lock.proofs.Names.{◌≡◌, ℕ, List, [], ◌∷◌, refl, own, longer}
+use Rattle.pie_lock.proofs.Steps.{◌≡◌, ℕ, List, [], ◌∷◌, refl, own, longer}
 use Rattle.pie_lock.specs.declared.lock.TheConstants.{WORD, SLOT, FREE, HELD}
 use Rattle.pie_lock.specs.declared.counter.CounterEntry.{CounterEntry}
-use Rattle.pie_lock.specs.Promises.{Tally, Represents}
+use Rattle.pie_lock.specs.Rule.{Tally, Represents}
 
 -- the constants of the code are the numbers of the rule
 constants : (WORD ≡ 0) × (SLOT ≡ 0) × (FREE ≡ 0) × (HELD ≡ 1)

@@ -1,4 +1,2 @@
-mod Names
-pub mod Seats
 pub mod Steps
 pub mod Examples

@@ -1,7 +1,7 @@
 //! A counter: a second kind of state for a lock, for tests. One counter represents many histories.
 ghost use Rattle.std.specs.Prelude.{◌≡◌, ◌+◌, ◌<◌, ◌^◌, ◌↔◌, IsTrue, MatchBool};
 
-use crate::kept::Kept;
+use crate::entries::Kept;
 use std::marker::Model;
 
 /// An addition by one caller.
@@ -22,7 +22,7 @@ pub struct Counter {
 }
 
 impl Model for Counter {
-    ghost use Rattle.pie_lock.specs.Promises.{Tally};
+    ghost use Rattle.pie_lock.specs.Rule.{Tally};
 
     ghost Value = { Tally };
 
@@ -30,7 +30,7 @@ impl Model for Counter {
 }
 
 impl Counter {
-    ghost use Rattle.pie_lock.specs.Promises.{Tally};
+    ghost use Rattle.pie_lock.specs.Rule.{Tally};
 
     /// Returns a counter without additions.
     pub fn new() -> Counter
@@ -74,7 +74,7 @@ impl Counter {
 
 impl Kept for Counter {
     ghost use Rattle.std.specs.Prelude.{ℕ};
-    ghost use Rattle.pie_lock.specs.Promises.{Represents, Represents-one_length};
+    ghost use Rattle.pie_lock.specs.Rule.{Represents, Represents-one_length};
 
     type Entry = CounterEntry;
 

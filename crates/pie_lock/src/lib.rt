@@ -40,18 +40,14 @@
 
 mod counter;
 mod entries;
-mod kept;
 mod lock;
 mod pass;
 mod refusal;
 mod rule;
-mod view;
 
 pub use counter::{Counter, CounterEntry};
-pub use entries::{Entries, no_entries, one_entry, with_entry};
-pub use kept::Kept;
+pub use entries::{Entries, Kept, LockOpening, SeatKnowledge, no_entries, one_entry, with_entry};
 pub use lock::RuledLock;
 pub use pass::{Held, Pass, WakeDue};
 pub use refusal::{LockRefusal, OneNumber, StillHeld};
 pub use rule::LockRule;
-pub use view::{LockOpening, SeatKnowledge};

@@ -1,14 +1,12 @@
 //! The lock and its calls.
 ghost use Rattle.std.specs.Prelude.{◌≡◌, ◌≢◌, ◌+◌, ◌<◌, ◌↔◌, [], ◌∷◌, ◌++◌, List, All, Some, None, IsOk, IsErr, IsTrue, IfOk, IfErr, OnOk, OnErr};
 
-use crate::entries::Entries;
-use crate::kept::Kept;
+use crate::entries::{Entries, Kept, LockOpening, SeatKnowledge};
 use crate::pass::{Announced, Held, MaySleep, Pass, WakeDue};
 use crate::refusal::{LockRefusal, OneNumber, StillHeld};
 use crate::rule::{
     Adding, FreeStep, JoinTwo, LockRule, LookStep, MergeStep, SplitHighest, TakeStep,
 };
-use crate::view::{LockOpening, SeatKnowledge};
 use atomic_table::{Refused, Seat, Table};
 use crossbeam_utils::Backoff;
 use std::alloc::Global;
@@ -76,9 +74,8 @@ impl<S: Kept> Model for RuledLock<S> {
 }
 
 impl<S: Kept> RuledLock<S> {
-    ghost use Rattle.pie_lock.specs.Rule.{HasAllNumbers, Extends, HasMerged, pass_at, with_front, AreAdjacent, IsIdle, IsLeaving};
-    ghost use Rattle.pie_lock.specs.declared.view.SeatKnowledge.TheVariants.{Idle};
-    ghost use Rattle.pie_lock.specs.Promises.{first_pass, HasTaken, pass_after, without_highest, highest_alone, IsBeside, IsBothOf};
+    ghost use Rattle.pie_lock.specs.Rule.{HasAllNumbers, Extends, HasMerged, pass_at, with_front, AreAdjacent, IsIdle, IsLeaving, first_pass, HasTaken, pass_after, without_highest, highest_alone, IsBeside, IsBothOf};
+    ghost use Rattle.pie_lock.specs.declared.entries.SeatKnowledge.TheVariants.{Idle};
 
     /// Returns a lock around `state`, and a pass with the numbers `0..numbers`.
     ///

@@ -1,8 +1,7 @@
 //! A caller's pass, and its form while the caller has the state.
 ghost use Rattle.std.specs.Prelude.{◌≡◌, ◌<◌};
 
-use crate::kept::Kept;
-use crate::view::SeatKnowledge;
+use crate::entries::{Kept, SeatKnowledge};
 use atomic_table::Seat;
 use std::marker::Model;
 use std::snapshot::Snapshot;

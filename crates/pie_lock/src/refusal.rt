@@ -1,5 +1,5 @@
 //! Refusals of the lock's calls.
-use crate::kept::Kept;
+use crate::entries::Kept;
 use crate::lock::RuledLock;
 use crate::pass::Pass;
 use thiserror::Error;

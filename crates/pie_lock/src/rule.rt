@@ -1,10 +1,9 @@
 //! The rule of the lock's table, and the facts that its steps give.
 ghost use Rattle.std.specs.Prelude.{List, []};
 ghost use Rattle.pie_lock.specs.Rule.{looked, taken, freed, merged, all_but_highest, highest, meeting};
-ghost use Rattle.pie_lock.specs.declared.view.SeatKnowledge.TheVariants.{Spent};
+ghost use Rattle.pie_lock.specs.declared.entries.SeatKnowledge.TheVariants.{Spent};
 
-use crate::kept::Kept;
-use crate::view::{LockOpening, SeatKnowledge};
+use crate::entries::{Kept, LockOpening, SeatKnowledge};
 use atomic_table::{Join, Play, Split, TableRule};
 use std::marker::{Brand, PhantomData};
 

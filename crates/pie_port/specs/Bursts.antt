@@ -8,7 +8,7 @@ use Rattle.pie_event.specs.declared.refusal.TooSmall.{TooSmall}
 use Rattle.pie_excerpt.specs.Beginning.{excerpt_rows}
 use Rattle.pie_link.specs.Callers.{TriesToFillExcerpt, TriesToRead}
 use Rattle.pie_event.specs.declared.registers.Registers.{Registers}
-use Rattle.pie_event.specs.declared.stats.Stats.{Stats}
+use Rattle.pie_event.specs.declared.registers.Stats.{Stats}
 use Rattle.pie_abi.specs.Structs.{stats_of}
 use Rattle.pie_port.specs.declared.readings.PieRegisters.{PieRegisters}
 use Rattle.pie_port.specs.declared.readings.PieTotals.{PieTotals}

@@ -16,16 +16,16 @@ pub use Rattle.pie_event.specs.declared.command.Event.{Event}
 pub use Rattle.pie_event.specs.declared.opening.Opening.{Opening}
 pub use Rattle.pie_event.specs.declared.refusal.Refusal.{Refusal}
 pub use Rattle.pie_link.specs.Entries.{Reply, always, has_left_or_updated, number_of}
-pub use Rattle.pie_link.specs.declared.call_result.Told.{Told}
+pub use Rattle.pie_link.specs.declared.entry.Told.{Told}
 unfoldable pub use Rattle.pie_link.specs.Callers.{AnswersWithin, TriesToAnswer, TriesToFoldInto}
 unfoldable pub use Rattle.pie_link.specs.Headline.{KeepsOneHistory}
 pub use Rattle.pie_link.specs.Callers.{CallerView, LinkView, HasSameNumbers, WasBusy}
-pub use Rattle.pie_link.specs.declared.call_result.Tried.{Tried}
-pub use Rattle.pie_link.specs.declared.call_result.Tried.TheVariants.{Busy, Refused}
+pub use Rattle.pie_link.specs.declared.entry.Tried.{Tried}
+pub use Rattle.pie_link.specs.declared.entry.Tried.TheVariants.{Busy, Refused}
 pub use Rattle.pie_port.specs.declared.excerpt.ExcerptText.{ExcerptText}
 pub use Rattle.pie_port.specs.declared.event_results.EventCall.{EventCall}
 pub use Rattle.pie_port.specs.declared.event_results.EventCall.TheVariants.{Arrive, Depart, Reset, Update}
-pub use Rattle.pie_lock.specs.Promises.{IsBeside, IsBothOf, first_pass, highest_alone, without_highest}
+pub use Rattle.pie_lock.specs.Rule.{IsBeside, IsBothOf, first_pass, highest_alone, without_highest}
 pub use Rattle.pie_queue.specs.Queue.{bits_of}
 pub use Rattle.pie_record.specs.Text.{text_of}
 pub use Rattle.pie_record.specs.Write.{event_row}

@@ -1,12 +1,18 @@
 //! Codes of the calls at a port, beside those of pie_abi.
+//! Calls for one event. None waits or allocates.
 ghost use Rattle.std.specs.Prelude.{◌≡◌};
-ghost use Rattle.pie_port.specs.{answer_code, code_of, refusal_code};
+ghost use Rattle.pie_port.specs.{answer_code, code_of, refusal_code, Tries, TriesToSet};
 
+use crate::event_results::EventCall;
+use crate::handle::PiePort;
 use pie_abi::code::{
     BAD_MOMENT, BAD_SIZE, DONE, EARLY, MARK, NONE, OVER_BYTES, OVER_PACKETS, TOO_SOON,
 };
+use pie_abi::event::PieEvent;
 use pie_event::{Answer, Refusal};
 use pie_link::{Told, Tried};
+use pie_params::RawParams;
+use std::alloc::Global;
 
 /// Refused: the number of events in the history is at the limit of the opening.
 pub(crate) const EXHAUSTED: u32 = 104;
@@ -79,4 +85,37 @@ pub(crate) fn code_of_reply(reply: &Result<Told<Answer>, Tried<Refusal>>) -> u32
         Err(Tried::Busy) => BUSY,
         Err(Tried::Refused(why)) => code_of_refusal(why),
     }
+}
+
+/// Makes this call for `event`, if the port is open.
+#[inline(always)]
+#[tactic(auto, unfolding(crate::specs::Calls::AtPort))]
+pub fn try_event(alloc: Global, port: &mut PiePort, call: EventCall, event: &mut PieEvent) -> u32
+    ensures { Tries call port.old.port event.old result event.new port.new.port }
+{
+    let Some(mut port_box) = port.take_box(alloc) else {
+        return CLOSED;
+    };
+    let code = port_box.try_event(call, event);
+    port.put_box(port_box);
+    code
+}
+
+/// Sets the parameters, if the port is open.
+#[inline(always)]
+#[tactic(auto, unfolding(crate::specs::Calls::AtPort))]
+pub fn try_set_params(
+    alloc: Global,
+    port: &mut PiePort,
+    params: &RawParams,
+    event: &mut PieEvent,
+) -> u32
+    ensures { TriesToSet params.now port.old.port event.old result event.new port.new.port }
+{
+    let Some(mut port_box) = port.take_box(alloc) else {
+        return CLOSED;
+    };
+    let code = port_box.try_set_params(params, event);
+    port.put_box(port_box);
+    code
 }

@@ -14,11 +14,9 @@
 #![tactic(auto)]
 
 mod burst;
-mod calls;
 mod code;
 mod event_results;
 mod excerpt;
-mod folding;
 mod handle;
 mod opening;
 mod port;
@@ -26,10 +24,9 @@ mod readings;
 mod sharing;
 
 pub use burst::{try_arrive_all, try_depart_all};
-pub use calls::{try_event, try_set_params};
+pub use code::{try_event, try_set_params};
 pub use event_results::EventCall;
-pub use excerpt::{close_excerpt, open_excerpt, try_excerpt, write_excerpt};
-pub use folding::try_fold;
+pub use excerpt::{close_excerpt, open_excerpt, try_excerpt, try_fold, write_excerpt};
 pub use handle::{PieExcerpt, PiePort};
 pub use opening::open;
 pub use readings::{PieRegisters, PieTotals, try_registers, try_stats};

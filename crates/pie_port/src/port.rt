@@ -4,8 +4,7 @@ ghost use Rattle.pie_port.specs.{arc_value, has_bad_ecn};
 
 use crate::code::{NO_MEMORY, ONE_NUMBER};
 use crate::event_results::{EventCall, fill, fill_code, fill_set};
-use crate::excerpt::ExcerptText;
-use crate::folding::{MOST, room, write_folded};
+use crate::excerpt::{ExcerptText, MOST, room, write_folded};
 use atomic_table::TableRule;
 use pie_abi::code::{BAD_ECN, BAD_PARAMS};
 use pie_abi::event::{PARAMS, PieEvent};

@@ -1,7 +1,7 @@
 //! Readings: the state of the book behind a port, in the caller's structs.
 ghost use Rattle.std.specs.Prelude.{◌≡◌};
 ghost use Rattle.pie_port.specs.{TriesToReadInto, registers_of, totals_of};
-ghost use Rattle.pie_book.specs.Statistics.{registers_after, stats_after};
+ghost use Rattle.pie_book.specs.Decision.{registers_after, stats_after};
 ghost use Rattle.pie_port.specs.Bursts.{IsReadInto};
 
 use crate::code::{BUSY, CLOSED};

@@ -1,7 +1,6 @@
 -- Worked examples of history lines and of an opening's version, for cases that no script of tests/ reaches: each theorem computes.
-use Rattle.pie_event.specs.declared.profile.Profile.TheVariants.{One}
-use Rattle.pie_record.specs.{Opening, Some, codes, usual, default_profile, Bounded, rows_text, records_of, fault_from, lines_from, opening_row, Row}
-use Rattle.pie_record.specs.{◌≡◌, ℕ, List, [], ◌∷◌, map, refl, worked_text}
+use Rattle.pie_event.specs.declared.opening.Profile.TheVariants.{One}
+use Rattle.pie_record.specs.{Opening, Some, codes, usual, default_profile, Bounded, rows_text, records_of, fault_from, lines_from, opening_row, Row, ◌≡◌, ℕ, List, [], ◌∷◌, map, refl, worked_text}
 use Rattle.pie_record.specs.declared.history_record.Line.TheVariants.{Note}
 use Rattle.pie_record.specs.declared.fault.TraceFault.TheVariants as fault
 use Rattle.pie_record.specs.declared.version.Version.TheVariants as version

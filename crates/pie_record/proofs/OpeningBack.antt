@@ -4,7 +4,7 @@ use Rattle.std.proofs.lemmas.Bool.{and_parts, ne_eqb}
 use Rattle.std.proofs.lemmas.Bool.Decides.{nat_tests}
 use Rattle.std.proofs.lemmas.List.{length-map}
 use Rattle.std.proofs.lemmas.List.Elements.{All-head, All-nil, All-tail}
-use Rattle.pie_event.specs.declared.profile.Profile.TheVariants.{One, Two}
+use Rattle.pie_event.specs.declared.opening.Profile.TheVariants.{One, Two}
 use Rattle.pie_record.specs.{Opening, ◌≡◌, ◌<◌, ◌+◌, ◌^◌, ℕ, List, [], ◌∷◌, ◌++◌, map, Bool, true, false, decimal, refl, if◌then◌else◌, Some, None, Result, Ok, field_at, usual, default_profile, Elements, Half, Zero, RawParams, first_bad, Mode, Bounded, Rolling, Profile, are_of_version_two, opening_refusal, ParamsFit, RecordFault, TraceFault, Draft, FirstKind, chosen_at, decay_at, draft_at, elements_at, first_fields, first_kind, holds_limits, limits_at, profile_of, version_one_fields, version_three_fields, version_two_fields, one_of_two, opening_of, opening_read, params_at, LimitsFit, NineFit, Row, delay_word, mode_word, picking_word, profile_number, size_word, step_word, are_default, are_usual, chosen_row, earlier_row, is_earlier, nine_of, opening_row, version_three_row, Decay, Choices, Limits, OpenRefusal, Option, Err, Checked, checked_opening, refused_opening, ◌≤◌, length, All, Event, Line, Version, HasField, rows_text, command_kind, line_of, kind_word, version_of, after_opening, remaining_from, fault_from, history_opening, history_version, lines_from, Begins, EventFits, AreLinesOf, IsHistoryText, event_row, written_rows, numbers_at, ◌==◌}
 use Rattle.pie_record.specs.declared.history_record.Line.TheVariants.{Valid}
 use Rattle.pie_record.proofs.FieldFacts.{back_u32, back_u64, params-back}

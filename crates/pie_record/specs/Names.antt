@@ -17,7 +17,7 @@ pub use Rattle.csv.specs.Writing.{default_writer, needs_quotes, read_back, row_t
 unfoldable pub use Rattle.csv.specs.Writing.{escaped, fields_text, is_blank}
 pub use Rattle.csv.specs.declared.{parser.State.State, reader.Reader.Reader}
 pub use Rattle.pie_event.specs.Event.{fits, are_of_version_two, opening_refusal, AnswerFits, CommandFits, PacketFits, ParamsFit, RegistersFit, StatsFit}
-pub use Rattle.pie_event.specs.declared.{command.Answer.Answer, command.Command.Command, command.Event.Event, opening.Choices.Choices, opening.Limits.Limits, opening.Mode.Mode, opening.Opening.Opening, profile.Profile.Profile, refusal.OpenRefusal.OpenRefusal, registers.Registers.Registers, stats.Stats.Stats}
+pub use Rattle.pie_event.specs.declared.{command.Answer.Answer, command.Command.Command, command.Event.Event, opening.Choices.Choices, opening.Limits.Limits, opening.Mode.Mode, opening.Opening.Opening, opening.Profile.Profile, refusal.OpenRefusal.OpenRefusal, registers.Registers.Registers, registers.Stats.Stats}
 pub use Rattle.pie_event.specs.declared.command.Answer.TheVariants.{Done, DroppedBytes, DroppedEarly, DroppedPackets, Empty, Enqueued, Left, Marked, Updated}
 pub use Rattle.pie_event.specs.declared.command.Command.TheVariants.{Arrive, Depart, Reset, SetParams, Update}
 pub use Rattle.pie_event.specs.declared.opening.Mode.TheVariants.{Bounded, Rolling}

@@ -1,23 +1,22 @@
 -- The work of all workers of a storm: it is gathered; no caller stopped early, since a history has no more events than
 -- there are commands; so the storm has the result of its plan.
 use Rattle.pie_storm.proofs.Names.{◌≡◌, ℕ, ◌+◌, ◌<◌, List, [], length, length-append, events_in, refl, ap, sym, ◌∙◌, subst, inl, inr, ⊎_elim, arith, dite, ℕ_discrete, Bool, true, false, ◌||◌, get_or, is_within, nat_tests, Extends, Event, number_of, EntriesLookBack, Entry, CallerView, LinkView, Plan, Work, calls_of, folder, opening_of, updater, IsOutcomeOf, HasNoMore, IsWell, IsWorkBelow, zero, suc, ◌≤◌, cond, ◌∷◌, ◌++◌, All, All-nil, All-cons, All-head, All-tail, own, own_none, entries_of, Call, IsSound, total, AreMade, ◌⊎◌, AreFolded, IsCutShort, None, Some, Ok, Err, Result, folded_events, senders, IsEndOf, IsFor, drop-append_seam, take-append_seam}
-use Rattle.pie_lock.specs.Promises.{IsBothOf}
-use Rattle.pie_lock.proofs.Seats.{goes_on, gone_on}
+use Rattle.pie_lock.specs.Rule.{IsBothOf, HasAllNumbers}
+use Rattle.pie_lock.proofs.Steps.{goes_on, gone_on}
 use Rattle.pie_storm.specs.declared.worker.Folding.{Folding}
 use Rattle.pie_storm.specs.Storms.{Begins, IsWorkOf, IsEntryOf, WasPassedOver, refusal_of}
 unfoldable use Rattle.pie_storm.specs.Storms.{HasFault}
 use Rattle.std.proofs.lemmas.List.Elements.{All-push}
 use native.Mathlib.Decide.{dec_le}
 use Rattle.std.specs.Result.{IfErr, IfOk}
-use Rattle.pie_lock.specs.Rule.{HasAllNumbers}
 use Rattle.pie_book.specs.Book.{BookView, BookRepresents}
-use Rattle.pie_book.specs.Statistics.{registers_after, stats_after}
+use Rattle.pie_book.specs.Decision.{registers_after, stats_after}
 use Rattle.pie_link.specs.Entries.{RepresentsEntries}
-use Rattle.pie_storm.specs.declared.storm_end.StormEnd.{StormEnd}
-use Rattle.pie_storm.specs.declared.storm_end.StormFault.{StormFault}
-use Rattle.pie_storm.specs.declared.storm_end.StormFault.TheVariants as fault
+use Rattle.pie_storm.specs.declared.run.StormEnd.{StormEnd}
+use Rattle.pie_storm.specs.declared.run.StormFault.{StormFault}
+use Rattle.pie_storm.specs.declared.run.StormFault.TheVariants as fault
 use Rattle.pie_storm.proofs.Making.{IsRight, few_made, folded_alone, folded_same, made_on, numbered, own_entry, stays}
-use Rattle.pie_storm.proofs.PlanFacts.{IsCallOf, calls_are, no_calls}
+use Rattle.pie_storm.proofs.StormFacts.{IsCallOf, calls_are, no_calls}
 
 -- with a sound plan and an open link, a storm fails only for lack of memory or of a thread
 pub run_fault : (plan : Plan) (result : Result StormEnd StormFault) → IsSound plan → refusal_of plan ≡ None

@@ -1,5 +1,4 @@
 mod Names
 mod Making
 mod Gathering
-mod PlanFacts
 mod StormFacts

@@ -7,7 +7,7 @@ use Rattle.pie_event.specs.declared.refusal.Refusal.TheVariants.{TooSoon, Moment
 use Rattle.pie_link.specs.Callers.{Answers, Folds, AnswersAll, AnswersWithin, IsTurn}
 use Rattle.pie_storm.specs.Storms.{IsEntryOf, TakenIn, WasPassedOver, added_by}
 use Rattle.pie_link.specs.Entries.{burst_within, entries_by, entries_within, refused_or_answered, replies_within, reply_in, refusal_in}
-use Rattle.pie_storm.proofs.PlanFacts.{IsCallOf, all_at, calls_are}
+use Rattle.pie_storm.proofs.StormFacts.{IsCallOf, all_at, calls_are}
 
 -- one more fold of the caller
 pub folded_more : (law : EntriesLookBack) (opening : Opening) (caller : ℕ) (g : List Entry) (n who : ℕ) → who ≡ caller

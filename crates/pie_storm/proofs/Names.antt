@@ -16,12 +16,12 @@ pub use Rattle.pie_event.specs.declared.opening.Opening.{Opening}
 pub use Rattle.pie_event.specs.declared.refusal.Refusal.{Refusal}
 pub use Rattle.pie_link.specs.Entries.{Reply, always, arrive, entries_of, events_in, folded_events, folded_for, number_of, tail_in}
 pub use Rattle.pie_link.specs.Headline.{EntriesLookBack}
-pub use Rattle.pie_link.specs.declared.arrival.Arrival.{Arrival}
+pub use Rattle.pie_link.specs.declared.entry.Arrival.{Arrival}
 pub use Rattle.pie_link.specs.declared.entry.Entry.{Entry}
 pub use Rattle.pie_link.specs.declared.entry.Entry.TheVariants.{Folded, Applied}
-pub use Rattle.pie_link.specs.declared.call_result.Told.{Told}
+pub use Rattle.pie_link.specs.declared.entry.Told.{Told}
 pub use Rattle.pie_link.specs.Callers.{CallerView, LinkView}
-pub use Rattle.pie_lock.proofs.Seats.{NoneOwn, goes_on_itself, gone_on, own_none}
+pub use Rattle.pie_lock.proofs.Steps.{NoneOwn, goes_on_itself, gone_on, own_none}
 pub use Rattle.pie_lock.specs.Rule.{is_within, own, Extends}
 pub use Rattle.pie_storm.specs.Plans.{IsFair, IsSound, arriving, changing, departing, folder, opening_of, senders, total, updater, updating, arrivals_of, list_in, planned_arrival, sender_words, words_of}
 unfoldable pub use Rattle.pie_storm.specs.Plans.{calls_of, words_after}

@@ -7,7 +7,7 @@ use Rattle.pie_event.specs.declared.opening.Mode.TheVariants.{Bounded}
 use Rattle.pie_event.specs.declared.opening.Opening.{Opening}
 use Rattle.pie_event.specs.Event.{last_moment, caller_moment}
 use Rattle.pie_book.specs.Decision.{has_bad_size}
-use Rattle.pie_link.specs.declared.arrival.Arrival.{Arrival}
+use Rattle.pie_link.specs.declared.entry.Arrival.{Arrival}
 use Rattle.pie_link.specs.Entries.{arrive}
 use Rattle.pie_storm.specs.declared.plan.Call.{Call}
 use Rattle.pie_storm.specs.declared.plan.Call.TheVariants.{Apply, Fold}
@@ -20,10 +20,10 @@ use Rattle.rand_pcg.specs.Lcg.{Lcg, increment_of, started}
 use Rattle.rand_pcg.specs.Pcg.{multiplier_128, pcg64}
 use Rattle.pie_queue.specs.declared.ecn.Ecn.{Ecn}
 use Rattle.pie_queue.specs.declared.ecn.Ecn.TheVariants.{NotEct, Ect1, Ect0, Ce}
-use Rattle.pie_event.specs.declared.profile.Profile.TheVariants.{One}
+use Rattle.pie_event.specs.declared.opening.Profile.TheVariants.{One}
 use Rattle.pie_params.specs.Params.{usual, default_profile}
 use Rattle.pie_params.specs.declared.raw.RawParams.{RawParams}
-use Rattle.pie_storm.specs.declared.plan_numbers.StormNumbers.{StormNumbers}
+use Rattle.pie_storm.specs.declared.plan.StormNumbers.{StormNumbers}
 
 -- the opening of the link: its book is bounded
 abbrev pub opening_of : Plan → Opening

@@ -11,18 +11,17 @@ use Rattle.pie_event.specs.declared.refusal.Refusal.{Refusal}
 use Rattle.pie_event.specs.declared.refusal.Refusal.TheVariants.{TooSoon}
 use Rattle.pie_event.specs.declared.refusal.FoldRefusal.{FoldRefusal}
 use Rattle.pie_event.specs.declared.refusal.FoldRefusal.TheVariants.{TooMany, Memory}
-use Rattle.pie_link.specs.declared.call_result.Told.{Told}
-use Rattle.pie_book.specs.Decision.{IsLegal, refusal_by_rule}
-use Rattle.pie_book.specs.Statistics.{registers_after, stats_after}
+use Rattle.pie_link.specs.declared.entry.Told.{Told}
+use Rattle.pie_book.specs.Decision.{IsLegal, refusal_by_rule, registers_after, stats_after}
 use Rattle.pie_link.specs.declared.entry.Entry.{Entry}
 use Rattle.pie_link.specs.declared.entry.Entry.TheVariants.{Applied, Folded}
 use Rattle.pie_link.specs.Entries.{entries_of, events_in, folded_events, folded_for, number_of, tail_in}
 use Rattle.pie_link.specs.Headline.{IsRefusedFor, IsWantOfMemory, link_refusal}
 use Rattle.pie_link.specs.Callers.{LinkView, CallerView}
-use Rattle.pie_link.specs.declared.refusal.LinkRefusal.{LinkRefusal}
-use Rattle.pie_storm.specs.declared.storm_end.StormEnd.{StormEnd}
-use Rattle.pie_storm.specs.declared.storm_end.StormFault.{StormFault}
-use Rattle.pie_storm.specs.declared.storm_end.StormFault.TheVariants as fault
+use Rattle.pie_link.specs.declared.entry.LinkRefusal.{LinkRefusal}
+use Rattle.pie_storm.specs.declared.run.StormEnd.{StormEnd}
+use Rattle.pie_storm.specs.declared.run.StormFault.{StormFault}
+use Rattle.pie_storm.specs.declared.run.StormFault.TheVariants as fault
 use Rattle.pie_storm.specs.declared.plan.Plan.{Plan}
 use Rattle.pie_storm.specs.declared.plan.Call.{Call}
 use Rattle.pie_storm.specs.declared.plan.Call.TheVariants.{Apply, Fold}

@@ -9,21 +9,16 @@
 //! Not promised: that a thread runs, that a storm ends, or the order of the calls of two callers.
 #![tactic(auto)]
 
-mod gate;
 mod pace;
 mod plan;
-mod plan_numbers;
 mod planned_storm;
 mod planning;
 mod run;
-mod storm_end;
 mod worker;
 
-pub use gate::{Gate, NoGate};
+pub use pace::{Gate, NoGate};
 pub use pie_link::Arrival;
-pub use plan::{Call, Change, LONGEST_BURST, Plan};
-pub use plan_numbers::StormNumbers;
+pub use plan::{Call, Change, LONGEST_BURST, Plan, StormNumbers};
 pub use planned_storm::{MadeStorm, make_storm, write_storm};
 pub use planning::storm_plan;
-pub use run::storm;
-pub use storm_end::{StormEnd, StormFault};
+pub use run::{StormEnd, StormFault, storm};

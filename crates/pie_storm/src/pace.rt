@@ -1,9 +1,8 @@
 //! The pace of a storm: its callers start together, and none runs far ahead of another.
-
+//! The gate that a storm's workers pass before and after each call.
 ghost use Rattle.std.specs.Prelude.{◌≡◌, ◌≤◌, ◌<◌, ◌+◌, ◌-◌, ◌*◌, ◌/◌, ◌^◌, ◌↔◌, ◌⊎◌, [], IsTrue, max};
 ghost use Rattle.pie_storm.specs.Plans.{calls_of};
 
-use crate::gate::Gate;
 use crate::plan::{Call, Plan};
 use std::array::from_fn;
 use std::io;
@@ -164,4 +163,23 @@ impl<C: Clock> Gate for Pace<'_, C> {
         let moment = self.moment(caller, call.saturating_add(1));
         self.publish(caller, moment);
     }
+}
+
+/// A gate that watches or delays a storm's workers (this project's own). Tests delay a worker with it.
+pub trait Gate {
+    /// Runs before caller `caller` makes its call number `call`, counted from 1.
+    fn before(&self, caller: u16, call: u64);
+
+    /// Runs after caller `caller` made its call number `call`, counted from 1.
+    fn after(&self, caller: u16, call: u64);
+}
+
+/// A gate that does nothing.
+#[derive(Clone, Copy, Debug)]
+pub struct NoGate;
+
+impl Gate for NoGate {
+    fn before(&self, _caller: u16, _call: u64) {}
+
+    fn after(&self, _caller: u16, _call: u64) {}
 }

@@ -1,7 +1,7 @@
 //! The plan of a storm.
+//! The numbers of a storm.
 ghost use Rattle.std.specs.Prelude.{◌≡◌, ◌≤◌, ◌^◌, ◌-◌, ◌↔◌, IsTrue, All, Option, drop, length, map, min, slice_get, take, ◌+◌};
-ghost use Rattle.pie_storm.specs.Plans.{IsMoment, IsSoundArrival, IsSound, arriving, calls_after_senders, calls_of, changing, opening_of, planned};
-ghost use Rattle.pie_storm.specs.Plans.{senders, turn_of};
+ghost use Rattle.pie_storm.specs.Plans.{IsMoment, IsSoundArrival, IsSound, arriving, calls_after_senders, calls_of, changing, opening_of, planned, senders, turn_of};
 
 use pie_book::{Choices, Command, Elements, Limits, Mode, Opening, Profile};
 use pie_fixed::MAX_NANOS;
@@ -93,7 +93,7 @@ fn are_moments(moments: &[u64]) -> bool
 
 impl Plan {
     // Returns the number of commands, at most `2^64 - 1`.
-    #[tactic(auto, using(crate::proofs::PlanFacts::total_more))]
+    #[tactic(auto, using(crate::proofs::StormFacts::total_more))]
     fn planned(&self) -> u64
         requires { senders self.now ≤ 8 }
         ensures { result ≡ min (planned self.now) (2 ^ 64 - 1) }
@@ -248,4 +248,27 @@ fn part(arrivals: &[Arrival], k: usize, count: usize) -> &[Arrival]
     ensures { result.now ≡ take count (drop k arrivals.now) }
 {
     &arrivals[k..k + count]
+}
+
+/// The numbers from which a storm is planned, and the choices of its book (this project's own).
+#[derive(Clone, Copy)]
+pub struct StormNumbers {
+    /// The number of senders, 2 to 8.
+    pub senders: u16,
+    /// The number of packets of each sender, 1 to 10,000.
+    pub packets: u32,
+    /// The number of arrivals that a sender makes in one call, 1 to 1024.
+    pub burst: u16,
+    /// The seed of the senders' random words.
+    pub seed: u64,
+    /// The load: arriving packets for each hundred that the link sends, 50 to 200.
+    pub load: u64,
+    /// The number of changes of the parameters, 0 to 100.
+    pub changes: u64,
+    /// The number of folds, 0 to 100.
+    pub folds: u64,
+    /// The profile of the controller.
+    pub profile: Profile,
+    /// The optional elements (RFC 8033, section 5).
+    pub elements: Elements,
 }

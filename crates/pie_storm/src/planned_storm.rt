@@ -1,19 +1,16 @@
 //! Making a storm from its numbers, and auditing and writing its history.
 ghost use Rattle.std.specs.Prelude.{◌≡◌, IfErr, IfOk, OnOk, map};
-ghost use Rattle.pie_book.specs.Decision.{IsLegal};
+ghost use Rattle.pie_book.specs.Decision.{IsLegal, registers_after, stats_after};
 ghost use Rattle.pie_record.specs.declared.history_record.Line.TheVariants.{Valid};
 ghost use Rattle.pie_audit.specs.Replay.{Audits};
 ghost use Rattle.pie_storm.specs.Plans.{opening_of, HasStormRange, IsStormPlan};
-ghost use Rattle.pie_book.specs.Statistics.{registers_after, stats_after};
 ghost use Rattle.pie_record.specs.Field.{IsWriteOrMemory};
 ghost use Rattle.pie_storm.specs.Storms.{CanStop, HasFault, IsEndOf, IsStorm, WritesHistory};
 
 use crate::pace::Pace;
-use crate::plan::Plan;
-use crate::plan_numbers::StormNumbers;
+use crate::plan::{Plan, StormNumbers};
 use crate::planning::plan_of;
-use crate::run::storm;
-use crate::storm_end::{StormEnd, StormFault};
+use crate::run::{StormEnd, StormFault, storm};
 use pie_audit::{Auditor, Finding};
 use pie_book::{Event, OpenRefusal, Opening};
 use pie_record::{Line, TraceFault};

@@ -3,8 +3,7 @@ ghost use Rattle.std.specs.Prelude.{◌≡◌, ◌+◌, ◌*◌, ◌/◌, ◌^�
 ghost use Rattle.std.specs.List.{range_with_len};
 ghost use Rattle.pie_storm.specs.Plans.{IsStormPlan, after_three, arrival_by, arrivals_of, change_at, changes_of, departs_of, ecn_of, HasStormRange, usual_storm, folds_of, list_in, moment_of, params_at, updates_of, words_of};
 
-use crate::plan::{Change, Plan};
-use crate::plan_numbers::StormNumbers;
+use crate::plan::{Change, Plan, StormNumbers};
 use pie_book::{Elements, Limits, Profile};
 use pie_link::Arrival;
 use pie_params::{Params, RawParams};
@@ -38,7 +37,7 @@ fn ecn_of(bits: u64) -> Ecn
 }
 
 /// Returns a product of small numbers. Its bound is no product, so that callers need not bound one.
-#[tactic(auto, using(crate::proofs::PlanFacts::small_product))]
+#[tactic(auto, using(crate::proofs::StormFacts::small_product))]
 fn product(count: u64, by: u64) -> u64
     requires count { count ≤ 2 ^ 40 }
     requires by { by ≤ 2 ^ 14 }
@@ -49,7 +48,7 @@ fn product(count: u64, by: u64) -> u64
 }
 
 /// Returns the moment of a sender's packet, counted from 0: that of the last packet of its burst.
-#[tactic(auto, using(crate::proofs::PlanFacts::small_quotient))]
+#[tactic(auto, using(crate::proofs::StormFacts::small_quotient))]
 fn moment_of(packets: u64, burst: u64, i: u64) -> u64
     requires some { 1 ≤ burst }
     requires burst { burst ≤ 1024 }
@@ -105,7 +104,7 @@ fn arrivals_of(
 }
 
 /// Returns the arrivals of each sender.
-#[tactic(auto, using(crate::proofs::PlanFacts::lists_push))]
+#[tactic(auto, using(crate::proofs::StormFacts::lists_push))]
 fn all_arrivals(
     alloc: Global,
     senders: u64,

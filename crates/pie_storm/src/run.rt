@@ -1,26 +1,27 @@
 //! The storm: a link under many threads at once.
+//! The end of a storm.
 ghost use Rattle.std.specs.Prelude.{◌≡◌, ◌+◌, ◌↔◌, ◌++◌, ◌⊎◌, ℕ, List, Some, Err, IfSome, IfOk, IfErr, length};
 ghost use denote.Param.Send.{IsSync};
 ghost use Rattle.pie_event.specs.declared.command.Event.{Event};
 ghost use Rattle.pie_book.specs.Book.{BookRepresents};
-ghost use Rattle.pie_book.specs.Statistics.{registers_after, stats_after};
+ghost use Rattle.pie_book.specs.Decision.{registers_after, stats_after};
 ghost use Rattle.pie_storm.specs.declared.plan.Plan.{Plan};
 ghost use Rattle.pie_link.specs.Entries.{number_of};
-ghost use Rattle.pie_link.specs.declared.refusal.LinkRefusal.{LinkRefusal};
+ghost use Rattle.pie_link.specs.declared.entry.LinkRefusal.{LinkRefusal};
 ghost use Rattle.pie_storm.specs.Plans.{IsSound, senders, updater};
 ghost use Rattle.pie_storm.specs.Storms.{Begins, HasFault, IsEndOf, IsFor, IsWell, IsWorkBelow, IsWorkOf, refusal_of};
-ghost use Rattle.pie_lock.specs.Promises.{IsBothOf, first_pass};
+ghost use Rattle.pie_lock.specs.Rule.{IsBothOf, first_pass};
 
-use crate::gate::Gate;
+use crate::pace::Gate;
 use crate::plan::Plan;
-use crate::storm_end::{StormEnd, StormFault};
 use crate::worker::{Folding, Work, make_calls};
-use pie_book::{Book, Event, Recorded};
+use pie_book::{Book, Event, Recorded, Registers, Stats};
 use pie_link::{Caller, Link, LinkRefusal};
 use std::alloc::Global;
 use std::sync::Wait;
 use std::thread;
 use std::thread::{Promise, PromisedHandle, Scope, Threads};
+use thiserror::Error;
 
 // A worker, and its promise: it makes all calls of the caller with this number.
 #[derive(Clone, Copy)]
@@ -283,7 +284,7 @@ fn end_of(
 }
 
 // Returns the folded events, followed by the log of the closed book, if none is missing and there is memory for all.
-#[tactic(auto, using(crate::proofs::PlanFacts::taken_whole))]
+#[tactic(auto, using(crate::proofs::StormFacts::taken_whole))]
 fn all_events(alloc: Global, book: &mut Book, folding: &mut Folding) -> Option<Vec<Event>>
     ensures events { IfSome result (λ events. events.items ≡ folding.old.events.items ++ book.old.tail) }
     ensures well { IfSome result (λ _. IsWell folding.old) }
@@ -303,4 +304,45 @@ fn all_events(alloc: Global, book: &mut Book, folding: &mut Folding) -> Option<V
         Ok(events) => Some(events),
         Err(_) => None,
     }
+}
+
+/// The result of a storm (this project's own).
+#[derive(Drop)]
+pub struct StormEnd {
+    /// All events, in the order in which the link recorded them.
+    pub events: Vec<Event>,
+    /// The number of folded events: the first ones. The others were in the event log at the end.
+    pub folded: u64,
+    /// The number of planned updates that were refused as too soon and skipped.
+    pub too_soon: u64,
+    /// The number of planned folds that were refused, because the log had fewer events, and skipped.
+    pub too_many: u64,
+    /// The registers at the end.
+    pub registers: Registers,
+    /// The statistics of all events.
+    pub stats: Stats,
+}
+
+/// The reason why a storm has no result (this project's own). The first of these is returned: `BadPlan`, `Opening`,
+/// `Thread`, `Memory`. `Gap` never occurs. Nothing of the run is kept.
+#[derive(Clone, Copy, Debug, PartialEq, Eq, Error)]
+pub enum StormFault {
+    /// The plan has fewer than 2 or more than 8 senders, bursts outside 1 to 1024 arrivals, a moment above `2^60 - 1`,
+    /// or an arrival whose size is outside 1 to 65535 bytes; or its limits have no room for all arrivals, departures,
+    /// updates and changes.
+    #[error("the plan is not sound")]
+    BadPlan,
+    /// The link was not opened.
+    #[error("{0}")]
+    Opening(LinkRefusal),
+    /// Out of memory for the events, or for the results of a burst.
+    #[error("out of memory")]
+    Memory,
+    /// A worker's thread was not started.
+    #[error("a thread could not be started")]
+    Thread,
+    /// Events are missing between the folded events and the log. No storm returns it: that no event is missing is
+    /// proved.
+    #[error("the folds leave a gap")]
+    Gap,
 }

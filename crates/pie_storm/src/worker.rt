@@ -4,7 +4,7 @@ ghost use Rattle.pie_link.specs.Callers.{Answers, HasSameNumbers};
 ghost use Rattle.pie_storm.specs.Plans.{calls_of, senders, turn_of};
 ghost use Rattle.pie_storm.specs.Storms.{AddedByAll, Begins, IsAt, IsFor, IsWell, IsWorkOf, TakenIn, TakesTurn, added_by};
 
-use crate::gate::Gate;
+use crate::pace::Gate;
 use crate::plan::{Call, Plan};
 use pie_book::{Answer, Command, FoldRefusal, Recorded, Refusal};
 use pie_link::{Caller, Link, Told};

@@ -2,7 +2,7 @@
 use Rattle.std.specs.Prelude.{ℕ, ◌-◌, ◌&&◌, nat_lt, min, if◌then◌else◌, Bool, true, false, List, [], ◌∷◌, ◌++◌, length, map, slice_index, ◌≡◌, None, Option, Some, option_map}
 use Rattle.std.specs.List.{filter_map, sum}
 use Rattle.std.specs.Option.{option_and}
-use Rattle.pie_event.specs.declared.cause_name.CauseName.{CauseName}
+use Rattle.pie_event.specs.declared.cause.CauseName.{CauseName}
 use Rattle.pie_aqm.specs.History.{Place, greatest, last_or, places, up_to}
 use Rattle.pie_event.specs.Cause.{name_of, place_of_cause}
 use Rattle.pie_event.specs.declared.command.Command.{Command}

@@ -4,7 +4,7 @@ ghost use Rattle.pie_explain.specs.declared.explanation.Explained.{Explained};
 ghost use Rattle.pie_queue.specs.declared.packet.Packet.{Packet};
 ghost use Rattle.pie_event.specs.declared.command.Answer.TheVariants.{Done, Empty, Left, Updated};
 ghost use Rattle.pie_event.specs.Cause.{name_of, answer_of};
-ghost use Rattle.pie_event.specs.declared.verdict.Verdict.{Verdict};
+ghost use Rattle.pie_event.specs.declared.command.Verdict.{Verdict};
 ghost use Rattle.pie_summary.specs.Sums.{HasConditions, answer_place, cause_of, meter_input_by, meter_input_of, size_by, size_in, turned_at};
 
 use pie_book::{Answer, Cause, Command};

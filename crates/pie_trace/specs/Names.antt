@@ -2,7 +2,7 @@
 pub use Rattle.pie_audit.specs.{Text.text_finding, declared.auditor.Finding.TheVariants.Clean}
 pub use Rattle.pie_book.specs.{Book.BookRepresents, Book.BookView, Core.CoreView, Core.Represents, Core.core_after, Core.registers_of, Book.Progress, Book.Step, Book.fold_outcome, Book.outcome, Book.start, Book.apply_in, Statistics.stats_after}
 pub use Rattle.pie_event.specs.Event.{opening_refusal}
-pub use Rattle.pie_event.specs.declared.{command.Answer.Answer, command.Event.Event, opening.Opening.Opening, refusal.FoldRefusal.FoldRefusal, refusal.Refusal.Refusal, registers.Registers.Registers, stats.Stats.Stats}
+pub use Rattle.pie_event.specs.declared.{command.Answer.Answer, command.Event.Event, opening.Opening.Opening, refusal.FoldRefusal.FoldRefusal, refusal.Refusal.Refusal, registers.Registers.Registers, registers.Stats.Stats}
 pub use Rattle.pie_event.specs.declared.opening.Mode.TheVariants.{Bounded, Rolling}
 pub use Rattle.pie_excerpt.specs.{Beginning.Beginning, Beginning.Continues, Beginning.begun_by_opening, Preamble.queued_row}
 pub use Rattle.pie_record.specs.{Command.code_of, Command.code_of_fold, Command.code_of_params, Field.IsWriteOrMemory, Field.NoIoOrMemoryFailed, Field.after_flush, Field.fault_at, Field.is_io_or_memory, Field.and_then, Field.is_kind, ReadBack.Begins, ReadBack.IsHistoryText, Text.HasField, Text.Row, Text.records_of, Text.text_of, Write.command_fields, Write.version_two_row}

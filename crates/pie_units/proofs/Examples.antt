@@ -2,17 +2,17 @@
 -- tests/program/moments.py has times, and tests/program/wall.py wall-clock times.
 use Rattle.std.proofs.Common.{◌≡◌, ◌^◌, codes, refl, ◌+◌, ◌*◌, ℕ, zero, suc, List, [], ◌∷◌, map, if◌then◌else◌}
 use Rattle.std.specs.Prelude.{Ok, Err, ⊤}
-use Rattle.pie_units.specs.declared.unit.Quantity.TheVariants.{Rate, Size, Packets, Time}
+use Rattle.pie_units.specs.declared.number.Quantity.TheVariants.{Rate, Size, Packets, Time}
 use Rattle.pie_units.specs.declared.number.UnitFault.TheVariants.{NotANumber, TooPrecise}
 use Rattle.pie_units.specs.Number.{is_word, prefix_scale, rate_scale, size_scale, time_scale, digit_count, number_after, value_of, packets_of, rate_of, time_of}
-use Rattle.pie_units.specs.declared.option_units.OptionFault.TheVariants.{NoRate, Unread, NotBytes}
+use Rattle.pie_units.specs.declared.options.OptionFault.TheVariants.{NoRate, Unread, NotBytes}
 use Rattle.pie_units.specs.Opening.{gain_of, overhead_of, size_on_link}
 use Rattle.pie_units.specs.declared.layer.Layer.{Layer}
 use Rattle.pie_units.specs.declared.layer.LinkLayer.TheVariants.{Atm, Ethernet}
 use Rattle.pie_units.specs.declared.layer.Overhead.{Overhead}
 use Rattle.pie_units.specs.declared.layer.Overhead.TheVariants.{Added, Removed}
 use Rattle.std.specs.List.{flat_map, range_with_len}
-use Rattle.pie_units.specs.declared.date.Date.{Date}
+use Rattle.pie_units.specs.declared.utc.Date.{Date}
 use Rattle.pie_units.specs.Time.{date_in, date_of, day_number, days_in_month, is_leap, year_among, year_day}
 
 -- the definitions that computing a value unfolds

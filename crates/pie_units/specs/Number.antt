@@ -2,15 +2,15 @@
 -- packets.
 use Rattle.std.specs.Prelude.{ℕ, ◌-◌, ◌*◌, ◌^◌, ◌||◌, Bool, List, length, take, drop, Option, Some, None, if◌then◌else◌, codes, ◌+◌, ◌/◌, ◌%◌, ◌==◌, ◌&&◌, [], ◌∷◌, ◌++◌, fold, Result, Ok, Err, nat_lt}
 use Rattle.std.specs.Str.{str_eq_ignore_ascii_case}
-use Rattle.pie_units.specs.declared.unit.Quantity.{Quantity}
-use Rattle.pie_units.specs.declared.unit.Quantity.TheVariants.{Moment, Time, Rate, Size, Packets}
+use Rattle.pie_units.specs.declared.number.Quantity.{Quantity}
+use Rattle.pie_units.specs.declared.number.Quantity.TheVariants.{Moment, Time, Rate, Size, Packets}
 use Rattle.std.specs.Char.{is_ascii_digit}
 use Rattle.std.specs.List.{prefix_len}
 use Rattle.pie_units.specs.declared.number.UnitFault.{UnitFault}
 use Rattle.pie_units.specs.declared.number.UnitFault.TheVariants.{NotANumber, TooPrecise, TooGreat}
 use Rattle.std.specs.Result.{result_map_both}
-use Rattle.pie_units.specs.declared.option_units.OptionFault.{OptionFault}
-use Rattle.pie_units.specs.declared.option_units.OptionFault.TheVariants.{Unread, NoRate}
+use Rattle.pie_units.specs.declared.options.OptionFault.{OptionFault}
+use Rattle.pie_units.specs.declared.options.OptionFault.TheVariants.{Unread, NoRate}
 
 -- true if a text is this word, with letters of any case
 unfoldable pub is_word : List ℕ → List ℕ → Bool

@@ -7,8 +7,8 @@ use Rattle.pie_units.specs.declared.layer.LinkLayer.{LinkLayer}
 use Rattle.pie_units.specs.declared.layer.LinkLayer.TheVariants.{Atm, Ethernet}
 use Rattle.pie_units.specs.declared.layer.Overhead.{Overhead}
 use Rattle.pie_units.specs.declared.layer.Overhead.TheVariants.{Added, Removed}
-use Rattle.pie_units.specs.declared.option_units.OptionFault.{OptionFault}
-use Rattle.pie_units.specs.declared.option_units.OptionFault.TheVariants.{NotBytes}
+use Rattle.pie_units.specs.declared.options.OptionFault.{OptionFault}
+use Rattle.pie_units.specs.declared.options.OptionFault.TheVariants.{NotBytes}
 use Rattle.pie_params.specs.declared.elements.Delay.TheVariants.{Rate, Stamp}
 use Rattle.pie_params.specs.declared.elements.Elements.{Elements}
 use Rattle.pie_params.specs.declared.elements.Picking.TheVariants.{Derandomized, Random}
@@ -16,7 +16,7 @@ use Rattle.pie_params.specs.declared.elements.Size.TheVariants.{Scaled, Unscaled
 use Rattle.pie_params.specs.declared.elements.Step.TheVariants.{Capped, Uncapped}
 use Rattle.pie_params.specs.declared.raw.RawParams.{RawParams}
 use Rattle.pie_params.specs.Params.{default_profile, profile_for}
-use Rattle.pie_event.specs.declared.profile.Profile.TheVariants.{One}
+use Rattle.pie_event.specs.declared.opening.Profile.TheVariants.{One}
 use Rattle.pie_event.specs.declared.opening.Mode.TheVariants.{Rolling}
 use Rattle.pie_event.specs.declared.opening.Opening.{Opening}
 use Rattle.pie_units.specs.declared.options.TuningOptions.{TuningOptions}

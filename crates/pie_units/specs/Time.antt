@@ -1,6 +1,6 @@
 -- Dates, wall-clock times in UTC, moments, and bounds of moments in human-readable form.
 use Rattle.std.specs.Prelude.{ℕ, ◌+◌, ◌-◌, ◌*◌, ◌/◌, ◌%◌, ◌==◌, ◌&&◌, ◌||◌, not, nat_lt, Bool, if◌then◌else◌, ◌^◌, min, List, [], ◌++◌, length, take, drop, slice_index, replicate, Option, Some, None, Result, Ok, Err, codes, ◌≡◌}
-use Rattle.pie_units.specs.declared.date.Date.{Date}
+use Rattle.pie_units.specs.declared.utc.Date.{Date}
 use Rattle.std.specs.Fmt.{decimal}
 use Rattle.std.specs.Option.{option_and_then}
 use Rattle.std.specs.Str.{bytes_eq}
@@ -9,16 +9,16 @@ use Rattle.pie_units.specs.declared.utc.UtcFault.{UtcFault}
 use Rattle.pie_units.specs.declared.utc.UtcFault.TheVariants.{NotUtc, OutOfRange}
 use Rattle.pie_units.specs.Number.{decimals_in, digit_count, number_after, parts_of, unit_in, value_of}
 use Rattle.std.specs.Result.{result_map_both}
-use Rattle.pie_units.specs.declared.moment.Moment.{Moment as Moment}
-use Rattle.pie_units.specs.declared.moment.MomentFault.{MomentFault}
-use Rattle.pie_units.specs.declared.moment.MomentFault.TheVariants.{NotAMoment, TooFine, TooLate}
-use Rattle.pie_units.specs.declared.unit.Quantity.TheVariants.{Moment as AMoment}
+use Rattle.pie_units.specs.declared.utc.Moment.{Moment as Moment}
+use Rattle.pie_units.specs.declared.utc.MomentFault.{MomentFault}
+use Rattle.pie_units.specs.declared.utc.MomentFault.TheVariants.{NotAMoment, TooFine, TooLate}
+use Rattle.pie_units.specs.declared.number.Quantity.TheVariants.{Moment as AMoment}
 use Rattle.pie_units.specs.declared.number.UnitFault.{UnitFault}
 use Rattle.pie_units.specs.declared.number.UnitFault.TheVariants.{NotANumber, TooPrecise, TooGreat}
-use Rattle.pie_units.specs.declared.when.When.{When}
-use Rattle.pie_units.specs.declared.when.When.TheVariants as when
-use Rattle.pie_units.specs.declared.when.WhenFault.{WhenFault}
-use Rattle.pie_units.specs.declared.when.WhenFault.TheVariants as fault
+use Rattle.pie_units.specs.declared.utc.When.{When}
+use Rattle.pie_units.specs.declared.utc.When.TheVariants as when
+use Rattle.pie_units.specs.declared.utc.WhenFault.{WhenFault}
+use Rattle.pie_units.specs.declared.utc.WhenFault.TheVariants as fault
 
 -- ---- Dates of the Gregorian calendar. Years begin on 1 March here, so that a leap day is the last of its year:
 -- 0000-03-01 is 719468 days before 1970-01-01.

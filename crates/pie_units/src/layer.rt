@@ -3,7 +3,7 @@ ghost use Rattle.std.specs.Prelude.{◌≡◌, ◌≤◌, ◌<◌, ◌^◌};
 ghost use Rattle.pie_units.specs.Opening.{bytes_of, entry_at, overhead_of, size_on_link, with_overhead};
 
 use crate::number::{digit_count, number_after};
-use crate::option_units::OptionFault;
+use crate::options::OptionFault;
 
 /// The overhead of a link: the bytes that it adds to each packet, or those that it does not send.
 #[derive(Clone, Copy, Debug, PartialEq, Eq)]

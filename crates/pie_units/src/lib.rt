@@ -12,27 +12,16 @@
 //! it (`size_on_link`).
 #![tactic(auto)]
 
-mod date;
 mod layer;
-mod moment;
 mod number;
-mod opening;
-mod option_units;
 mod options;
-mod unit;
 mod utc;
-mod when;
 
-pub use date::{Date, date_of};
 pub use layer::{Layer, LinkLayer, Overhead, overhead_of};
-pub use moment::{Moment, MomentFault};
-pub use number::{UnitFault, read};
-pub use opening::{opening_for, write_opening};
-pub use option_units::{OptionFault, packets_of, rate_of, time_of};
+pub use number::{Quantity, UnitFault, read};
 pub use options::{
-    TuningOptions, can_stall, default_packets, drops_bursts, elements_for, gain_of,
-    is_above_a_second, is_short, params_for,
+    OptionFault, TuningOptions, can_stall, default_packets, drops_bursts, elements_for, gain_of,
+    is_above_a_second, is_short, opening_for, packets_of, params_for, rate_of, time_of,
+    write_opening,
 };
-pub use unit::Quantity;
-pub use utc::{Utc, UtcFault};
-pub use when::{When, WhenFault};
+pub use utc::{Date, Moment, MomentFault, Utc, UtcFault, When, WhenFault, date_of};

@@ -1,9 +1,21 @@
 //! Options of `tc` (`TuningOptions`), with their parameters and optional elements.
-ghost use Rattle.std.specs.Prelude.{◌≡◌, ◌≤◌, ◌*◌, nat_lt};
-ghost use Rattle.pie_units.specs.Opening.{can_stall, default_packets, drops_bursts, elements_for, gain_of, is_above_a_second, params_for};
+//! Numbers of `tc`'s options, with units: `20ms`, `100mbit`, `1000p`.
+//! The first record of a history, from parameters and choices.
+ghost use Rattle.std.specs.Prelude.{◌≡◌, ◌≤◌, ◌*◌, nat_lt, OnOk};
+ghost use Rattle.pie_units.specs.Opening.{can_stall, default_packets, drops_bursts, elements_for, gain_of, is_above_a_second, params_for, opening_for};
+ghost use Rattle.pie_units.specs.Number.{packets_of, rate_of, time_of, option_number};
+ghost use Rattle.std.specs.Io.KnownBytes.{Appends};
+ghost use Rattle.pie_record.specs.Text.{text_of};
+ghost use Rattle.pie_record.specs.Write.{opening_row};
 
 use crate::layer::{Layer, size_on_link};
+use crate::number::{Quantity, UnitFault, read};
+use pie_event::{Choices, Limits, Mode, Opening, Profile};
 use pie_params::{Decay, Delay, Elements, Params, Picking, RawParams, Size, Step};
+use pie_text::{RowBuffer, put_opening};
+use std::io::Write;
+use std::{fmt, io};
+use thiserror::Error;
 
 /// The options of a queue.
 #[derive(Clone, Copy)]
@@ -148,4 +160,127 @@ pub fn can_stall(tuning: &TuningOptions, params: &RawParams) -> bool
     tuning.dq_rate_estimator
         && tuning.rate != 0
         && wanted < u128::from(params.dq_threshold) * 16_000_000_000
+}
+
+/// The reason why the text of an option is not a number of its kind. Its message follows the option's name.
+#[derive(Clone, Copy, Debug, PartialEq, Eq, Error)]
+pub enum OptionFault {
+    /// The text is not a number of this kind.
+    Unread(Quantity, UnitFault),
+    /// The rate is 0.
+    NoRate,
+    /// The text is not a whole number from -65535 to 65535.
+    NotBytes,
+}
+
+impl OptionFault {
+    /// Returns the message of the fault.
+    fn text(self) -> &'static str {
+        match self {
+            OptionFault::Unread(Quantity::Time, UnitFault::NotANumber) =>
+                "must be a number with ns, us, ms or s, such as 20ms",
+            OptionFault::Unread(Quantity::Rate, UnitFault::NotANumber) =>
+                "must be a number with bit, kbit, mbit, gbit or tbit, or with bps, kbps and so on, such as 100mbit",
+            OptionFault::Unread(_, UnitFault::NotANumber) =>
+                "must be a number of packets, such as 1000p",
+            OptionFault::Unread(Quantity::Time, UnitFault::TooPrecise) =>
+                "must be a whole number of nanoseconds",
+            OptionFault::Unread(Quantity::Rate, UnitFault::TooPrecise) =>
+                "must be a whole number of bits per second",
+            OptionFault::Unread(_, UnitFault::TooPrecise) => "must be a whole number of packets",
+            OptionFault::Unread(_, UnitFault::TooGreat) =>
+                "must be at most 1152921504606846975 nanoseconds, bits per second or packets",
+            OptionFault::NoRate => "must be at least 1bit",
+            OptionFault::NotBytes => "must be a whole number of bytes, -65535 to 65535",
+        }
+    }
+}
+
+impl fmt::Display for OptionFault {
+    fn fmt<W: fmt::Write>(&self, f: &mut fmt::Formatter<W>) -> fmt::Result {
+        f.write_str(self.text())
+    }
+}
+
+/// Parses a number of this kind.
+fn option_number(kind: Quantity, text: &str) -> Result<u64, OptionFault>
+    ensures { result ≡ option_number kind text.now }
+{
+    match read(kind, text.as_bytes()) {
+        Ok(number) => Ok(number),
+        Err(why) => Err(OptionFault::Unread(kind, why)),
+    }
+}
+
+/// Parses a time such as `20ms` or `1.5ms`, in nanoseconds, at most 2^60 - 1.
+///
+/// # Errors
+///
+/// Returns `Unread` with the fault of `read`.
+pub fn time_of(text: &str) -> Result<u64, OptionFault>
+    ensures { result ≡ time_of text.now }
+{
+    option_number(Quantity::Time, text)
+}
+
+/// Parses a rate such as `100mbit`, in bits per second, 1 to 2^60 - 1.
+///
+/// # Errors
+///
+/// Returns `Unread` with the fault of `read`, or `NoRate` if the rate is 0.
+pub fn rate_of(text: &str) -> Result<u64, OptionFault>
+    ensures { result ≡ rate_of text.now }
+{
+    match option_number(Quantity::Rate, text) {
+        Ok(0) => Err(OptionFault::NoRate),
+        rate => rate,
+    }
+}
+
+/// Parses a number of packets such as `1000p` or `1000`, at most 2^60 - 1.
+///
+/// # Errors
+///
+/// Returns `Unread` with the fault of `read`.
+pub fn packets_of(text: &str) -> Result<u64, OptionFault>
+    ensures { result ≡ packets_of text.now }
+{
+    option_number(Quantity::Packets, text)
+}
+
+/// Returns the opening of a rolling book of profile one at moment 0 with these parameters and elements. Its ring and
+/// its event log hold `packets` packets and events. The number of events is limited only by the greatest limit.
+pub fn opening_for(packets: u32, elements: Elements, params: Params) -> Opening
+    ensures { result ≡ opening_for packets elements params }
+{
+    let limits = Limits {
+        packets,
+        tail: packets,
+        events: Limits::MAX_EVENTS,
+    };
+    let choices = Choices {
+        mode: Mode::Rolling,
+        profile: Profile::One,
+        elements,
+    };
+    Opening {
+        moment: 0,
+        limits,
+        params,
+        choices,
+    }
+}
+
+/// Writes the record of an opening, as the first of a history, and flushes the writer.
+///
+/// # Errors
+///
+/// Returns the error of the writer.
+pub fn write_opening<W: Write>(opening: &Opening, output: &mut W) -> io::Result<()>
+    ensures { OnOk result (Appends (W.contents output.old) (W.contents output.new) (text_of (opening_row opening.now))) }
+{
+    let mut row = RowBuffer::new();
+    put_opening(&mut row, opening);
+    output.write_all(row.as_bytes())?;
+    output.flush()
 }

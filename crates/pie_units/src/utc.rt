@@ -1,9 +1,13 @@
 //! Wall-clock times in UTC: `2026-11-24T20:00:00.265333333Z`.
-ghost use Rattle.std.specs.Prelude.{◌≡◌, ◌≤◌, ◌-◌, ◌^◌, IfSome, length, min};
-ghost use Rattle.pie_units.specs.Time.{date_part, has_marks, nanos_in, number_in, number_within, seconds_part, unix_of, utc_in, utc_with};
+//! Dates of the Gregorian calendar, as days since 1970-01-01.
+//! Moments in human-readable form: whole nanoseconds, or a number with a unit, such as `1.5ms`.
+//! Bounds of moments in human-readable form: a moment, or a wall-clock time.
+ghost use Rattle.std.specs.Prelude.{◌≡◌, ◌≤◌, ◌-◌, ◌^◌, IfSome, length, min, ◌<◌};
+ghost use Rattle.pie_units.specs.Time.{date_part, has_marks, nanos_in, number_in, number_within, seconds_part, unix_of, utc_in, utc_with, date_in, date_of, day_number, days_in_month, is_leap, march_month, march_year, month_of, year_among, year_day, moment_fault, moment_in, is_date, when_in};
 
-use crate::date::{Date, date_of, day_number, days_in_month};
-use crate::number::{decimals_in, digit_count, number_after, parts_of, unit_in};
+use crate::number::{
+    Quantity, UnitFault, decimals_in, digit_count, number_after, parts_of, read, unit_in,
+};
 use std::fmt;
 use std::fmt::Display;
 use std::str::FromStr;
@@ -183,5 +187,232 @@ impl FromStr for Utc {
     fn from_str(text: &str) -> Result<Utc, UtcFault> {
         let unix = utc_in(text.as_bytes())?;
         Ok(Utc(unix))
+    }
+}
+
+/// A date of the Gregorian calendar.
+#[derive(Clone, Copy)]
+pub struct Date {
+    /// The year.
+    pub year: u64,
+    /// The month, 1 to 12.
+    pub month: u64,
+    /// The day of the month, counted from 1.
+    pub day: u64,
+}
+
+/// Returns the year, among 400 years that begin on 1 March, that contains the day `day` of them.
+#[tactic(auto, unfolding(crate::specs::Time::year_among))]
+fn year_among(day: u64) -> u64
+    requires { day < 146097 }
+    ensures year { result ≡ year_among day }
+    ensures few { result ≤ 400 }
+{
+    (day - day / 1460 + day / 36524 - day / 146096) / 365
+}
+
+/// Returns the day of that year, counted from 0.
+#[tactic(auto, unfolding(crate::specs::Time::year_day))]
+fn year_day(day: u64) -> u64
+    requires { day < 146097 }
+    ensures day { result ≡ year_day day }
+    ensures few { result < 146097 }
+{
+    let year = year_among(day);
+    day.saturating_sub(365 * year + year / 4 - year / 100)
+}
+
+/// Returns the month of the calendar, from a month counted from March as 0.
+fn month_of(march_month: u64) -> u64
+    requires { march_month ≤ 1000000 }
+    ensures { result ≡ month_of march_month }
+{
+    if march_month < 10 {
+        march_month + 3
+    } else {
+        march_month - 9
+    }
+}
+
+/// Returns the date of the day `day` of 400 years that begin on 1 March, `years` years after 0000-03-01.
+#[tactic(auto, unfolding(crate::specs::Time::date_in))]
+fn date_in(years: u64, day: u64) -> Date
+    requires few { years ≤ 10000 }
+    requires day { day < 146097 }
+    ensures { result ≡ date_in years day }
+{
+    let rest = year_day(day);
+    let march_month = (5 * rest + 2) / 153;
+    let next = if march_month < 10 { 0 } else { 1 };
+    Date {
+        year: years + year_among(day) + next,
+        month: month_of(march_month),
+        day: rest.saturating_sub((153 * march_month + 2) / 5) + 1,
+    }
+}
+
+/// Returns the date `days` days after 1970-01-01.
+#[tactic(auto, unfolding(crate::specs::Time::date_of))]
+pub fn date_of(days: u64) -> Date
+    requires { days ≤ 213504 }
+    ensures { result ≡ date_of days }
+{
+    let since_march = days + 719468;
+    date_in(since_march / 146097 * 400, since_march % 146097)
+}
+
+/// Returns true if `year` has a 29 February.
+fn is_leap(year: u64) -> bool
+    ensures { result ≡ is_leap year }
+{
+    (year % 4 == 0 && year % 100 != 0) || year % 400 == 0
+}
+
+/// Returns the number of days of `month` in `year`.
+pub fn days_in_month(year: u64, month: u64) -> u64
+    ensures days { result ≡ days_in_month year month }
+    ensures few { result ≤ 31 }
+{
+    if month == 2 {
+        if is_leap(year) { 29 } else { 28 }
+    } else if month == 4 || month == 6 || month == 9 || month == 11 {
+        30
+    } else {
+        31
+    }
+}
+
+/// Returns the year from 1 March on that contains `month` of `year`.
+fn march_year(year: u64, month: u64) -> u64
+    ensures year { result ≡ march_year year month }
+    ensures few { result ≤ year }
+{
+    if month < 3 {
+        year.saturating_sub(1)
+    } else {
+        year
+    }
+}
+
+/// Returns the number of a month, counted from March as 0.
+fn march_month(month: u64) -> u64
+    requires { month ≤ 12 }
+    ensures month { result ≡ march_month month }
+    ensures few { result ≤ 11 }
+{
+    if month < 3 { month + 9 } else { month - 3 }
+}
+
+/// Returns the number of days from 1970-01-01 to `date`, which is not before it.
+#[tactic(auto, unfolding(crate::specs::Time::day_number))]
+pub fn day_number(date: Date) -> u64
+    requires year { date.year ≤ 9999 }
+    requires month { date.month ≤ 12 }
+    requires day { date.day ≤ 31 }
+    ensures number { result ≡ day_number date }
+    ensures few { result ≤ 4000000 }
+{
+    let year = march_year(date.year, date.month);
+    let before = 365 * year + year / 4 - year / 100 + year / 400;
+    let months = (153 * march_month(date.month) + 2) / 5;
+    (before + months + date.day).saturating_sub(719469)
+}
+
+/// The reason why a text is not a moment.
+#[derive(Clone, Copy, Debug, PartialEq, Eq, Error)]
+pub enum MomentFault {
+    /// The text has another form.
+    #[error("a moment must be a whole number of nanoseconds, or a number with ns, us, ms, s, m or h, such as 1.5ms or 2m")]
+    NotAMoment,
+    /// The value is not a whole number of nanoseconds, or the text has more than 18 decimals.
+    #[error("a moment must be a whole number of nanoseconds")]
+    TooFine,
+    /// The value is above 2^60 - 1 nanoseconds.
+    #[error("a moment must be at most 1152921504606846975 ns")]
+    TooLate,
+}
+
+/// A moment, or a length of time, in nanoseconds: at most 2^60 - 1.
+#[derive(Clone, Copy)]
+pub struct Moment(pub u64);
+
+/// Returns the reason why a text is not a moment, from the reason why it is not a number.
+fn moment_fault(why: UnitFault) -> MomentFault
+    ensures { result ≡ moment_fault why }
+{
+    match why {
+        UnitFault::NotANumber => MomentFault::NotAMoment,
+        UnitFault::TooPrecise => MomentFault::TooFine,
+        UnitFault::TooGreat => MomentFault::TooLate,
+    }
+}
+
+/// Parses a moment, in nanoseconds.
+pub(crate) fn moment_in(text: &[u8]) -> Result<u64, MomentFault>
+    ensures { result ≡ moment_in text.now }
+{
+    read(Quantity::Moment, text).map_err(moment_fault)
+}
+
+impl FromStr for Moment {
+    type Err = MomentFault;
+
+    ghost use Rattle.pie_units.specs.Time.{ParsesMoment};
+
+    ghost from_str_gives = { λ text read. ParsesMoment text read };
+
+    fn from_str(text: &str) -> Result<Moment, MomentFault> {
+        let moment = moment_in(text.as_bytes())?;
+        Ok(Moment(moment))
+    }
+}
+
+/// A moment, or a wall-clock time.
+#[derive(Clone, Copy)]
+pub enum When {
+    /// A moment in nanoseconds: at most 2^60 - 1.
+    Moment(u64),
+    /// A wall-clock time, in nanoseconds after 1970-01-01T00:00:00Z.
+    Unix(u64),
+}
+
+/// The reason why a text is neither.
+#[derive(Clone, Copy, Debug, PartialEq, Eq, Error)]
+pub enum WhenFault {
+    /// The text is not a moment.
+    #[error("{0}")]
+    Moment(MomentFault),
+    /// The text is not a wall-clock time.
+    #[error("{0}")]
+    Utc(UtcFault),
+}
+
+/// Returns true if a text begins as a date does: its fifth byte is `-`, which no moment has.
+fn is_date(text: &[u8]) -> bool
+    ensures { result ≡ is_date text.now }
+{
+    text.len() > 4 && text[4] == b'-'
+}
+
+/// Parses a bound.
+fn when_in(text: &[u8]) -> Result<When, WhenFault>
+    ensures { result ≡ when_in text.now }
+{
+    if is_date(text) {
+        utc_in(text).map(When::Unix).map_err(WhenFault::Utc)
+    } else {
+        moment_in(text).map(When::Moment).map_err(WhenFault::Moment)
+    }
+}
+
+impl FromStr for When {
+    type Err = WhenFault;
+
+    ghost use Rattle.pie_units.specs.Time.{ParsesWhen};
+
+    ghost from_str_gives = { λ text read. ParsesWhen text read };
+
+    fn from_str(text: &str) -> Result<When, WhenFault> {
+        when_in(text.as_bytes())
     }
 }

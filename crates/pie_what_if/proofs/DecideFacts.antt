@@ -3,7 +3,7 @@ use Rattle.pie_audit.specs.Replay.{Origin, RepresentsAfter, at_core, at_opening,
 use Rattle.pie_book.specs.{Core.CoreView, Core.Represents, Core.answer_in, Core.refusal_of, Decision.decision, Decision.refusal_by_rule, Book.refused_or}
 use Rattle.pie_event.specs.declared.{command.Answer.Answer, command.Command.Command, command.Event.Event, opening.Opening.Opening, refusal.Refusal.Refusal}
 use Rattle.pie_book.specs.Core.{registers_of}
-unfoldable use Rattle.pie_book.specs.Statistics.{registers_after}
+unfoldable use Rattle.pie_book.specs.Decision.{registers_after}
 use Rattle.pie_event.specs.declared.registers.Registers.{Registers}
 use Rattle.pie_record.specs.HistoryLines.{clock_in_line}
 unfoldable use Rattle.pie_record.specs.HistoryLines.{latest_clock}

@@ -10,13 +10,13 @@ use Rattle.pie_event.specs.declared.command.Command.TheVariants.{Arrive, Depart,
 use Rattle.pie_event.specs.declared.command.Event.{Event}
 use Rattle.pie_event.specs.declared.opening.Mode.TheVariants.{Bounded}
 use Rattle.pie_event.specs.declared.opening.Opening.{Opening}
-use Rattle.pie_event.specs.declared.profile.Profile.TheVariants.{One}
+use Rattle.pie_event.specs.declared.opening.Profile.TheVariants.{One}
 use Rattle.pie_params.specs.Params.{usual}
 use Rattle.pie_params.specs.declared.elements.Delay.TheVariants.{Stamp}
 use Rattle.pie_queue.specs.declared.ecn.Ecn.TheVariants.{NotEct}
 use Rattle.pie_queue.specs.declared.packet.Packet.{Packet}
 use Rattle.pie_record.specs.declared.history_record.Line.TheVariants.{Valid}
-use Rattle.pie_units.specs.declared.when.When.TheVariants.{Moment}
+use Rattle.pie_units.specs.declared.utc.When.TheVariants.{Moment}
 unfoldable use Rattle.pie_what_if.specs.Other.{point_at_end}
 use Rattle.pie_what_if.specs.Omitted.{counts_of}
 use Rattle.pie_what_if.specs.Other.{Point, ReadLine, first_point}

@@ -1,7 +1,5 @@
 use Rattle.pie_c.specs.{Arrive}
-use Rattle.pie_c.proofs.Names.{◌≡◌, ◌==◌, ◌∙◌, ap, arith, nat_tests, Ecn, ArrivingPacket, arrived, verdict, PieState, verdict_number, arrival_of}
-use Rattle.pie_c.proofs.Names.{arrival_refusal, controller_state, with_arrival}
-use Rattle.pie_c.proofs.Packets.{arrived-state, given_calls, kept-later, makes, name-later, verdict-later}
+use Rattle.pie_c.proofs.Sound.{◌≡◌, ◌==◌, ◌∙◌, ap, arith, nat_tests, Ecn, ArrivingPacket, arrived, verdict, PieState, verdict_number, arrival_of, arrival_refusal, controller_state, with_arrival, arrived-state, given_calls, kept-later, makes, name-later, verdict-later}
 use Rattle.pie_c.proofs.calls.arrive.Goals as goal
 use Rattle.pie_c.proofs.calls.arrive.Goals.{After-of_verdict}
 

@@ -1,5 +1,4 @@
-use Rattle.pie_c.proofs.Names.{◌∙◌, sym, arith}
-use Rattle.pie_c.proofs.Packets.{counted-state, counted-taken}
+use Rattle.pie_c.proofs.Sound.{◌∙◌, sym, arith, counted-state, counted-taken}
 use Rattle.pie_c.proofs.calls.depart_counted.Goals as goal
 
 pub returns-in-Some-clause-taken : goal.returns-in-Some-clause-taken

@@ -1,5 +1,4 @@
-use Rattle.pie_c.proofs.Names.{◌≡◌, ◌∙◌, sym, true, arith, is_between_cycles}
-use Rattle.pie_c.proofs.Packets.{unmeasured-state, unmeasured-taken}
+use Rattle.pie_c.proofs.Sound.{◌≡◌, ◌∙◌, sym, true, arith, is_between_cycles, unmeasured-state, unmeasured-taken}
 use Rattle.pie_c.proofs.calls.depart_unmeasured.Goals as goal
 use Rattle.pie_c.proofs.calls.depart_unmeasured.Goals.{After-keep_unmeasured}
 

@@ -1,5 +1,4 @@
-use Rattle.pie_c.proofs.Names.{◌≡◌, refl, rules, moment_refusal}
-use Rattle.pie_c.proofs.Packets.{passes}
+use Rattle.pie_c.proofs.Sound.{◌≡◌, refl, rules, moment_refusal, passes}
 use Rattle.pie_c.proofs.calls.pie_empty.Goals as goal
 use Rattle.pie_c.proofs.calls.pie_empty.Goals.{After-calls_are_lawful}
 

@@ -1,6 +1,5 @@
-use Rattle.pie_c.proofs.Names.{◌∙◌, ap, rules, ControllerState, reset_refusal, with_registers}
+use Rattle.pie_c.proofs.Sound.{◌∙◌, ap, rules, ControllerState, reset_refusal, with_registers, resets}
 use Rattle.pie_aqm.specs.Steps.{reset}
-use Rattle.pie_c.proofs.Packets.{resets}
 use Rattle.pie_c.proofs.calls.pie_reset.Goals as goal
 
 pub returns-clause-made : goal.returns-clause-made

@@ -1,7 +1,6 @@
 use Rattle.pie_c.specs.{params_refusal}
-use Rattle.pie_c.proofs.Names.{◌∙◌, ap, rules, ControllerState, with_rate}
+use Rattle.pie_c.proofs.Sound.{◌∙◌, ap, rules, ControllerState, with_rate, changes}
 use Rattle.pie_aqm.specs.Steps.{changed}
-use Rattle.pie_c.proofs.Packets.{changes}
 use Rattle.pie_c.proofs.calls.pie_set_params.Goals as goal
 
 pub returns-clause-made : goal.returns-clause-made

@@ -1,9 +1,6 @@
 use Rattle.pie_c.specs.{updated_with}
-use Rattle.pie_c.proofs.Names.{◌≡◌, ◌∙◌, true, ap, arith, rules, subst, sym, ControllerState, IsSound}
-use Rattle.pie_c.proofs.Names.{updated, update_refusal, controller_state, is_sound, state_of}
+use Rattle.pie_c.proofs.Sound.{◌≡◌, ◌∙◌, true, ap, arith, rules, subst, sym, ControllerState, IsSound, updated, update_refusal, controller_state, is_sound, state_of, makes, controller-sound}
 use Rattle.pie_aqm.specs.Calls.{Update}
-use Rattle.pie_c.proofs.Packets.{makes}
-use Rattle.pie_c.proofs.Sound.{controller-sound}
 use Rattle.pie_c.proofs.calls.pie_update.Goals as goal
 use Rattle.pie_c.proofs.calls.pie_update.Goals.{After-made, After-made-2}
 

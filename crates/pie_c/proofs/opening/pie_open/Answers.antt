@@ -1,6 +1,4 @@
-use Rattle.pie_c.proofs.Names.{◌≡◌, ◌∙◌, sym, opening_refusal, opening_state, elements_of, profile_of}
-use Rattle.pie_c.proofs.Packets.{opened-state, opening-free, opening-taken}
-use Rattle.pie_c.proofs.Sound.{controller-of-state, params-from, state-sound}
+use Rattle.pie_c.proofs.Sound.{◌≡◌, ◌∙◌, sym, opening_refusal, opening_state, elements_of, profile_of, opened-state, opening-free, opening-taken, controller-of-state, params-from, state-sound}
 use Rattle.pie_c.proofs.opening.pie_open.Goals as goal
 use Rattle.pie_c.proofs.opening.pie_open.Goals.{After-calls_look_back}
 

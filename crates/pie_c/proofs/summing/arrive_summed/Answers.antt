@@ -1,6 +1,5 @@
-use Rattle.pie_c.proofs.Names.{◌≡◌, ◌∙◌, ℕ, ap, subst, sym, verdict_number, name_of, cause, verdict, arrival_of, arrival_refusal, unless_refused, controller_state}
+use Rattle.pie_c.proofs.Sound.{◌≡◌, ◌∙◌, ℕ, ap, subst, sym, verdict_number, name_of, cause, verdict, arrival_of, arrival_refusal, unless_refused, controller_state, adds_call, arrival-decides, arrival-few, arrival-place}
 use Rattle.std.specs.Prelude.{Some, option_map}
-use Rattle.pie_c.proofs.Sound.{adds_call, arrival-decides, arrival-few, arrival-place}
 use Rattle.pie_c.proofs.summing.arrive_summed.Goals as goal
 
 pub returns-clause-summed : goal.returns-clause-summed

@@ -1,5 +1,4 @@
-use Rattle.pie_c.proofs.Names.{◌∙◌, refl, sym, capped, departed, waited_refusal, controller_state}
-use Rattle.pie_c.proofs.Sound.{adds_call, done-decides, unmoved}
+use Rattle.pie_c.proofs.Sound.{◌∙◌, refl, sym, capped, departed, waited_refusal, controller_state, adds_call, done-decides, unmoved}
 use Rattle.pie_c.proofs.summing.pie_depart_summed.Goals as goal
 
 pub returns-clause-summed : goal.returns-clause-summed

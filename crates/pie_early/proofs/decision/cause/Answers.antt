@@ -1,8 +1,7 @@
-use Rattle.pie_early.proofs.Names.{◌≡◌, ◌∙◌, ap, refl, sym, true, arith, nat_tests, is_considered}
+use Rattle.pie_early.proofs.Laws.{◌≡◌, ◌∙◌, ap, refl, sym, true, arith, nat_tests, is_considered, cause_considered, cause_verdict}
 use Rattle.pie_event.specs.Cause.{verdict_of}
 use Rattle.pie_event.specs.declared.cause.Cause.TheVariants.{ShortQueue}
 use Rattle.pie_early.specs.Cause.{considered_cause, early_cause}
-use Rattle.pie_early.proofs.Laws.{cause_considered, cause_verdict}
 use Rattle.pie_early.proofs.decision.cause.Goals as goal
 
 pub returns-in-None-clause-verdict : goal.returns-in-None-clause-verdict

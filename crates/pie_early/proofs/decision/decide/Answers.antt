@@ -1,6 +1,5 @@
-use Rattle.pie_early.proofs.Names.{◌≡◌, ◌∙◌, ap, sym, refl, true, arith, nat_tests, is_considered}
+use Rattle.pie_early.proofs.Laws.{◌≡◌, ◌∙◌, ap, sym, refl, true, arith, nat_tests, is_considered, cause_considered, cause_verdict}
 use Rattle.pie_event.specs.Cause.{verdict_named, name_of}
-use Rattle.pie_early.proofs.Laws.{cause_considered, cause_verdict}
 use Rattle.pie_early.proofs.decision.decide.Goals as goal
 
 pub returns-in-Some-clause-verdict : goal.returns-in-Some-clause-verdict

@@ -1,6 +1,5 @@
-use Rattle.pie_guarantees.proofs.Names.{AtEachEvent, ◌≡◌, ◌∙◌, refl, subst, sym, ap, Command, ControllerState, after_call, call_of, state_after, waiting_after}
+use Rattle.pie_guarantees.proofs.LawfulFacts.{AtEachEvent, ◌≡◌, ◌∙◌, refl, subst, sym, ap, Command, ControllerState, after_call, call_of, state_after, waiting_after, first-state, step_at}
 use Rattle.pie_guarantees.proofs.BurstFacts.{calm-whole, reset-whole, activated-whole}
-use Rattle.pie_guarantees.proofs.LawfulFacts.{first-state, step_at}
 use Rattle.pie_guarantees.proofs.bursts.allowances_begin_whole.Goals as goal
 
 -- the allowance is whole

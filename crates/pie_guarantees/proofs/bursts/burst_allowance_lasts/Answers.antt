@@ -1,4 +1,4 @@
-use Rattle.pie_guarantees.proofs.Names.{BetweenAny}
+use Rattle.pie_guarantees.proofs.LawfulFacts.{BetweenAny}
 use Rattle.pie_guarantees.proofs.BurstFacts.{allowed_where_kept, earliest_drop, earliest_since, updates_apart, updates_before}
 use Rattle.pie_guarantees.proofs.bursts.burst_allowance_lasts.Goals as goal
 

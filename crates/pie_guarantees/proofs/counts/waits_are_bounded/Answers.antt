@@ -1,4 +1,4 @@
-use Rattle.pie_guarantees.proofs.CountFacts.{first_out, waits_bounded}
+use Rattle.pie_guarantees.proofs.LawfulFacts.{first_out, waits_bounded}
 use Rattle.pie_guarantees.proofs.counts.waits_are_bounded.Goals as goal
 
 pub returns : goal.returns

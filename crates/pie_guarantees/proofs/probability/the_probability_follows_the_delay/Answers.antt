@@ -1,9 +1,5 @@
-use Rattle.pie_guarantees.proofs.Names.{AtEachEvent, ◌≤◌, arith, subst, sym, [], append-nil, in-range, ControllerState}
-use Rattle.pie_guarantees.proofs.Names.{state_after, params_after, probability_after}
-use Rattle.pie_guarantees.proofs.Names.{waiting_after}
-use Rattle.pie_guarantees.proofs.LawfulFacts.{sound_at, step_at}
-use Rattle.pie_guarantees.proofs.NextFacts.{next_capped, next_decays, next_down, next_up}
-use Rattle.pie_guarantees.proofs.ProbabilityFacts.{prob-next, stays-or-zero}
+use Rattle.pie_guarantees.proofs.LawfulFacts.{AtEachEvent, ◌≤◌, arith, subst, sym, [], append-nil, in-range, ControllerState, state_after, params_after, probability_after, waiting_after, sound_at, step_at}
+use Rattle.pie_guarantees.proofs.ProbabilityFacts.{next_capped, next_decays, next_down, next_up, prob-next, stays-or-zero}
 use Rattle.pie_guarantees.proofs.probability.the_probability_follows_the_delay.Goals as goal
 
 pub returns : goal.returns

@@ -1,4 +1,4 @@
-use Rattle.pie_guarantees.proofs.Names.{refl, tuning_divisor}
+use Rattle.pie_guarantees.proofs.LawfulFacts.{refl, tuning_divisor}
 use Rattle.pie_guarantees.proofs.ResponseFacts.{all_considered, burst_used, tenth_reached}
 use Rattle.pie_guarantees.proofs.response.lasting_delays_raise_the_probability.Goals as goal
 

@@ -1,4 +1,4 @@
-use Rattle.pie_guarantees.proofs.Names.{BetweenAny, arith}
+use Rattle.pie_guarantees.proofs.LawfulFacts.{BetweenAny, arith}
 use Rattle.pie_guarantees.proofs.SpacingFacts.{few_picked, many_picked, shared}
 use Rattle.pie_guarantees.proofs.spacing.picks_share_the_probability.Goals as goal
 

@@ -1,5 +1,5 @@
 use Rattle.pie_storm.proofs.Names.{arith, words_after}
-use Rattle.pie_storm.proofs.PlanFacts.{item_push}
+use Rattle.pie_storm.proofs.StormFacts.{item_push}
 use Rattle.pie_storm.proofs.planning.arrivals_of.Goals as goal
 
 pub loop-i-init : goal.loop-i-init

@@ -1,6 +1,6 @@
 use Rattle.pie_storm.proofs.Names.{◌≡◌, ◌∙◌, Some, ap, sym, arith, slice_get, Apply, Fold, calls_of}
 use Rattle.pie_storm.proofs.Making.{asked_next, folded_next}
-use Rattle.pie_storm.proofs.PlanFacts.{all_at, IsCallOf, calls_are}
+use Rattle.pie_storm.proofs.StormFacts.{all_at, IsCallOf, calls_are}
 use Rattle.pie_storm.proofs.worker.make_turn.Goals as goal
 
 pub returns-in-Some-Apply : goal.returns-in-Some-Apply

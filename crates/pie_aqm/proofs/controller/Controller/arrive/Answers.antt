@@ -1,6 +1,6 @@
 use Rattle.std.proofs.Common.{arith, rules}
 use Rattle.pie_aqm.specs.Calls.{Arrive}
-use Rattle.pie_aqm.proofs.Sounds.{Sound_call, stays_sound}
+use Rattle.pie_aqm.proofs.Laws.{Sound_call, stays_sound}
 use Rattle.pie_aqm.proofs.controller.Controller.arrive.Goals as goal
 
 pub invariant_of-self : goal.invariant_of-self

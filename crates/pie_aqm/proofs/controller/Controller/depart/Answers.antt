@@ -1,7 +1,6 @@
 use Rattle.std.proofs.Common.{◌≡◌, arith}
 use Rattle.pie_aqm.specs.{Depart, after_call}
-use Rattle.pie_aqm.proofs.Sounds.{threshold-holds, Sound_call, stays_sound}
-use Rattle.pie_aqm.proofs.Laws.{represents_with, uncapped}
+use Rattle.pie_aqm.proofs.Laws.{threshold-holds, Sound_call, stays_sound, represents_with, uncapped}
 use Rattle.pie_aqm.proofs.controller.Controller.depart.Goals as goal
 
 pub invariant_of-self : goal.invariant_of-self

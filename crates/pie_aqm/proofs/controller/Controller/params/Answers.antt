@@ -1,4 +1,4 @@
-use Rattle.pie_aqm.proofs.Sounds.{in-range}
+use Rattle.pie_aqm.proofs.Laws.{in-range}
 use Rattle.pie_aqm.proofs.controller.Controller.params.Goals as goal
 
 pub in_range-requires : goal.in_range-requires

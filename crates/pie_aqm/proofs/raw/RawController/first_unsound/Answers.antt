@@ -1,4 +1,4 @@
-use Rattle.pie_aqm.proofs.Sounds.{sound_is}
+use Rattle.pie_aqm.proofs.Laws.{sound_is}
 use Rattle.pie_aqm.proofs.raw.RawController.first_unsound.Goals as goal
 
 pub returns-clause-sound : goal.returns-clause-sound

@@ -1,4 +1,4 @@
-use Rattle.pie_aqm.proofs.Sounds.{in-range}
+use Rattle.pie_aqm.proofs.Laws.{in-range}
 use Rattle.pie_aqm.proofs.raw.RawController.update.Goals as goal
 
 pub update-is_calm-requires-clause-params : goal.update-is_calm-requires-clause-params

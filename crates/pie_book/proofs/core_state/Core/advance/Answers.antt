@@ -1,7 +1,6 @@
 use Rattle.std.proofs.lemmas.Bool.Decides.{nat_tests}
 use Rattle.std.proofs.Common.{arith}
-use Rattle.pie_book.proofs.BalanceFacts.{balanced_next, queued_next}
-use Rattle.pie_book.proofs.CoreFacts.{next-shows}
+use Rattle.pie_book.proofs.CoreFacts.{balanced_next, queued_next, next-shows}
 use Rattle.pie_book.proofs.core_state.Core.advance.Goals as goal
 
 pub returns-clause-represents : goal.returns-clause-represents

@@ -1,5 +1,4 @@
-use Rattle.pie_c.proofs.Names.{rules}
-use Rattle.pie_c.proofs.Sound.{kept_updated}
+use Rattle.pie_c.proofs.Sound.{rules, kept_updated}
 use Rattle.pie_c.proofs.state.PieState.keep_updated.Goals as goal
 
 pub returns : goal.returns

@@ -1,7 +1,6 @@
 use Rattle.std.proofs.Common.{arith, refl, subst, sym}
 use Rattle.std.specs.Prelude.{[]}
-use Rattle.pie_control.specs.History.{Represents, probability, last_delay, last_moment, granted_burst, burst_allowance}
-use Rattle.pie_control.specs.ControlState.{ControlState}
+use Rattle.pie_control.specs.History.{Represents, probability, last_delay, last_moment, granted_burst, burst_allowance, ControlState}
 use Rattle.pie_control.proofs.control.Control.opened.Goals as goal
 
 pub returns-clause-represents : goal.returns-clause-represents

@@ -1,6 +1,5 @@
-use Rattle.pie_early.proofs.Names.{◌≡◌, ◌∙◌}
+use Rattle.pie_early.proofs.Laws.{◌≡◌, ◌∙◌, accumulated-run}
 use Rattle.std.proofs.Common.{rules}
-use Rattle.pie_early.proofs.Laws.{accumulated-run}
 use Rattle.pie_early.proofs.early.Early.accu.Goals as goal
 
 pub returns-clause-run : goal.returns-clause-run

@@ -1,7 +1,6 @@
 -- The decision on plain numbers is the decision on the checked ones.
-use Rattle.pie_early.proofs.Names.{◌≡◌, ◌∙◌, accu_after, choice_of, effective_prob_of}
+use Rattle.pie_early.proofs.Laws.{◌≡◌, ◌∙◌, accu_after, choice_of, effective_prob_of, accu_below, represents_arrival, grown, picked}
 use Rattle.pie_early.specs.declared.decision.Decision.{Decision}
-use Rattle.pie_early.proofs.Laws.{accu_below, represents_arrival, grown, picked}
 use Rattle.pie_early.proofs.early.Early.consider.Goals as goal
 use Rattle.pie_early.proofs.early.Early.consider.Goals.{After-choice_by}
 

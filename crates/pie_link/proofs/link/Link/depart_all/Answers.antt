@@ -1,4 +1,4 @@
-use Rattle.pie_link.proofs.Names.{◌≡◌, ◌-◌, arith}
+use Rattle.pie_link.proofs.KeptFacts.{◌≡◌, ◌-◌, arith}
 use Rattle.pie_link.proofs.link.Link.depart_all.Goals as goal
 
 pub returns-clause-answered : goal.returns-clause-answered

@@ -1,4 +1,4 @@
-use Rattle.pie_link.proofs.Names.{TriesToAnswerAll}
+use Rattle.pie_link.proofs.KeptFacts.{TriesToAnswerAll}
 use Rattle.pie_link.proofs.link.Link.try_arrive_all.Goals as goal
 
 pub returns-in-Ok-clause-answered : goal.returns-in-Ok-clause-answered

@@ -1,5 +1,4 @@
-use Rattle.pie_lock.proofs.Names.{rules}
-use Rattle.pie_lock.proofs.Steps.{frees_keep}
+use Rattle.pie_lock.proofs.Steps.{rules, frees_keep}
 use Rattle.pie_lock.proofs.lock.RuledLock.free.Goals as goal
 
 pub store-requires : goal.store-requires

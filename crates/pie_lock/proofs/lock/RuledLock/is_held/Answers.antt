@@ -1,5 +1,4 @@
-use Rattle.pie_lock.proofs.Names.{rules}
-use Rattle.pie_lock.proofs.Steps.{looks_keep}
+use Rattle.pie_lock.proofs.Steps.{rules, looks_keep}
 use Rattle.pie_lock.proofs.lock.RuledLock.is_held.Goals as goal
 
 pub load-requires : goal.load-requires

@@ -1,5 +1,4 @@
-use Rattle.pie_lock.proofs.Names.{rules, ap, ◌∙◌, HasTwo, pass_at}
-use Rattle.pie_lock.proofs.Steps.{joins_keep, merges_keep}
+use Rattle.pie_lock.proofs.Steps.{rules, ap, ◌∙◌, HasTwo, pass_at, joins_keep, merges_keep}
 use Rattle.pie_lock.proofs.lock.RuledLock.join.Goals as goal
 
 pub join_seat-requires : goal.join_seat-requires

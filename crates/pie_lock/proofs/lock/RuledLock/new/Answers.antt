@@ -1,5 +1,4 @@
-use Rattle.pie_lock.proofs.Names.{refl, sym}
-use Rattle.pie_lock.proofs.Steps.{opens}
+use Rattle.pie_lock.proofs.Steps.{refl, sym, opens}
 use Rattle.pie_lock.proofs.lock.RuledLock.new.Goals as goal
 
 pub new-requires : goal.new-requires

@@ -1,5 +1,4 @@
-use Rattle.pie_lock.proofs.Names.{rules, ap, arith}
-use Rattle.pie_lock.proofs.Steps.{splits_keep}
+use Rattle.pie_lock.proofs.Steps.{rules, ap, arith, splits_keep}
 use Rattle.pie_lock.proofs.lock.RuledLock.share.Goals as goal
 
 pub split_seat-seat-requires : goal.split_seat-seat-requires

@@ -1,4 +1,4 @@
-use Rattle.pie_lock.proofs.Names.{◌≡◌}
+use Rattle.pie_lock.proofs.Steps.{◌≡◌}
 use Rattle.pie_lock.proofs.lock.RuledLock.sleep_and_take.Given as goal
 
 abbrev pub invariant-loop : goal.invariant-loop

@@ -1,4 +1,4 @@
-use Rattle.pie_lock.proofs.Names.{rules, Some}
+use Rattle.pie_lock.proofs.Steps.{rules, Some}
 use Rattle.pie_lock.proofs.lock.RuledLock.take_from_slot.Goals as goal
 
 pub exchange-requires : goal.exchange-requires

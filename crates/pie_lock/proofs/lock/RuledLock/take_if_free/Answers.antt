@@ -1,5 +1,4 @@
-use Rattle.pie_lock.proofs.Names.{rules}
-use Rattle.pie_lock.proofs.Steps.{takes_keep}
+use Rattle.pie_lock.proofs.Steps.{rules, takes_keep}
 use Rattle.pie_lock.proofs.lock.RuledLock.take_if_free.Goals as goal
 
 pub compare_exchange-found-requires : goal.compare_exchange-found-requires

@@ -1,6 +1,5 @@
 use Rattle.std.proofs.Common.{rules, sym, subst, ◌<◌, ◌^◌}
-use Rattle.pie_rate.specs.Departures.{departure}
-use Rattle.pie_rate.specs.Estimate.{Estimate, IsWithin}
+use Rattle.pie_rate.specs.Estimate.{departure, Estimate, IsWithin}
 use Rattle.pie_rate.proofs.Laws.{represents_after, within_after}
 use Rattle.pie_rate.proofs.rate.Rate.departed.Goals as goal
 

@@ -1,6 +1,6 @@
 use Rattle.pie_storm.proofs.Names.{◌≡◌, ◌-◌, length, refl, arith, rules, calls_of}
 use Rattle.std.proofs.lemmas.Option.{slice_get_read}
-use Rattle.pie_storm.proofs.PlanFacts.{part_of, sender_has}
+use Rattle.pie_storm.proofs.StormFacts.{part_of, sender_has}
 use Rattle.pie_storm.proofs.plan.Plan.burst.Goals as goal
 
 pub returns-clause-value : goal.returns-clause-value

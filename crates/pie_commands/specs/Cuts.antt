@@ -5,8 +5,8 @@ use Rattle.pie_cut.specs.declared.span.Span.{Span}
 use Rattle.pie_linux_history.specs.declared.cutter.RowSpan.{RowSpan}
 use Rattle.pie_linux_history.specs.declared.cutter.StepPieces.{StepPieces}
 use Rattle.pie_linux_history.specs.declared.cutter.StepPieces.TheVariants as step_pieces
-use Rattle.pie_units.specs.declared.when.When.{When}
-use Rattle.pie_units.specs.declared.when.When.TheVariants.{Moment, Unix}
+use Rattle.pie_units.specs.declared.utc.When.{When}
+use Rattle.pie_units.specs.declared.utc.When.TheVariants.{Moment, Unix}
 use Rattle.pie_commands.specs.Values.{bounds_of, number_given}
 use Rattle.pie_commands.specs.declared.cut.Pieces.{Pieces}
 use Rattle.pie_commands.specs.declared.cut.Pieces.TheVariants.{Every, Excerpt, Last}

@@ -7,8 +7,8 @@ use Rattle.pie_explain.specs.declared.choice.EventChoice.TheVariants.{Number, Ta
 use Rattle.pie_explain.specs.declared.form.Form.{Form}
 use Rattle.pie_explain.specs.declared.selection.Selection.{Selection}
 use Rattle.pie_summary.specs.declared.interval_lines.LineStyle.{LineStyle}
-use Rattle.pie_units.specs.declared.moment.MomentFault.{MomentFault}
-use Rattle.pie_units.specs.declared.when.When.{When}
+use Rattle.pie_units.specs.declared.utc.MomentFault.{MomentFault}
+use Rattle.pie_units.specs.declared.utc.When.{When}
 use Rattle.pie_commands.specs.Values.{bounds_of, flag_given, moment_given, number_given}
 use Rattle.pie_commands.specs.declared.explain.OutputKind.{OutputKind}
 use Rattle.pie_commands.specs.declared.explain.OutputKind.TheVariants.{Digest, Flows, Lines, Records, Sums, Words}

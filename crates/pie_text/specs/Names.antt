@@ -6,7 +6,7 @@ unfoldable pub use Rattle.csv.specs.Writing.{fields_text, is_blank}
 pub use Rattle.pie_event.specs.Event.{fits, opening_refusal, AnswerFits, CommandFits, PacketFits, ParamsFit}
 pub use Rattle.pie_event.specs.Cause.{answer_of}
 pub use Rattle.pie_event.specs.declared.command.Answer.TheVariants.{Done, Empty, Left, Updated}
-pub use Rattle.pie_event.specs.declared.{opening.Opening.Opening, verdict.Verdict.Verdict}
+pub use Rattle.pie_event.specs.declared.{opening.Opening.Opening, command.Verdict.Verdict}
 unfoldable pub use Rattle.pie_record.specs.Command.{answer_fields, folded_row, refused_row, shown_row, tallied_row}
 unfoldable pub use Rattle.pie_record.specs.Field.{clock_row}
 pub use Rattle.pie_record.specs.HistoryLines.{later_fault}

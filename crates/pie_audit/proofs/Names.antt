@@ -16,6 +16,6 @@ pub use Rattle.std.proofs.lemmas.List.Elements.{All-head, All-map, All-nil, All-
 pub use Rattle.std.specs.{Option.option_or, Prelude.if◌then◌else◌, Prelude.◌||◌}
 unfoldable pub use Rattle.pie_aqm.specs.History.{places}
 unfoldable pub use Rattle.pie_audit.specs.{AreLinesOf, agrees, agrees_in, difference_from, event_count, events_of, text_fault, text_lines, history_opening, line_places, opening_of, beginning_of, rows_text, setter_among, version_of}
-unfoldable pub use Rattle.pie_book.specs.{Core.core_along, Statistics.registers_after}
+unfoldable pub use Rattle.pie_book.specs.{Core.core_along, Decision.registers_after}
 unfoldable pub use Rattle.pie_excerpt.specs.Preamble.{queued_row, resume_row}
 unfoldable pub use Rattle.pie_record.specs.HistoryLines.{after_opening, history_version}

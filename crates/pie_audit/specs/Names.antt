@@ -1,6 +1,6 @@
 -- Definitions from lower crates that this crate's definitions, code and proofs use.
 pub use Rattle.pie_audit.specs.declared.auditor.Finding.TheVariants.{Clean, Differs}
-pub use Rattle.pie_book.specs.{Book.state_after_calls, Core.CoreView, Core.Represents, Decision.IsLegal, Decision.IsLegalAt, Decision.answer_by, Decision.decision, Decision.refusal_by_rule, StateAfter.active_after, Snapshot.Ends, Snapshot.ExcerptView, Snapshot.core_of_excerpt}
+pub use Rattle.pie_book.specs.{Book.state_after_calls, Core.CoreView, Core.Represents, Decision.IsLegal, Decision.IsLegalAt, Decision.answer_by, Decision.decision, Decision.refusal_by_rule, Decision.active_after, Snapshot.Ends, Snapshot.ExcerptView, Snapshot.core_of_excerpt}
 pub use Rattle.pie_book.specs.declared.snapshot.CoreSnapshot.{CoreSnapshot}
 pub use Rattle.pie_event.specs.{Event.opening_refusal, Event.CommandFits, Event.ParamsFit}
 pub use Rattle.pie_event.specs.declared.{command.Answer.Answer, command.Command.Command, command.Event.Event, opening.Opening.Opening, refusal.OpenRefusal.TheVariants.Memory, command.Setter.Setter}

@@ -2,7 +2,7 @@
 use Rattle.pie_excerpt.proofs.Names.{Beginning, Err, List, Ok, Option, Result, Row, Some, TraceFault, [], beginning_of, codes, core_from, later_at, map, opened_at, queued_of, refl, resume_of, with_queue, ℕ, ◌++◌, ◌∷◌, ◌≡◌}
 use Rattle.pie_excerpt.specs.{None, Opening, Version, Three, missing}
 use Rattle.pie_aqm.specs.Steps.{first_unsound}
-use Rattle.pie_book.specs.{Snapshot.are_balanced, Statistics.are_reached}
+use Rattle.pie_book.specs.{Snapshot.are_balanced, Decision.are_reached}
 use Rattle.pie_event.specs.declared.opening.{Mode.Mode, Mode.TheVariants.Bounded, Mode.TheVariants.Rolling}
 use Rattle.pie_event.specs.declared.opening.Profile.TheVariants as profile
 use Rattle.pie_record.specs.{Names.default_profile, Names.usual, ReadBack.worked_text}

@@ -1,6 +1,6 @@
 -- Definitions from lower crates that this crate's definitions, code and proofs use.
 pub use Rattle.pie_audit.specs.{Text.text_finding, declared.auditor.Finding.TheVariants.Clean}
-pub use Rattle.pie_book.specs.{Book.BookRepresents, Book.BookView, Core.CoreView, Core.Represents, Core.core_after, Core.registers_of, Book.Progress, Book.Step, Book.fold_outcome, Book.outcome, Book.start, Book.apply_in, Statistics.stats_after}
+pub use Rattle.pie_book.specs.{Book.BookRepresents, Book.BookView, Core.CoreView, Core.Represents, Core.core_after, Core.registers_of, Book.Progress, Book.Step, Book.fold_outcome, Book.outcome, Book.start, Book.apply_in, Decision.stats_after}
 pub use Rattle.pie_event.specs.Event.{opening_refusal}
 pub use Rattle.pie_event.specs.declared.{command.Answer.Answer, command.Event.Event, opening.Opening.Opening, refusal.FoldRefusal.FoldRefusal, refusal.Refusal.Refusal, registers.Registers.Registers, registers.Stats.Stats}
 pub use Rattle.pie_event.specs.declared.opening.Mode.TheVariants.{Bounded, Rolling}
@@ -12,7 +12,7 @@ pub use Rattle.pie_record.specs.declared.trace_record.Request.TheVariants.{Apply
 pub use Rattle.pie_record.specs.declared.version.Version.TheVariants.{One, Three, Two}
 pub use Rattle.std.specs.{Io.KnownBytes.Appends, Io.KnownBytes.append_known, List.filter_map}
 pub use Rattle.std.specs.Prelude.{All, Bool, Err, IfErr, IfOk, IfSome, List, None, Ok, OnOk, Option, Result, Some, [], codes, cond, count_by, drop, false, length, map, nat_lt, take, true, ℕ, ⊤}
-unfoldable pub use Rattle.pie_book.specs.{Statistics.registers_after, Book.progress_after}
+unfoldable pub use Rattle.pie_book.specs.{Decision.registers_after, Book.progress_after}
 unfoldable pub use Rattle.pie_excerpt.specs.Beginning.{beginning_of}
 unfoldable pub use Rattle.pie_record.specs.{Command.request_of, Text.rows_text}
 unfoldable pub use Rattle.pie_record.specs.Command.{answer_fields, folded_row, refused_row, shown_row, tallied_row}

@@ -14,7 +14,8 @@ pub(crate) const NO_REACTION: &str =
     "senders do not react: each packet arrives, and the link is ready, at the moments of the history";
 
 /// The fields of a summary that are times, in nanoseconds.
-const TIMES: &str = "first_moment last_moment greatest_wait mean_wait greatest_delay last_delay first_turned_on \
+const TIMES: &str =
+    "first_moment last_moment greatest_wait mean_wait greatest_delay last_delay first_turned_on \
 last_turned_on first_turned_off last_turned_off wait_99 last_target last_burst_allowance time_above_target time_waited_above_target";
 
 /// The fields of a summary that are probabilities, in units of `10^-12`.

@@ -81,11 +81,27 @@ pub(crate) fn lacks_queue(queue: Option<&str>, finding: StepsFinding) -> bool {
 }
 
 impl<H: NamedFiles, E: Write> Call<'_, '_, '_, '_, H, E> {
-    /// Writes the number of steps that the recorder lost, if some were lost, after the name of the file.
+    /// Writes the number of steps that the recorder lost, and the numbers of steps whose rows lack an input, each if it is above 0,
+    /// after the name of the file.
     pub(crate) fn report_lost(&mut self, name: Option<&str>, counts: StepsCounts) {
-        if counts.lost > 0 {
-            let text = "steps that were lost when the text was recorded:";
-            self.line(name, Counted(text, counts.lost));
+        for counted in [
+            Counted(
+                "steps that were lost when the text was recorded:",
+                counts.lost,
+            ),
+            Counted(
+                "steps without the returned packets (column rq):",
+                counts.without_returned,
+            ),
+            Counted(
+                "steps without the protocol behind a VLAN tag:",
+                counts.without_protocol,
+            ),
+            Counted("steps without the row of a change:", counts.without_change),
+        ] {
+            if counted.1 > 0 {
+                self.line(name, counted);
+            }
         }
     }
 

@@ -112,10 +112,7 @@ fn difference_of(column: usize, recorded: u64, right: u64) -> Option<Difference>
 }
 
 /// Returns the first of two rows of numbers that differ.
-fn first_difference(
-    recorded: &[u64; COMPARED],
-    right: &[u64; COMPARED],
-) -> Option<Difference>
+fn first_difference(recorded: &[u64; COMPARED], right: &[u64; COMPARED]) -> Option<Difference>
     ensures { result ≡ first_difference 0 recorded.now right.now }
 {
     for column in 0..COMPARED {
@@ -137,6 +134,8 @@ fn first_difference(
 pub(crate) fn step_difference(recorded: &Step, right: &Step) -> Option<Difference>
     ensures { result ≡ step_difference recorded.now right.now }
 {
-    difference_of(FLOW, flow_number(recorded.flow), flow_number(right.flow))
-        .or(first_difference(&numbers_of(recorded), &numbers_of(right)))
+    difference_of(FLOW, flow_number(recorded.flow), flow_number(right.flow)).or(first_difference(
+        &numbers_of(recorded),
+        &numbers_of(right),
+    ))
 }

@@ -9,12 +9,15 @@ ghost use Rattle.pie_linux_history.specs.Right.{arrival_difference, change_diffe
 
 use crate::difference::{Difference, step_difference};
 use crate::explained::Input;
-use crate::right::{Arrived, Departed, right_arrival, right_change, right_departure, right_reset, right_round, right_update};
+use crate::right::{
+    Arrived, Departed, right_arrival, right_change, right_departure, right_reset, right_round,
+    right_update,
+};
 use crate::step::Step;
 use pie_linux::{
     LinuxArrival, LinuxCause, LinuxDeparture, LinuxParams, LinuxState, LinuxStats, Picked,
-    flow_backlog, flow_of, is_markable, is_over_memory, is_tag, named_flow, next_cursor, own_excess,
-    ticks,
+    flow_backlog, flow_of, is_markable, is_over_memory, is_tag, named_flow, next_cursor,
+    own_excess, ticks,
 };
 
 /// A waiting packet.
@@ -111,9 +114,7 @@ fn over_memory_after(count: Option<u32>, is_over: bool, recorded: u32) -> Option
 fn hides_protocol(step: &Step) -> bool
     ensures { result ≡ hides_protocol step.now }
 {
-    is_tag(step.protocol)
-        && step.contained
-        && !(step.header % 4 == 0 && step.header / 16 % 4 == 0)
+    is_tag(step.protocol) && step.contained && !(step.header % 4 == 0 && step.header / 16 % 4 == 0)
 }
 
 /// Returns true if the packet of an arrival can be marked. If its protocol is hidden, the return value says so.
@@ -159,7 +160,11 @@ pub(crate) fn lack_of_arrival(
 ) -> Option<Input>
     ensures { result ≡ lack_of change returned (hides_protocol step.now && needs_protocol cause) }
 {
-    lack_of(change, returned, hides_protocol(step) && needs_protocol(cause))
+    lack_of(
+        change,
+        returned,
+        hides_protocol(step) && needs_protocol(cause),
+    )
 }
 
 /// Returns the arrival of a step.
@@ -506,11 +511,7 @@ impl QueueNumbers {
 
     /// Compares the numbers of a queue that had those of `was` before a reset. A text without the column `rq` has none of
     /// fq_pie.
-    pub(crate) fn reset_difference(
-        &self,
-        flow: &FlowNumbers,
-        step: &Step,
-    ) -> Option<Difference>
+    pub(crate) fn reset_difference(&self, flow: &FlowNumbers, step: &Step) -> Option<Difference>
         ensures { result ≡ reset_difference self.now flow.now step.now }
     {
         if self.has_flows && !step.has_returned {

@@ -7,8 +7,8 @@ ghost use Rattle.pie_linux_history.specs.Decisions.{admitted, lacks_limit};
 ghost use Rattle.pie_linux_history.specs.Queue.{IsFlowStep, change, destroyed, dropped, dropped_by, dropped_by_change, dropped_by_departure, dropped_by_reset, dropped_in_turn, dropped_of, emptied_flow, first_dropped, first_flow, first_state, flow_admitted, flow_arrived, flow_departed, flow_resumed, flow_stepped, flow_updated, flow_waited, lacking, no_flow, opened, opening_difference, other, place_at, place_of, reset, shortened_flow, shortened_queue, stepped, waiting_resumed};
 ghost use Rattle.pie_linux_history.specs.Resumes.{first_flows, first_numbers};
 
-use crate::decided::StepNumbers;
 use crate::columns::{FLOW, LENGTH_AFTER};
+use crate::decided::StepNumbers;
 use crate::difference::{Difference, flow_number, step_difference};
 use crate::explained::{DecidedPacket, Decision, Fate, lacking};
 use crate::numbers::{FlowNumbers, QueueNumbers, Waiting, lack_of, lack_of_arrival, waiting_of};
@@ -112,7 +112,11 @@ impl Flow {
     }
 
     /// Returns the first waiting packet as one that a change dropped.
-    fn first_dropped(&self, queue: &QueueNumbers, lost: &mut Vec<DecidedPacket>) -> Result<(), AllocError>
+    fn first_dropped(
+        &self,
+        queue: &QueueNumbers,
+        lost: &mut Vec<DecidedPacket>,
+    ) -> Result<(), AllocError>
         ensures { OnOk result (lost.new.items ≡ lost.old.items ++ map (dropped Change queue.now self.now.numbers) (take 1 self.now.waiting)) }
     {
         if let Some(waiting) = self.waiting.front() {

@@ -280,12 +280,7 @@ impl Queues {
             → (result ≡ verdict_of entries self.old.counts.events (Took queue step.now)) × Leaves self.new entries (Took queue step.now) }
     {
         match self.known.open(self.alloc, queue, step) {
-            Ok(()) => Ok(difference_at(
-                self.counts.events,
-                queue,
-                step,
-                opening_difference(step),
-            )),
+            Ok(()) => Ok(difference_at(self.counts.events, queue, step, opening_difference(step))),
             Err(_) => Err(out_of_memory()),
         }
     }

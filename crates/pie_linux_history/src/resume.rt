@@ -23,9 +23,9 @@ ghost use Rattle.pie_linux_history.specs.Resumes.{emptied, first_numbers, known_
 use crate::columns::{Columns, blank};
 use crate::numbers::{FlowNumbers, QueueNumbers, Waiting};
 use crate::queue::{Flow, Queue};
+use crate::right::percent_of;
 use crate::row::write_step;
 use crate::step::{Kind, QueueName, Step};
-use crate::right::percent_of;
 use pie_linux::LinuxState;
 use std::io;
 use std::io::Write;

@@ -2,11 +2,11 @@
 # Boots the kernel of Debian 13's backports under qemu, in simulated time, with pie-qdisc. TCP and UDP pass through its queues (boot_init.sh). pie audits
 # each record, and sums.py compares its sums with those of `tc -s -j` and of `pie-qdisc show --json`. The kernel must not warn. The instructions that the
 # kernel's verifier processed for each program must be at most half more than verified.txt has. Then the same boot loads programs with one fault each
-# (mutants.txt), and each must be found. It takes a minute and a half of a processor.
+# (mutants.txt), and each must be found. It takes 1.8 minutes of a processor.
 #
 # ROOT      has kernel/vmlinuz and kernel/modules, as packages.sh unpacks them; /var/cache/juniperbowls/debian-bpf by default
 # PIE       the program that audits, crates/pie/out/pie by default
-# needs: program, a request
+# needs: program, an early start
 #
 # usage: [PIE=program] [SEED=1] [KEEP=folder for all files] bindings/bpf/boot.sh [ROOT]
 set -eu

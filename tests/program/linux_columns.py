@@ -2,8 +2,8 @@
 """Tests which columns of pie-watch's text `pie audit` compares (tests/rows/linux_columns.csv.xz: several texts, each with a first row of its own).
 
 The first five texts have no column `rq`, and each has steps whose input it lacks: the protocol behind a VLAN tag, the packets that the device returned, a
-refused change of fq_pie, a change whose row comes after its departures, and a priority that names the flow of a packet at the limit. Each is clean. A
-number that no such input explains is named.
+refused change of fq_pie, a change whose row comes after its departures, and a priority that names the flow of a packet at the limit. Each is clean, and
+the audit prints the number of such steps. A number that no such input explains is named.
 
 The others have each input. Each is clean, and so is each of its pieces. If a number that the rules determine is changed in a copy, the audit names this
 row: at least 1,000 copies, each column of each type of row among them.
@@ -23,6 +23,13 @@ from checks import ROOT, check, finish  # noqa: E402
 from running import run as run_program  # noqa: E402
 
 OLD = 5
+# what the audits of the first texts print on standard error
+LACKING = [
+    "pie: steps without the protocol behind a VLAN tag: 1\n",
+    "pie: steps without the returned packets (column rq): 5\n",
+    "pie: steps without the row of a change: 1\n",
+    "pie: steps without the row of a change: 2\n",
+]
 # the columns that name the queue and the row, and columns that no step reads
 NAMES = {"qid", "kind", "type", "cpu"}
 FLAGS = {"room", "ecn", "bytemode", "dqrate", "drop"}
@@ -94,6 +101,7 @@ TEXTS = texts()
 for number, (columns, rows) in enumerate(TEXTS):
     got = audit(columns, rows)
     check(got[:2] == (0, f"clean,{len(rows)}\n"), "text", number, "of", len(rows), "rows:", got)
+    check(got[2] == (LACKING[number] if number < len(LACKING) else ""), "steps without an input of text", number, got[2])
     check(("rq" in columns) == (number >= OLD), "text", number, "has other columns")
     for first in (2, len(rows) // 2, len(rows) - 3):
         status, piece, errors = audit(columns, rows, ("cut", "--event", str(first), "--around", "2"))

@@ -26,6 +26,7 @@ sys.path.insert(0, str(Path(__file__).resolve().parents[1] / "shared"))
 from checks import ROOT, check, finish  # noqa: E402
 from running import TRACE  # noqa: E402
 from running import run as run_program  # noqa: E402
+from running import without_lacks  # noqa: E402
 
 TEXT = (ROOT / "tests/rows/linux_steps.csv").read_text()
 COLUMNS, *ROWS = list(csv.reader(TEXT.splitlines()))
@@ -41,7 +42,7 @@ def run(*words, rows=ROWS):
     """Returns the status, the output and the error stream of `pie explain WORDS` for these rows."""
     text = "".join(",".join(row) + "\n" for row in [COLUMNS, *rows])
     status, output, errors = run_program(["explain", *words], text.encode())
-    return status, output.decode(), errors.decode()
+    return status, output.decode(), without_lacks(errors)
 
 
 def table(*words, rows=ROWS):

@@ -34,6 +34,7 @@ from checks import ROOT, check, finish, refusing  # noqa: E402
 from refused import ONCE_AND_ON, in_turn  # noqa: E402
 from running import MEMORY, TRACE, read_fault, write_fault  # noqa: E402
 from running import run as run_program  # noqa: E402
+from running import without_lacks  # noqa: E402
 
 TEXT = (ROOT / "tests/rows/linux_steps.csv").read_text()
 COLUMNS, *ROWS = list(csv.reader(TEXT.splitlines()))
@@ -62,7 +63,7 @@ def text_of(rows, columns=COLUMNS):
 def run(rows, columns=COLUMNS, words=("audit",), **environment):
     """Returns the status, the output and the error stream of the program for these rows."""
     status, output, errors = run_program(list(words), text_of(rows, columns).encode(), **environment)
-    return status, output.decode(), errors.decode()
+    return status, output.decode(), without_lacks(errors)
 
 
 def field(row, name):
@@ -99,6 +100,8 @@ lost = sum(int(row[1]) for row in LOST)
 steps = sum(field(row, "type") not in ("", "flow", "wait") for row in ROWS)
 WERE_LOST = f"pie: steps that were lost when the text was recorded: {lost}\n"
 CLEAN = (0, f"clean,{len(ROWS)}\n", WERE_LOST)
+LACKING = "pie: steps without the returned packets (column rq): 28\n"
+check(run_program(["audit"], text_of(ROWS).encode())[2].decode() == WERE_LOST + LACKING, "steps without an input:", run_program(["audit"], text_of(ROWS).encode()))
 check(run(ROWS) == CLEAN and steps == 396 and lost == 18829, "the recorded steps:", run(ROWS), steps, lost)
 tried = 0
 for (kind, step), names in COMPARED.items():
@@ -299,7 +302,7 @@ def cut(*words, text=TEXT):
 
 def audited(text):
     status, output, errors = run_program(["audit"], text.encode())
-    return status, output.decode(), errors.decode()
+    return status, output.decode(), without_lacks(errors)
 
 
 def queues_before(at):

@@ -91,3 +91,8 @@ def run(words, text, program=PROGRAM, **environment):
 def shell(line):
     done = subprocess.run(["bash", "-c", line, "bash", PROGRAM], capture_output=True, timeout=PATIENCE)
     return done.returncode, done.stdout, done.stderr
+
+
+def without_lacks(errors):
+    """Returns the lines of an error stream without those that count steps of pie-watch's text whose rows lack an input."""
+    return "".join(line for line in errors.decode().splitlines(keepends=True) if ": steps without " not in line)

@@ -220,7 +220,7 @@ def linux_steps(work):
     copies = [line.replace(name, f"{name}x{copy}", 1) for copy in range(12) for line, name in zip(rows, queue)]
     lost = 12 * sum(int(line.split(",")[1]) for line in rows if line.startswith("lost,"))
     write(f"{work}/steps", [names, *copies])
-    told = f"pie: steps that were lost when the text was recorded: {lost}\n"
+    told = f"pie: steps that were lost when the text was recorded: {lost}\npie: steps without the returned packets (column rq): {12 * 28}\n"
     for words, count in ((["audit"], 1), (["audit", "--json"], 1), (["explain", "--summary", "--csv"], 2), (["explain", "--flows", "3", "--json"], 4),
                          (["explain", "--all", "--csv"], None), (["explain", "--lost"], None), (["cut", "--from", "0"], None)):
         expect("steps of Linux", words, run(words, f"{work}/steps"), 0, "" if words[0] == "cut" else told, count)

@@ -75,7 +75,7 @@ sizes="$processor: libpie.so has $(stat -c %s "$library") bytes"
 [ "$(stat -c %s "$library")" -le 100000 ] || fail "$sizes"
 if [ -e "dist/$processor/pie.S.xz" ]; then
     sizes="$sizes, pie $(stat -c %s "$program")"
-    [ "$(stat -c %s "$program")" -le 1441792 ] || fail "$sizes"
+    [ "$(stat -c %s "$program")" -le 1572864 ] || fail "$sizes"
     run "$program" run < examples/burst.trace | cmp - examples/burst.history || fail "the program makes another history"
     [ "$(run "$program" explain --tag 200 examples/overload.history | head -n 1)" = 'event 349: packet 200, 1250 bytes, Not-ECT: DROPPED early' ] ||
         fail "the program does not read its arguments"

@@ -44,8 +44,8 @@ struct timer_list {
     int unused;
 };
 static u64 ticks, random_word;
-static u32 draws;
-#define psched_get_time() ticks
+static u32 draws, readings;
+#define psched_get_time() (readings++, ticks)
 #define psched_mtu(device) MTU
 #define get_random_bytes(to, size) (draws++, memcpy(to, &random_word, size))
 #define qdisc_cb_private_validate(skb, size) ((void)(skb))
@@ -194,16 +194,19 @@ static enum choice enqueue_by_linux(const struct registers *before, const struct
     draws = 0;
     bool drops = pie_qdisc_enqueue(&packet, &discipline, NULL) == DROPPED;
     bool is_over = queue.stats.overlimit != stats.overlimit, is_marked = queue.stats.ecn_mark != stats.ecn_mark;
-    struct watch_enqueue row = {.head = head_of(WATCH_ENQUEUE, before->moment), .vars = copied(&queue.vars)};
+    /* (as pie-watch: a moment in ticks if the packet is queued without the rate estimator) */
+    u64 moment = drops || queue.params.dq_rate_estimator ? before->moment : PSCHED_NS2TICKS(before->moment) * 64;
+    struct watch_enqueue row = {.head = head_of(WATCH_ENQUEUE, moment), .vars = copied(&queue.vars)};
     row.size = row.pkt_len = step->size;
     row.qlen_before = discipline.qlen;
     row.qlen = discipline.qlen + !drops;
-    row.backlog_before = row.decided_backlog = discipline.qstats.backlog;
+    row.backlog_before = discipline.qstats.backlog;
+    row.decided_backlog = is_over ? 0 : discipline.qstats.backlog;
     row.backlog = discipline.qstats.backlog + (drops ? 0 : step->size);
     row.protocol = htons(0x0800);
     row.network = htons(step->ecn ? 0x4502 : 0x4500);
     row.enqueued = drops ? 0 : pie_get_enqueue_time(&packet);
-    row.random = step->word;
+    row.random = draws ? step->word : 0;
     /* pie_drop_early returned true if the packet was dropped or marked, and was not called at the limit */
     u8 early = is_over ? WATCH_EARLY_NONE : drops || is_marked;
     row.head.bits = (u8)(WATCH_ROOM | early << 1 | draws << 3);
@@ -224,11 +227,16 @@ static void dequeue_by_linux(u64 moment, const struct packet *packet, u32 left, 
         pie_set_enqueue_time(&skb);
     ticks = PSCHED_NS2TICKS(moment);
     write_registers(moment);
+    readings = 0;
     pie_process_dequeue(&skb, &queue.params, &queue.vars, bytes);
-    struct watch_dequeue row = {.head = head_of(WATCH_DEQUEUE, moment), .vars = copied(&queue.vars)};
+    u64 recorded = queue.params.dq_rate_estimator ? moment : PSCHED_NS2TICKS(moment) * 64;
+    struct watch_dequeue row = {.head = head_of(WATCH_DEQUEUE, recorded), .vars = copied(&queue.vars)};
     row.size = row.pkt_len = packet->size;
-    row.head.bits = queue.params.dq_rate_estimator ? WATCH_HAS_CLOCK : 0;
-    row.at[0] = row.at[1] = row.at[2] = moment;
+    if (queue.params.dq_rate_estimator) {
+        row.head.bits = (u8)(WATCH_HAS_CLOCK | readings);
+        for (u32 i = 0; i < readings; i++)
+            row.at[i] = moment;
+    }
     row.decided_backlog = row.backlog = bytes;
     row.qlen = left;
     row.enqueued = pie_get_enqueue_time(&skb);

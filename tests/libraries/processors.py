@@ -384,7 +384,7 @@ def check_bindings(ready, work):
         print(f"NOT RUN: {NAME}: no rustc, or no python3 with setuptools, wheel and pip here, so not every binding took the assembly of its target")
     # (a copy, because a wheel is built in its folder)
     for name in ("bindings/python", "include", "dist"):
-        shutil.copytree(ROOT / name, f"{work}/copy/{name}", ignore=shutil.ignore_patterns("out", "*.xz"))
+        shutil.copytree(ROOT / name, f"{work}/copy/{name}", ignore=shutil.ignore_patterns("out", "pie.S.xz"))
     for name in ("Makefile", "LICENSE-MIT", "LICENSE-APACHE"):
         shutil.copy(ROOT / name, f"{work}/copy")
     for built in ready:

@@ -16,10 +16,10 @@ defaults : (default_profile.target ≡ 15 * 10 ^ 6) × (default_profile.t_update
     × (default_profile.limit_bytes ≡ 2 ^ 18) × (default_profile.mark_ecnth * 10 ≡ ONE) × (default_profile.dq_threshold ≡ 2 ^ 14)
 defaults = (refl, refl, refl, refl, refl, refl, refl, refl, refl)
 
--- the limits are 200 ms from 1.93792 Mbit/s on; at 500 kbit/s, 48448 bytes are 775 ms
+-- the limits are 200 ms from 1 Mbit/s on; at 500 kbit/s, 25000 bytes are 400 ms
 rates : (profile_for 0 ≡ default_profile) × (profile_for 1_000_000_001 ≡ record default_profile { limit_bytes = 25_000_001 })
-    × (profile_for 500_000 ≡ record default_profile { limit_bytes = 48_448 }) × (limit_for 1 ≡ 48_448)
-    × (limit_for 1_937_920 ≡ 48_448) × (limit_for 1_937_921 ≡ 48_449) × (limit_for (10 ^ 7) ≡ 250_000)
+    × (profile_for 500_000 ≡ record default_profile { limit_bytes = 25_000 }) × (limit_for 1 ≡ 25_000)
+    × (limit_for 1_000_000 ≡ 25_000) × (limit_for 1_000_001 ≡ 25_001) × (limit_for (10 ^ 7) ≡ 250_000)
     × (profile_for (10 ^ 11) ≡ record default_profile { limit_bytes = 2 ^ 30 })
 rates = (refl, refl, refl, refl, refl, refl, refl, refl)
 

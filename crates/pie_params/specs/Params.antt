@@ -61,10 +61,10 @@ default_profile = record {
   dq_threshold = 16384;
 }
 
--- the limit of a queue for a link of `rate` bits per second, in bytes: 200 ms at this rate, at least 32 packets of 1514
--- bytes and at most the greatest limit of its range; for rate 0, which is unknown, the default limit
+-- the limit of a queue for a link of `rate` bits per second, in bytes: 200 ms at this rate, at least 25000 bytes and at
+-- most the greatest limit of its range; for rate 0, which is unknown, the default limit
 abbrev pub limit_for : ℕ → ℕ
-limit_for rate = if rate == 0 then default_profile.limit_bytes else min (max (div_ceil rate 40) (32 * 1514)) (2 ^ 30)
+limit_for rate = if rate == 0 then default_profile.limit_bytes else min (max (div_ceil rate 40) 25_000) (2 ^ 30)
 
 -- the defaults for a link of `rate` bits per second, with the limit for this rate
 abbrev pub profile_for : ℕ → RawParams

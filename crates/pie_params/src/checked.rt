@@ -72,7 +72,7 @@ impl Params {
     }
 
     /// Returns the default parameters for a link of `rate` bits per second. `limit_bytes` is 200 ms at this rate, at
-    /// least 32 packets of 1514 bytes and at most the greatest limit of its range. If `rate` is 0, the rate is unknown,
+    /// least 25000 bytes and at most the greatest limit of its range. If `rate` is 0, the rate is unknown,
     /// and all parameters are the defaults (this project's own).
     pub fn for_rate(rate: u64) -> Self
         ensures { result ≡ profile_for rate }
@@ -81,7 +81,7 @@ impl Params {
         let limit_bytes = if rate == 0 {
             usual.limit_bytes
         } else {
-            rate.div_ceil(40).max(32 * 1514).min(1 << 30)
+            rate.div_ceil(40).max(25_000).min(1 << 30)
         };
         Params::in_range(RawParams {
             limit_bytes,

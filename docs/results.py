@@ -383,10 +383,10 @@ def limits_text():
     for question, limits in CANDIDATES.items():
         present, (chosen, _) = next(iter(limits)), chosen_limit(question)
         if lacking := not_run_limits(question):
-            parts.append(f"for {question} not all runs of {', '.join(f'`{LIMITS[name]}`' for name in lacking)} exist, so {present} stay")
+            parts.append(f"{question} stays {present}, since not all runs of {', '.join(f'`{LIMITS[name]}`' for name in lacking)} exist")
         else:
-            parts.append(f"for {question} it gives {chosen}{'' if chosen == present else f', not {present}'}")
-    return f"{shorter_limits()} By the [criterion](../bench/uml/PLAN.md#limits), {'; '.join(parts)}."
+            parts.append(f"{question} {f'stays {present}' if chosen == present else f'becomes {chosen} in place of {present}'}")
+    return f"{shorter_limits()} By the [criterion](../bench/uml/PLAN.md#limits), {', and '.join(parts)}."
 
 
 # versions that no commit of this repository contains

@@ -293,9 +293,9 @@ void pie_default_params(struct pie_params *params);
  * max_burst, 4 alpha, 5 beta, 6 mean_pkt, 7 limit_bytes, 8 mark_ecnth, 9 dq_threshold. */
 uint32_t pie_check_params(const struct pie_params *params);
 
-/* Fills `params` with the defaults for a link of `rate` bits per second. limit_bytes is 200 ms at that rate, at least 48448 (32
- * packets of 1514 bytes) and at most 2^30: so it is 775 ms at 500 kbit/s, and 86 ms at 100 Gbit/s. If `rate` is 0, it is unknown,
- * and limit_bytes has its default.
+/* Fills `params` with the defaults for a link of `rate` bits per second. limit_bytes is 200 ms at that rate, at least 25000 and
+ * at most 2^30: so it is 400 ms at 500 kbit/s, and 86 ms at 100 Gbit/s. If `rate` is 0, it is unknown, and limit_bytes has its
+ * default.
  * Notes: for links below 17.5 Mbit/s without PIE_DELAY_STAMP see dq_threshold in docs/LIBRARY.md. */
 void pie_params_for(uint64_t rate, struct pie_params *params);
 

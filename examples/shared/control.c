@@ -10,7 +10,7 @@ const char control_help[] =
     "  --target 15ms        target delay in s, ms, us, ns\n"
     "  --tupdate 15ms       time between updates\n"
     "  --limit 4000p        limit of the queue in packets; also --limit 256kb in bytes (b, kb of 1024 bytes, mb, gb). The default in\n"
-    "                       bytes is 200 ms at the rate, at least 48448b; in packets it is the limit in bytes over 64, at most 65536p\n"
+    "                       bytes is 200 ms at the rate, at least 25000b; in packets it is the limit in bytes over 64, at most 65536p\n"
     "  --alpha 2, --beta 20 gains in the unit of tc, sixteenths per second\n"
     "  --ecn                mark packets that are ECN-capable\n"
     "  --delay stamp        delay from time stamps (stamp), or from the departure rate (rate, as --dq_rate_estimator)\n"

@@ -262,7 +262,7 @@ t_update     15.000 ms: the gains are for this interval (4.2)
 alpha        125 thousandths per second: weighs the distance from the target (4.2)
 beta         1250 thousandths per second: weighs the change of the delay (4.2)
 max_burst    150.000 ms: no early drop for this time after a calm (4.4)
-limit_bytes  500000: 200 ms at the rate, at least 48448 and at most 1073741824 (this project's own)
+limit_bytes  500000: 200 ms at the rate, at least 25000 and at most 1073741824 (this project's own)
 packets      7812: limit_bytes / 64, at most 1048576 (this project's own); limit_bytes is reached first
 mark_ecnth   10 %: marks below this probability, and drops from it on, since a sender may ignore marks (5.1)
 

@@ -24,9 +24,9 @@ params 'other units' "$usual,0,900,900,$events,500000,1000,150000000,0,2000,1024
     --rate 9000kbit --target 500us --limit 900 --alpha 0 --beta 32 --tupdate 1000ns
 # (the limits are those of the table of docs/PARAMETERS.md: bytes, and packets of 64 bytes)
 for row in 10mbit:250000:3906:stalls 100mbit:2500000:39062 1gbit:25000000:390625 10gbit:250000000:1048576 40gbit:1000000000:1048576 \
-    100gbit:1073741824:1048576 41bit:48448:757:stalls 2.5GBIT:62500000:976562 0.1tbit:1073741824:1048576 12.5Mbps:2500000:39062 \
-    100Mibit:2621440:40960 1gibps:214748365:1048576 1000kbit:48448:757:stalls 125000kbps:25000000:390625 1937920bit:48448:757:stalls \
-    1937961bit:48450:757:stalls; do
+    100gbit:1073741824:1048576 41bit:25000:390:stalls 2.5GBIT:62500000:976562 0.1tbit:1073741824:1048576 12.5Mbps:2500000:39062 \
+    100Mibit:2621440:40960 1gibps:214748365:1048576 1000kbit:25000:390:stalls 125000kbps:25000000:390625 960000bit:25000:390:stalls \
+    1000041bit:25002:390:stalls; do
     IFS=: read -r rate limit packets warns <<< "$row"
     params "a limit at $rate" "$usual,0,$packets,$packets,$events,15000000,15000000,150000000,125,1250,1024,$limit,0,16384" "${warns:+$stalls}" --rate "$rate"
 done
@@ -49,7 +49,7 @@ chosen_limit 1 262144 ''
 record="$usual,0,6826,6826,$events,15000000,15000000,150000000,125,1250,1024,436907,0,16384"
 params 'a rate at which the estimator stalls' "$record" "$stalls" --rate 17476266bit
 params 'a rate at which it does not' "$record" '' --rate 17476267bit
-record="open3,1,stamp,derandomized,capped,unscaled,rolling,0,757,757,$events,${nine/262144/48448}"
+record="open3,1,stamp,derandomized,capped,unscaled,rolling,0,390,390,$events,${nine/262144/25000}"
 expect 'a rate by time stamps' 0 "$record\n" '' '' params --rate 512kbit
 short='is below rate x target: the queue is full before the delay reaches the target, and all losses are tail drops\n'
 params 'a limit that is too small' "$usual,0,39062,39062,$events,1000000000,15000000,150000000,125,1250,1024,2500000,0,16384" \

@@ -107,8 +107,8 @@ impl Params {
     };
 
     /// Returns the default parameters for a link of this rate, in bits per second. `limit_bytes` is 200 ms at that rate, at least
-    /// 48448 (32 packets of 1514 bytes) and at most 2^30: 775 ms at 500 kbit/s, 86 ms at 100 Gbit/s. If the rate is 0, it is unknown, and
-    /// `limit_bytes` has its default.
+    /// 25000 and at most 2^30: 400 ms at 500 kbit/s, 86 ms at 100 Gbit/s. If the rate is 0, it is unknown, and `limit_bytes` has its
+    /// default.
     #[must_use]
     pub fn for_rate(rate: u64) -> Params {
         let mut params = Params::UNSET;

@@ -83,7 +83,7 @@ fn push_limits(page: &mut String, opening: &Opening, numbers: &Numbers) -> Writt
     let (bytes, packets) = (opening.params.raw().limit_bytes, opening.limits.packets);
     write!(
         page,
-        "limit_bytes  {bytes}: 200 ms at the rate, at least 48448 and at most 1073741824 (this project's own)\n\
+        "limit_bytes  {bytes}: 200 ms at the rate, at least 25000 and at most 1073741824 (this project's own)\n\
         packets      {packets}: limit_bytes / 64, at most 1048576 (this project's own); "
     )?;
     let size = numbers.packet_bytes;

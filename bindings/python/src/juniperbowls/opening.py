@@ -140,8 +140,8 @@ class Opening:
     def for_rate(cls, rate: int | str = 0, **changes: int | str) -> Opening:
         """Returns the default opening for a link of this rate, with some fields or parameters
         changed: `Opening.for_rate("100mbit", target="20ms", mode=Mode.BOUNDED)`. `limit_bytes` is
-        200 ms at the rate, at least 48448 (32 packets of 1514 bytes) and at most 2^30. If the rate
-        is 0, it is unknown, and `limit_bytes` is 262144."""
+        200 ms at the rate, at least 25000 and at most 2^30. If the rate is 0, it is unknown, and
+        `limit_bytes` is 262144."""
         raw = RawOpening()
         LIBRARY.pie_default_opening(byref(raw), whole("rate", rate))
         params = Params.of(raw.params)

@@ -26,7 +26,7 @@ The advice has
   - the predicted mean wait;
   - warnings.
 
-Parameters are the defaults of RFC 8033. limit_bytes is 200 ms at the rate, at least 48448 and at
+Parameters are the defaults of RFC 8033. limit_bytes is 200 ms at the rate, at least 25000 and at
 most 2^30, as for pie params and the libraries. A queue whose only limit is in packets (pie, rte_pie)
 gets the number of packets of 1514 bytes in limit_bytes, and rte_pie at most 65535, with a warning.
 

@@ -212,8 +212,8 @@ values of RFC 8033. With --ecn, packets of ECN-capable endpoints are marked whil
 below 10 per cent.
 
 Without --rate, the limits are 262144 bytes and 1000 packets. With --rate, limit_bytes is 200 ms at
-the rate, at least 48448 (32 packets of 1514 bytes) and at most 2^30, and the limit in packets is
-limit_bytes / 64, at most 2^20. --limit replaces the limit in packets. Standard error has a warning
+the rate, at least 25000 and at most 2^30, and the limit in packets is limit_bytes / 64, at most
+2^20. --limit replaces the limit in packets. Standard error has a warning
 if limit_bytes is below rate x target, and if --limit, in packets of --mtu, is below rate x (target +
 burst allowance) or above one second at the rate. The burst allowance is 150 ms.
 

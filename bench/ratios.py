@@ -4,10 +4,11 @@ each side, and their ratios, as rows of a table. The best of times is the least,
 single name it prints the least, the median and the greatest value.
 
 usage: bench/ratios.py LINES NAME/OTHER.. NAME..     a pair of checksums has to be the same in all runs, else exit status 1
-If PIE_ROWS in the environment names a file, as bench/times.csv, it receives each line with the commit, the machine, the compiler and the load; then
+If PIE_ROWS in the environment names a file, as bench/times.csv.xz, it receives each line with the commit, the machine, the compiler and the load; then
 tests/documents/performance.py compares the tables of docs/PERFORMANCE.md with it. Rows of the same name from an earlier commit are dropped.
 """
 import csv
+import lzma
 import os
 import re
 import statistics
@@ -28,13 +29,13 @@ def store(path):
     model = re.search(r"model name\s*: (.*)", open("/proc/cpuinfo").read())
     about = {"commit": said("git", "rev-parse", "--short=8", "HEAD"), "machine": model[1] if model else os.uname().machine,
              "compiler": said(os.environ.get("CC", "cc"), "-dumpfullversion"), "load": open("/proc/loadavg").read().split()[0]}
-    kept = []
+    kept, opened = [], lzma.open if path.endswith(".xz") else open
     if os.path.exists(path):
-        with open(path, newline="") as file:
+        with opened(path, "rt", newline="") as file:
             kept = [row for row in csv.DictReader(file) if row["name"] not in values]
     rows = [{"name": name, "run": run, "value": f"{value:.12g}", "unit": units[name], **about}
             for name, them in values.items() for run, value in enumerate(them, 1)]
-    with open(path, "w", newline="") as file:
+    with opened(path, "wt", newline="") as file:
         out = csv.DictWriter(file, FIELDS, lineterminator="\n")
         out.writeheader()
         out.writerows(kept + rows)

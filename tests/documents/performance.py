@@ -3,13 +3,14 @@
 medians, and the ratio in brackets the least figures. A ratio must lie between the least and the greatest quotient that the rounded figures allow.
 A section in which ratios are medians of those of the runs says so, and is left out.
 
-Times: if bench/times.csv has rows (PIE_ROWS of bench/ratios.py), the tables of TIMES are those of its rows; until then the page says that there are none.
+The tables of times in TIMES are those of the rows in bench/times.csv.xz, which PIE_ROWS of bench/ratios.py stores.
 
 The table of a packet's instructions through DPDK is that of bench/dpdk_counts.csv, and the counts of the library for C are those of
 bench/pie_c_count.txt.
-usage: tests/documents/performance.py [--write]     --write: writes the table of DPDK
+usage: tests/documents/performance.py [--write]     --write: writes the tables of DPDK and of times
 needs: nothing"""
 import csv
+import lzma
 import os
 import re
 import statistics
@@ -70,14 +71,13 @@ def dpdk_table():
     return "\n".join(lines) + "\n"
 
 
-# the head of a table, and the names of its rows in bench/times.csv
+# the head of a table, and the names of its rows in bench/times.csv.xz
 TIMES = {
     "| per event | here | C, decided only | ratio |": [(name, "c_book_decided") for name in (
         "book_decided", "book_recorded_bounded", "book_recorded_rolling", "c_book_recorded_bounded", "c_book_recorded_rolling")],
     "| measured; compared with | library | the other | ratio |": [
         ("arrive_library", "arrive_c"), ("arrive_library", "arrive_c_checked"), ("depart_library", "depart_c"), ("depart_library", "depart_c_checked"),
         ("update_library", "update_c"), ("stream_library", "stream_none"), ("stream_library", "stream_c"), ("stream_library", "stream_dpdk")]}
-NOT_STORED = "The single runs of the times on this page are not stored."
 
 
 def time_cells(rows, here, other):
@@ -87,20 +87,25 @@ def time_cells(rows, here, other):
     return [*cells, f"{statistics.median(ours) / statistics.median(theirs):.2f} ({ours[0] / theirs[0]:.2f})"]
 
 
+def with_times(page):
+    """Returns the page with the figures of the stored rows in the tables of times."""
+    with lzma.open(ROOT / "bench/times.csv.xz", "rt", newline="") as file:
+        rows = list(csv.DictReader(file))
+    lines = page.split("\n")
+    for head, pairs in TIMES.items():
+        check(head in lines, f"{PAGE} has no table {head}")
+        first = lines.index(head) + 2
+        for at, pair in enumerate(pairs, first):
+            check(lines[at].startswith("| ") and lines[at].count("|") == 5, f"{PAGE}: no row of the table {head}: {lines[at]}")
+            lines[at] = "| ".join([*lines[at].split("| ")[:2], " | ".join(time_cells(rows, *pair)) + " |"])
+    return "\n".join(lines)
+
+
 def check_times(page):
     sample = [{"name": name, "value": value} for name, values in {"a": "234", "b": "468"}.items() for value in values]
     check(time_cells(sample, "a", "b") == ["3.0 ns (2.0)", "6.0 ns (4.0)", "0.50 (0.50)"], "the cells of a sample are wrong")
-    stored = ROOT / "bench/times.csv"
-    check((NOT_STORED in " ".join(page.split())) != stored.exists(), f"{PAGE} says: {NOT_STORED} And bench/times.csv is {'' if stored.exists() else 'not '}there")
-    lines = page.splitlines()
-    for head, pairs in TIMES.items():
-        check(head in lines, f"{PAGE} has no table {head}")
-        if stored.exists():
-            with open(stored, newline="") as file:
-                rows = list(csv.DictReader(file))
-            for line, (here, other) in zip(lines[lines.index(head) + 2:], pairs):
-                wanted = time_cells(rows, here, other)
-                check([cell.strip() for cell in line.split("|")[2:5]] == wanted, f"{PAGE}: bench/times.csv gives {wanted}: {line}")
+    for line, wanted in zip(page.split("\n"), with_times(page).split("\n")):
+        check(line == wanted, f"{PAGE}: bench/times.csv.xz gives {wanted}: {line}")
 
 
 # the sentences about counts of the library for C, with the names of bench/pie_c_count.txt
@@ -118,7 +123,7 @@ def check_counts(page):
 def main():
     page = (ROOT / PAGE).read_text()
     if "--write" in sys.argv:
-        (ROOT / PAGE).write_text(TABLE.sub(lambda _: dpdk_table(), page))
+        (ROOT / PAGE).write_text(with_times(TABLE.sub(lambda _: dpdk_table(), page)))
         return
     check_counts(page)
     check_times(page)

@@ -4,7 +4,7 @@ pub use Rattle.pie_audit.specs.{All, Answer, Appends, AreLegal, AuditorView, Aud
 pub use Rattle.pie_audit.specs.declared.auditor.Finding.{Finding}
 pub use Rattle.pie_book.specs.{Snapshot.snapshot_of, Core.answer_in, Core.core_after, Core.refusal_of, Decision.refusal_with, Book.refused_or}
 pub use Rattle.pie_event.specs.{Event.setter_from, declared.command.Command.TheVariants.Depart, declared.command.Command.TheVariants.Update, declared.refusal.Refusal.Refusal, declared.registers.Registers.Registers}
-pub use Rattle.pie_excerpt.specs.{Beginning.IsWellBegun, Beginning.opened_at, Beginning.begun_at, Beginning.resume_with}
+pub use Rattle.pie_excerpt.specs.{Beginning.IsWellBegun, Beginning.beginning_at, Beginning.opened_at, Beginning.begun_at, Beginning.resume_with}
 pub use Rattle.pie_record.specs.declared.version.Version.TheVariants.{One, Two}
 pub use Rattle.pie_queue.specs.declared.packet.Waiting.{Waiting}
 pub use Rattle.pie_record.specs.{Field.after_flush, HistoryLines.Gives, HistoryLines.is_event, ReadBack.TextsAreReadBack, Text.Took}

@@ -18,11 +18,10 @@ mod opened_text;
 mod replay;
 mod replayed_text;
 mod text_audit;
-mod text_lines;
 
 pub use auditor::{Auditor, Finding};
 pub use opened_text::{OpenedText, open_text};
+pub use pie_record::HistoryLines;
 pub use replay::{LineKind, Replay, kind_of};
 pub use replayed_text::{ReplayedText, replay_text};
-pub use text_audit::{audit, audit_lines, write_finding};
-pub use text_lines::TextLines;
+pub use text_audit::{audit, audit_lines};

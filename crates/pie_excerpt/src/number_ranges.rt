@@ -1,7 +1,6 @@
 //! Written numbers fit the types of their fields. These functions do nothing: their contracts state it for given values.
 ghost use Rattle.std.specs.Prelude.{◌≡◌, ◌<◌, ◌∷◌, []};
-ghost use Rattle.pie_excerpt.specs.{None, first_bad, StatsFit, AllSmall, NineFit, ResumeFits, SetterFits, WaitingFits, cycle_bytes, cycle_start};
-ghost use Rattle.pie_excerpt.specs.{measuring};
+ghost use Rattle.pie_excerpt.specs.{None, first_bad, StatsFit, AllSmall, NineFit, ResumeFits, SetterFits, WaitingFits, cycle_bytes, cycle_start, measuring};
 
 use crate::resume::Resume;
 use pie_book::Stats;

@@ -12,7 +12,7 @@ ghost use Rattle.pie_audit.specs.Replay.{AuditsFrom, difference_from, Origin, Re
 ghost use Rattle.pie_explain.specs.DecidedEvent.{DecidesAfter, DecidesEvent, ReadsTo, decision_at, decision_by, result_after, wait_if_decided};
 
 use crate::explanation::Explained;
-use pie_audit::{Replay, TextLines, replay_text};
+use pie_audit::{HistoryLines, Replay, replay_text};
 use pie_book::{Command, Core, Event, Refusal};
 use pie_event::Setter;
 use pie_record::{Clock, Line, TraceFault};
@@ -64,7 +64,7 @@ fn is_next(replay: &Replay, number: u64) -> bool
 /// this event: it is then not yet decided. Returns false if there is none, or an event before it differs.
 #[tactic(auto, using(crate::proofs::DecidedFacts::passed_none))]
 fn read_to<R: Read + Drop>(
-    lines: &mut TextLines<R>,
+    lines: &mut HistoryLines<R>,
     replay: &mut Replay,
     number: u64,
     line: &mut Line,
@@ -143,7 +143,7 @@ fn decide_line(replay: Replay, number: u64, line: &Line) -> EventDecision
 
 /// Reads the remaining lines up to the event with this number, and decides it again. `replay` has read the lines before.
 fn decide_after<R: Read + Drop>(
-    mut lines: TextLines<R>,
+    mut lines: HistoryLines<R>,
     mut replay: Replay,
     number: u64,
 ) -> Result<Option<DecidedEvent>, TraceFault>

@@ -14,7 +14,7 @@ use Rattle.pie_record.specs.HistoryLines.{history_opening}
 use Rattle.pie_record.specs.ReadBack.{IsHistoryText}
 use Rattle.pie_record.specs.Text.{Row, records_of}
 use Rattle.pie_record.proofs.InputFacts.{LineFits, lines-fit}
-use Rattle.pie_record.proofs.OpeningBack.{checked}
+use Rattle.pie_record.proofs.ReadBack.{checked}
 use Rattle.pie_audit.specs.Replay.{event_in, events_of}
 
 -- ---- the opening

@@ -1,7 +1,6 @@
 //! Calls that write, for valid texts and others: if a writer's flush fails, each call reports it. No clause states that a writer is flushed, and the
 //! program's writer needs no flush.
 
-use pie_audit::{Finding, write_finding};
 use pie_book::{Answer, Command, Event, Opening};
 use pie_explain::{EventChoice, EventRecords, ExplainFault, Explained, Report, Selection, explain};
 use pie_params::{Elements, Params};
@@ -59,18 +58,16 @@ pub(crate) enum Writes {
     RunWithin,
     Migrate,
     Explain,
-    Finding,
     Opening,
     History,
 }
 
 /// All of them, with their names in the output.
-pub(crate) const WRITES: [(Writes, &str); 7] = [
+pub(crate) const WRITES: [(Writes, &str); 6] = [
     (Writes::Run, "run_trace_flushes"),
     (Writes::RunWithin, "run_trace_within_flushes"),
     (Writes::Migrate, "migrate_flushes"),
     (Writes::Explain, "explain_flushes"),
-    (Writes::Finding, "write_finding_flushes"),
     (Writes::Opening, "write_opening_flushes"),
     (Writes::History, "write_history_flushes"),
 ];
@@ -95,12 +92,6 @@ fn written(alloc: Global, writer: &mut Sink) -> bool {
     event.fits() && is_write(write_history(alloc, writer, &opening(), &[event]).err())
 }
 
-/// Returns true if both findings are reported as not written.
-fn found(writer: &mut Sink) -> bool {
-    let is_clean = is_write(write_finding(Finding::Clean { events: 3 }, writer).err());
-    is_clean && is_write(write_finding(Finding::Differs { event: 2 }, writer).err())
-}
-
 impl Writes {
     /// Returns true if the run reports that the writer failed. (A run of at most one record meets a text that is
     /// too long.)
@@ -110,7 +101,6 @@ impl Writes {
             Writes::RunWithin => is_write(run_trace_within(alloc, text, writer, 1).err()),
             Writes::Migrate => is_write(migrate(alloc, text, writer).err()),
             Writes::Explain => explained(alloc, text, writer),
-            Writes::Finding => found(writer),
             Writes::Opening => write_opening(&opening(), writer).is_err(),
             Writes::History => written(alloc, writer),
         }

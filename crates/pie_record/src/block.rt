@@ -56,7 +56,7 @@ pub(crate) fn lowest(mask: u64) -> usize
 
 /// Returns the mask without its lowest bit.
 #[inline(always)]
-#[tactic(auto, using(crate::proofs::ScanFacts::is_without))]
+#[tactic(auto, using(crate::proofs::InputFacts::is_without))]
 pub(crate) fn without_lowest(mask: u64) -> u64
     requires { mask ≢ 0 }
     ensures { (place : ℕ) → IsLowest mask place → IsWithout mask result place }

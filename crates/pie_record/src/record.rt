@@ -77,16 +77,6 @@ fn field_in<'a>(line: &'a [u8], ends: &[usize], place: usize) -> (&'a [u8], usiz
     (&line[..ends[place]], start)
 }
 
-/// Returns the field at `place` of a plain line, by the `ends` of its fields.
-fn field_between<'a>(line: &'a [u8], ends: &[usize], place: usize) -> &'a [u8]
-    requires plain { IsLine line.now ends.now }
-    requires within { place < length ends.now }
-    ensures { Some result.now ≡ field_at (split_line line.now) place }
-{
-    let (text, start) = field_in(line, ends, place);
-    &text[start..]
-}
-
 /// Leaves the bytes to csv, as the beginning of a text with the same records.
 #[cold]
 #[inline(never)]
@@ -157,7 +147,7 @@ impl Record {
     }
 
     /// Returns the number of fields.
-    #[tactic(auto, using(crate::proofs::LineReads::line_long, crate::proofs::LineReads::some_fields))]
+    #[tactic(auto, using(crate::proofs::InputFacts::line_long, crate::proofs::InputFacts::some_fields))]
     pub fn len(&self) -> usize
         ensures { result ≡ length self.now }
     {
@@ -170,12 +160,13 @@ impl Record {
 
     /// Returns the field at `place`, counted from 0, or `None` if there are fewer fields.
     #[inline(always)]
-    #[tactic(auto, using(crate::proofs::LineReads::line_past, crate::proofs::LineReads::some_fields))]
+    #[tactic(auto, using(crate::proofs::InputFacts::line_past, crate::proofs::InputFacts::some_fields))]
     pub fn get(&self, place: usize) -> Option<&[u8]>
         ensures { option_map (λ field. field.now) result ≡ field_at self.now place }
     {
         if place < self.count {
-            return Some(field_between(&self.line[..self.len], &self.ends[..self.count], place));
+            let (text, start) = field_in(&self.line[..self.len], &self.ends[..self.count], place);
+            return Some(&text[start..]);
         }
         if self.count > 0 {
             return None;
@@ -200,7 +191,7 @@ impl Record {
     /// # Errors
     ///
     /// `Memory`.
-    #[tactic(auto, using(crate::proofs::LineReads::line_text, crate::proofs::LineReads::some_fields))]
+    #[tactic(auto, using(crate::proofs::InputFacts::line_text, crate::proofs::InputFacts::some_fields))]
     pub fn text(&self, alloc: Global) -> Result<Vec<u8>, TraceFault>
         ensures text { IfOk result (λ bytes. bytes.items ≡ text_of self.now) }
         ensures memory { IfErr result (λ why. why ≡ TraceFault.Memory) }
@@ -221,7 +212,7 @@ impl Record {
 
     /// Returns the line of a plain record, without its line feed: the text of the record as csv writes it. `None` if csv read the
     /// record: it reads all records from the first line on that is not plain.
-    #[tactic(auto, using(crate::proofs::LineReads::line_text, crate::proofs::LineReads::some_fields))]
+    #[tactic(auto, using(crate::proofs::InputFacts::line_text, crate::proofs::InputFacts::some_fields))]
     pub fn line(&self) -> Option<&[u8]>
         ensures { IfSome result (λ line. text_of self.now ≡ line.now ++ 10 ∷ []) }
     {
@@ -234,6 +225,7 @@ impl Record {
 
     /// Reads a line into the record.
     #[inline(always)]
+    #[tactic(auto, using(crate::proofs::InputFacts::plain_found, crate::proofs::InputFacts::empty_found, crate::proofs::InputFacts::some_fields))]
     pub(crate) fn read_line<R: Read>(
         &mut self,
         alloc: Global,

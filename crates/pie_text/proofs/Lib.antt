@@ -1,2 +1,1 @@
-mod PageFacts
 pub mod TextFacts

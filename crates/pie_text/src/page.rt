@@ -199,7 +199,7 @@ impl Page {
     /// # Errors
     ///
     /// `Write`.
-    #[tactic(auto, using(crate::proofs::PageFacts::moved_ok, crate::proofs::PageFacts::unmoved))]
+    #[tactic(auto, using(crate::proofs::TextFacts::moved_ok, crate::proofs::TextFacts::unmoved))]
     pub fn write_if_full<W: Write>(&mut self, writer: &mut W) -> Result<(), TraceFault>
         ensures moved { OnOk result (Appends (append_known (W.contents writer.old) self.old) (append_known (W.contents writer.new) self.new) []) }
         ensures waits { OnOk result (length self.new < 32000) }

@@ -1,5 +1,4 @@
-use Rattle.pie_audit.proofs.Names.{◌++◌, ◌∷◌, ◌∙◌, ◌≡◌, List, map, length, sym, subst, ap, None, Event, IsLegal, rows_text, event_row, queued_row, resume_row}
-use Rattle.pie_audit.proofs.Names.{Clean, CoreSnapshot, IsFound, Waiting, core_of_excerpt, resume_with, snapshot_of}
+use Rattle.pie_audit.proofs.Names.{◌++◌, ◌∷◌, ◌∙◌, ◌≡◌, List, map, length, sym, subst, ap, None, Event, IsLegal, rows_text, event_row, queued_row, resume_row, Clean, CoreSnapshot, IsFound, Waiting, core_of_excerpt, resume_with, snapshot_of}
 use Rattle.pie_audit.proofs.ProcessorFacts.{Alone, events-found, excerpt-processed, processed-found, text-past, written-processed}
 use Rattle.pie_audit.proofs.law.written_excerpts_are_read.Goals as goal
 use Rattle.pie_queue.specs.Queue.{bytes_of}

@@ -1,5 +1,5 @@
 use Rattle.pie_record.proofs.FieldFacts.{kind-first}
-use Rattle.pie_record.proofs.LinesBack.{command-as-written, clock-as-written, same-before-three}
+use Rattle.pie_record.proofs.ReadBack.{command-as-written, clock-as-written, same-before-three}
 use Rattle.pie_record.proofs.law.requests_are_written_again.Goals as goal
 
 pub returns : goal.returns

@@ -1,4 +1,4 @@
-use Rattle.pie_record.proofs.OpeningBack.{remaining-read, events-read, history-read, fields-read, written-back}
+use Rattle.pie_record.proofs.ReadBack.{remaining-read, events-read, history-read, fields-read, written-back}
 use Rattle.pie_record.proofs.HistoryFacts.{records_left-written, records_of-written}
 use Rattle.pie_record.proofs.law.texts_are_read_back.Goals as goal
 

@@ -1,7 +1,7 @@
 use Rattle.std.proofs.Common.{◌+◌, ◌-◌, ◌≡◌, ◌∙◌, ℕ, ap, arith, drop, get_or, sym, take}
 use Rattle.std.proofs.lemmas.List.{drop-take, length-take}
 use Rattle.pie_record.specs.{Some, start_of}
-use Rattle.pie_record.proofs.LineReads.{line-between, line-field}
+use Rattle.pie_record.proofs.InputFacts.{line-between, line-field}
 use Rattle.pie_record.proofs.record.field_in.Goals as goal
 
 pub start_of-start-requires-clause-fits : goal.start_of-start-requires-clause-fits

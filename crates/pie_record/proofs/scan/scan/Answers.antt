@@ -1,6 +1,6 @@
 use Rattle.std.proofs.Common.{arith, rules, refl, ◌+◌, take}
 use Rattle.pie_record.specs.{commas}
-use Rattle.pie_record.proofs.ScanFacts.{block-copied, found-line}
+use Rattle.pie_record.proofs.InputFacts.{block-copied, found-line}
 use Rattle.pie_record.proofs.scan.scan.Goals as goal
 
 pub loop-at-init : goal.loop-at-init

@@ -4,7 +4,7 @@ use Rattle.std.proofs.lemmas.List.{take_more_set}
 use Rattle.std.proofs.lemmas.Option.{slice_get-get_or}
 use Rattle.std.specs.Int.{bit_at}
 use Rattle.pie_record.specs.{IsScanned, Some}
-use Rattle.pie_record.proofs.ScanFacts.{marks-next, scanned-comma, scanned-past, scanned-to}
+use Rattle.pie_record.proofs.InputFacts.{marks-next, scanned-comma, scanned-past, scanned-to}
 use Rattle.pie_record.proofs.scan.scan_block.Goals as goal
 
 pub returns-then-bytes-place-eq10-clause-scans : goal.returns-then-bytes-place-eq10-clause-scans

@@ -1,5 +1,0 @@
-use Rattle.pie_record.proofs.OpeningBack.{checked}
-use Rattle.pie_record.proofs.law.openings_are_checked.Goals as goal
-
-pub returns : goal.returns
-returns c = checked

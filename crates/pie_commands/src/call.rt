@@ -1,5 +1,6 @@
 //! A call of a subcommand, and its ends at a text.
 
+use crate::diagnosis::{find_cause, write_cause};
 use crate::difference::report_difference;
 use crate::end::{End, end_failed, fault, named_fault};
 use crate::files::NamedFiles;
@@ -7,7 +8,6 @@ use crate::name::InCommand;
 use crate::options::{HelpPage, file};
 use crate::steps_fault::report_field;
 use clap::ArgMatches;
-use pie_diagnosis::{find_cause, write_cause};
 use pie_linux_history::{StepDifference, StepsFault};
 use pie_trace::TraceFault;
 use std::alloc::Global;

@@ -9,6 +9,7 @@ use crate::files::{NamedFiles, open_input};
 use crate::json::JsonWriter;
 use crate::options::{bounds_of, file, flag, moment, number, parsed, report_two, text};
 use crate::progress::{ProgressReader, Screen, shows_progress, writes_to_terminal};
+use crate::reports::{OtherReport, as_digest, by_flow, in_lines, in_words};
 use crate::steps::{explain_steps, lacks_queue};
 use clap::ArgMatches;
 use pie_explain::{EventChoice, EventRecords, ExplainFault, Form, Selection, Words};
@@ -202,16 +203,28 @@ fn explain_with<R: Read + Drop, W: Write>(
 ) -> Result<u64, ExplainFault> {
     let outcome = match kind {
         OutputKind::Records(each) => pie_explain::explain(alloc, input, output, selection, each),
-        OutputKind::Words(each) => pie_explain::explain(alloc, input, output, selection, each),
         OutputKind::Sums(sums) => pie_explain::explain(alloc, input, output, selection, sums),
-        OutputKind::Lines(lines) => pie_explain::explain(alloc, input, output, selection, lines),
-        OutputKind::Digest(digest) => pie_explain::explain(alloc, input, output, selection, digest),
-        OutputKind::Flows(flows) => pie_explain::explain(alloc, input, output, selection, flows),
+        OutputKind::Words(each) => explain_other(alloc, input, output, selection, in_words(each)),
+        OutputKind::Lines(lines) => explain_other(alloc, input, output, selection, in_lines(lines)),
+        OutputKind::Digest(it) => explain_other(alloc, input, output, selection, as_digest(it)),
+        OutputKind::Flows(flows) => explain_other(alloc, input, output, selection, by_flow(flows)),
     };
     match outcome {
         Err(ExplainFault::Trace(why)) => Err(ExplainFault::Trace(output.fault_of(why))),
         _ => outcome,
     }
+}
+
+/// Writes the explanations of the chosen events by a report that is compiled once.
+#[inline(never)]
+fn explain_other<R: Read + Drop, W: Write>(
+    alloc: Global,
+    input: R,
+    output: &mut JsonWriter<'_, W>,
+    selection: Selection,
+    report: OtherReport,
+) -> Result<u64, ExplainFault> {
+    pie_explain::explain(alloc, input, output, selection, report)
 }
 
 /// Returns the style of lines in the output of these options.

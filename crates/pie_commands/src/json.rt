@@ -4,6 +4,9 @@ use std::alloc::Global;
 use std::io;
 use std::io::Write;
 
+/// The digits of hexadecimal numbers.
+const DIGITS: &[u8; 16] = b"0123456789abcdef";
+
 /// Writes a string of JSON with these bytes, in quotes. Quotes, backslashes and control characters are escaped.
 ///
 /// # Errors
@@ -22,7 +25,10 @@ pub(crate) fn write_string<W: Write>(writer: &mut W, bytes: &[u8]) -> io::Result
         match *byte {
             b'"' => writer.write_all(b"\\\"")?,
             b'\\' => writer.write_all(b"\\\\")?,
-            code @ 0..=31 => write!(writer, "\\u{code:04x}")?,
+            code @ 0..=31 => {
+                let (high, low) = (b'0' + (code >> 4), DIGITS[usize::from(code & 15)]);
+                writer.write_all(&[b'\\', b'u', b'0', b'0', high, low])?
+            }
             other => writer.write_all(&[other])?,
         }
     }

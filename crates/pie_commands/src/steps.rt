@@ -7,6 +7,7 @@ use crate::explain::OutputKind;
 use crate::files::NamedFiles;
 use crate::json::JsonWriter;
 use crate::name::InLine;
+use crate::reports::{as_digest, by_flow, in_lines};
 use pie_audit::Finding;
 use pie_explain::{EventChoice, ExplainFault, Selection};
 use pie_linux_history::{
@@ -51,9 +52,16 @@ pub(crate) fn explain_steps<R: Read + Drop, W: Write>(
         }
         OutputKind::Records(each) => report(alloc, reader, output, selection, queue, each),
         OutputKind::Sums(sums) => report(alloc, reader, output, selection, queue, sums),
-        OutputKind::Lines(lines) => report(alloc, reader, output, selection, queue, lines),
-        OutputKind::Digest(digest) => report(alloc, reader, output, selection, queue, digest),
-        OutputKind::Flows(flows) => report(alloc, reader, output, selection, queue, flows),
+        OutputKind::Lines(lines) => report(
+            alloc,
+            reader,
+            output,
+            selection,
+            queue,
+            in_lines(lines),
+        ),
+        OutputKind::Digest(it) => report(alloc, reader, output, selection, queue, as_digest(it)),
+        OutputKind::Flows(flows) => report(alloc, reader, output, selection, queue, by_flow(flows)),
     };
     match outcome {
         Err(StepsFault::Trace(why)) => Err(StepsFault::Trace(output.fault_of(why))),

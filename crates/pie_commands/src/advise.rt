@@ -74,8 +74,8 @@ fn request_of<E: Write>(options: &ArgMatches<'_>, errors: &mut E) -> Option<Requ
 }
 
 /// `pie advise`: writes advice on the parameters of a queue for the link that the options describe.
-pub(crate) fn advise<H, W: Write, E: Write>(
-    call: &mut Call<'_, '_, '_, '_, H, E>,
+pub(crate) fn advise<H, R: Drop, W: Write, E: Write>(
+    call: &mut Call<'_, '_, '_, '_, H, R, E>,
     output: &mut W,
 ) -> End {
     let Some(request) = request_of(call.options, call.errors) else {

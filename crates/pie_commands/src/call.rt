@@ -1,30 +1,34 @@
 //! A call of a subcommand, and its ends at a text.
 
-use crate::diagnosis::{find_cause, write_cause};
+use crate::diagnosis::{Cause, find_cause, locate_fault, write_cause};
 use crate::difference::report_difference;
 use crate::end::{End, end_failed, fault, named_fault};
-use crate::files::NamedFiles;
+use crate::files::{NamedFiles, Source};
 use crate::name::InCommand;
 use crate::options::{HelpPage, file};
+use crate::progress::{ProgressReader, Screen};
 use crate::steps_fault::report_field;
 use clap::ArgMatches;
+use either::{Left, Right};
 use pie_linux_history::{StepDifference, StepsFault};
 use pie_trace::TraceFault;
 use std::alloc::Global;
 use std::fmt::Display;
-use std::io::Write;
+use std::io::{Read, Write};
 
-/// A call of a subcommand: the system, memory, the page and the options of the subcommand, and the error stream.
+/// A call of a subcommand: the system, memory, the page and the options of the subcommand, and the standard streams.
 #[derive(Drop)]
-pub(crate) struct Call<'h, 'o, 'w, 'e, H, E> {
+pub(crate) struct Call<'h, 'o, 'w, 'e, H, R: Drop, E> {
     pub(crate) rt: &'h H,
     pub(crate) alloc: Global,
     pub(crate) page: HelpPage<'static>,
     pub(crate) options: &'o ArgMatches<'w>,
+    /// Standard input, until it is read.
+    pub(crate) input: Option<R>,
     pub(crate) errors: &'e mut E,
 }
 
-impl<H: NamedFiles, E: Write> Call<'_, '_, '_, '_, H, E> {
+impl<H: NamedFiles + Screen, R: Read + Drop, E: Write> Call<'_, '_, '_, '_, H, R, E> {
     /// Writes a line, after the name of a file if there is one.
     pub(crate) fn line<D: Display + Drop>(&mut self, name: Option<&str>, text: D) {
         match name {
@@ -65,19 +69,28 @@ impl<H: NamedFiles, E: Write> Call<'_, '_, '_, '_, H, E> {
     /// Reads the file `name` again, and writes lines that describe the cause of its fault. If the cause is not found,
     /// writes a line with the name of the file.
     fn report_cause(&mut self, name: &str, why: TraceFault) {
-        let (rt, page) = (self.rt, self.page);
-        let (Some(reader), Some(again)) = (rt.open_again(name), rt.open_again(name)) else {
-            return self.name_text(name);
-        };
         let Ok(shown) = format!(in self.alloc; "{}", InCommand(name)) else {
             return;
         };
-        match find_cause(self.alloc, page.reads, why, reader, again) {
+        match self.cause_of(name, why) {
             Some(cause) => {
-                let _ = write_cause(&cause, shown.as_str(), page.word, self.errors);
+                let _ = write_cause(&cause, shown.as_str(), self.page.word, self.errors);
             }
             None => self.name_text(name),
         }
+    }
+
+    /// Returns the cause of a fault of the file `name`, which is read twice more.
+    fn cause_of(&mut self, name: &str, why: TraceFault) -> Option<Cause> {
+        let (rt, alloc, kind) = (self.rt, self.alloc, self.page.reads);
+        let text: Source<'_, R, H::File> = Left(Right(rt.open_again(name)?));
+        let mut reader = ProgressReader::new(text, &mut *self.errors, rt, false);
+        let located = locate_fault(why, &mut reader);
+        drop(reader);
+        let located = located?;
+        let text: Source<'_, R, H::File> = Left(Right(rt.open_again(name)?));
+        let again = ProgressReader::new(text, &mut *self.errors, rt, false);
+        find_cause(alloc, kind, why, &located, again)
     }
 
     /// Writes a line with the name of the file that has the text.
@@ -91,7 +104,7 @@ impl<H: NamedFiles, E: Write> Call<'_, '_, '_, '_, H, E> {
         fault(self.errors, text);
         if let Some(name) = file(self.options) {
             let is_explained = self.page.word == "explain";
-            report_difference(self.rt, self.alloc, name, number, is_explained, self.errors);
+            report_difference(self, name, number, is_explained);
         }
         End::Differs
     }
@@ -125,9 +138,7 @@ impl<H: NamedFiles, E: Write> Call<'_, '_, '_, '_, H, E> {
             }
             (_, Some(name)) => {
                 self.line(prefix, fault);
-                if !report_field(self.rt, self.alloc, name, fault, self.errors)
-                    && prefix.is_none()
-                {
+                if !report_field(self, name, fault) && prefix.is_none() {
                     self.name_text(name);
                 }
                 End::Fault(fault)

@@ -1,13 +1,19 @@
 //! The comparison of a history with its control and with the other history of `pie what-if`, by the numbers of their
 //! summaries.
 
-use pie_explain::{EventChoice, ExplainFault, Form, Selection, explain};
+use crate::call::Call;
+use crate::explain::explain_sums;
+use crate::files::{NamedFiles, Source};
+use crate::json::JsonWriter;
+use crate::progress::{ProgressReader, Screen};
+use either::Right;
+use pie_explain::{EventChoice, ExplainFault, Form, Selection};
 use pie_summary::SummariesOnly;
 use pie_trace::TraceFault;
 use pie_what_if::Omitted;
 use std::alloc::{AllocError, Global};
 use std::io;
-use std::io::Write;
+use std::io::{Read, Write};
 
 /// The first line of a comparison.
 pub(crate) const NO_REACTION: &str =
@@ -52,16 +58,25 @@ pub(crate) fn fault_in_memory(why: TraceFault) -> TraceFault {
     }
 }
 
-/// Returns the summary of the events of a column, as a CSV text of a header and a record.
-fn summary_of(alloc: Global, column: &Column<'_>) -> Result<Vec<u8>, ExplainFault> {
-    let mut written = Vec::new(alloc);
+/// Returns the summary of the events of a column, as a CSV text of a header and a record. Nothing is written to `output`.
+fn summary_of<H: NamedFiles + Screen, R: Read + Drop, W: Write, E: Write>(
+    call: &mut Call<'_, '_, '_, '_, H, R, E>,
+    column: &Column<'_>,
+    output: &mut W,
+) -> Result<Vec<u8>, ExplainFault> {
+    let (rt, alloc) = (call.rt, call.alloc);
+    let text: Source<'_, R, H::File> = Right(column.text);
+    let reader = ProgressReader::new(text, &mut *call.errors, rt, false);
+    let mut written = JsonWriter::new(alloc, output, false, usize::MAX);
     let selection = Selection::of(EventChoice::After(column.after));
     let form = Form {
         csv: true,
         by_wall: false,
     };
     let sums = SummariesOnly { form, every: None };
-    let why = match explain(alloc, column.text, &mut written, selection, sums) {
+    let outcome = explain_sums(alloc, reader, &mut written, selection, sums);
+    let written = written.into_withheld();
+    let why = match outcome {
         Ok(_) => return Ok(written),
         Err(ExplainFault::Trace(why)) => ExplainFault::Trace(fault_in_memory(why)),
         Err(why) => why,
@@ -207,23 +222,25 @@ fn write_fields<W: Write>(
 }
 
 /// Returns the text of a comparison of these columns: the history as it was recorded, the control, and the other history.
+/// Nothing is written to `output`.
 ///
 /// # Errors
 ///
 /// Returns the fault of an explanation; `Trace` with `Memory` if memory is short.
-pub(crate) fn comparison(
-    alloc: Global,
+pub(crate) fn comparison<H: NamedFiles + Screen, R: Read + Drop, W: Write, E: Write>(
+    call: &mut Call<'_, '_, '_, '_, H, R, E>,
     columns: [Column<'_>; 3],
     table: Table,
+    output: &mut W,
 ) -> Result<Vec<u8>, ExplainFault> {
     let [recorded, control, other] = columns;
-    let first = summary_of(alloc, &recorded)?;
-    let second = summary_of(alloc, &control)?;
-    let third = summary_of(alloc, &other)?;
+    let first = summary_of(call, &recorded, output)?;
+    let second = summary_of(call, &control, output)?;
+    let third = summary_of(call, &other, output)?;
     let records = [line_of(&first, 1), line_of(&second, 1), line_of(&third, 1)];
-    let mut page = Vec::new(alloc);
+    let mut page = Vec::new(call.alloc);
     match write_page(
-        alloc,
+        call.alloc,
         &mut page,
         table,
         line_of(&first, 0),

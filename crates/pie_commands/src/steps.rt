@@ -7,6 +7,7 @@ use crate::explain::OutputKind;
 use crate::files::NamedFiles;
 use crate::json::JsonWriter;
 use crate::name::InLine;
+use crate::progress::Screen;
 use crate::reports::{as_digest, by_flow, in_lines};
 use pie_audit::Finding;
 use pie_explain::{EventChoice, ExplainFault, Selection};
@@ -88,7 +89,7 @@ pub(crate) fn lacks_queue(queue: Option<&str>, finding: StepsFinding) -> bool {
     }
 }
 
-impl<H: NamedFiles, E: Write> Call<'_, '_, '_, '_, H, E> {
+impl<H: NamedFiles + Screen, R: Read + Drop, E: Write> Call<'_, '_, '_, '_, H, R, E> {
     /// Writes the number of steps that the recorder lost, and the numbers of steps whose rows lack an input, each if it is above 0,
     /// after the name of the file.
     pub(crate) fn report_lost(&mut self, name: Option<&str>, counts: StepsCounts) {

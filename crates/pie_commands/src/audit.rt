@@ -55,7 +55,7 @@ fn audited_steps<H: NamedFiles + Screen, R: Read + Drop, E: Write>(
 fn audit_text<H: NamedFiles + Screen, R: Read + Drop, E: Write>(
     call: &mut Call<'_, '_, '_, '_, H, R, E>,
     name: Option<&str>,
-    text: Source<'_, R, H::File>,
+    text: Source<R, H::File>,
     end: &mut Option<TextEnd>,
 ) -> Result<Audited, End> {
     let (rt, alloc, are_joined) = (call.rt, call.alloc, flag(call.options, "joined"));

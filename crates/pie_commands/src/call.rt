@@ -1,15 +1,14 @@
 //! A call of a subcommand, and its ends at a text.
 
-use crate::diagnosis::{Cause, find_cause, locate_fault, write_cause};
+use crate::diagnosis::{find_cause, write_cause};
 use crate::difference::report_difference;
 use crate::end::{End, end_failed, fault, named_fault};
-use crate::files::{NamedFiles, Source};
+use crate::files::NamedFiles;
 use crate::name::InCommand;
 use crate::options::{HelpPage, file};
-use crate::progress::{ProgressReader, Screen};
+use crate::progress::Screen;
 use crate::steps_fault::report_field;
 use clap::ArgMatches;
-use either::{Left, Right};
 use pie_linux_history::{StepDifference, StepsFault};
 use pie_trace::TraceFault;
 use std::alloc::Global;
@@ -69,28 +68,19 @@ impl<H: NamedFiles + Screen, R: Read + Drop, E: Write> Call<'_, '_, '_, '_, H, R
     /// Reads the file `name` again, and writes lines that describe the cause of its fault. If the cause is not found,
     /// writes a line with the name of the file.
     fn report_cause(&mut self, name: &str, why: TraceFault) {
+        let (rt, page) = (self.rt, self.page);
+        let (Some(reader), Some(again)) = (rt.open_again(name), rt.open_again(name)) else {
+            return self.name_text(name);
+        };
         let Ok(shown) = format!(in self.alloc; "{}", InCommand(name)) else {
             return;
         };
-        match self.cause_of(name, why) {
+        match find_cause(self.alloc, page.reads, why, reader, again) {
             Some(cause) => {
-                let _ = write_cause(&cause, shown.as_str(), self.page.word, self.errors);
+                let _ = write_cause(&cause, shown.as_str(), page.word, self.errors);
             }
             None => self.name_text(name),
         }
-    }
-
-    /// Returns the cause of a fault of the file `name`, which is read twice more.
-    fn cause_of(&mut self, name: &str, why: TraceFault) -> Option<Cause> {
-        let (rt, alloc, kind) = (self.rt, self.alloc, self.page.reads);
-        let text: Source<'_, R, H::File> = Left(Right(rt.open_again(name)?));
-        let mut reader = ProgressReader::new(text, &mut *self.errors, rt, false);
-        let located = locate_fault(why, &mut reader);
-        drop(reader);
-        let located = located?;
-        let text: Source<'_, R, H::File> = Left(Right(rt.open_again(name)?));
-        let again = ProgressReader::new(text, &mut *self.errors, rt, false);
-        find_cause(alloc, kind, why, &located, again)
     }
 
     /// Writes a line with the name of the file that has the text.

@@ -1,19 +1,15 @@
 //! The comparison of a history with its control and with the other history of `pie what-if`, by the numbers of their
 //! summaries.
 
-use crate::call::Call;
 use crate::explain::explain_sums;
-use crate::files::{NamedFiles, Source};
 use crate::json::JsonWriter;
-use crate::progress::{ProgressReader, Screen};
-use either::Right;
 use pie_explain::{EventChoice, ExplainFault, Form, Selection};
 use pie_summary::SummariesOnly;
 use pie_trace::TraceFault;
 use pie_what_if::Omitted;
 use std::alloc::{AllocError, Global};
 use std::io;
-use std::io::{Read, Write};
+use std::io::Write;
 
 /// The first line of a comparison.
 pub(crate) const NO_REACTION: &str =
@@ -59,14 +55,11 @@ pub(crate) fn fault_in_memory(why: TraceFault) -> TraceFault {
 }
 
 /// Returns the summary of the events of a column, as a CSV text of a header and a record. Nothing is written to `output`.
-fn summary_of<H: NamedFiles + Screen, R: Read + Drop, W: Write, E: Write>(
-    call: &mut Call<'_, '_, '_, '_, H, R, E>,
+fn summary_of<W: Write>(
+    alloc: Global,
     column: &Column<'_>,
     output: &mut W,
 ) -> Result<Vec<u8>, ExplainFault> {
-    let (rt, alloc) = (call.rt, call.alloc);
-    let text: Source<'_, R, H::File> = Right(column.text);
-    let reader = ProgressReader::new(text, &mut *call.errors, rt, false);
     let mut written = JsonWriter::new(alloc, output, false, usize::MAX);
     let selection = Selection::of(EventChoice::After(column.after));
     let form = Form {
@@ -74,7 +67,7 @@ fn summary_of<H: NamedFiles + Screen, R: Read + Drop, W: Write, E: Write>(
         by_wall: false,
     };
     let sums = SummariesOnly { form, every: None };
-    let outcome = explain_sums(alloc, reader, &mut written, selection, sums);
+    let outcome = explain_sums(alloc, column.text, &mut written, selection, sums);
     let written = written.into_withheld();
     let why = match outcome {
         Ok(_) => return Ok(written),
@@ -227,20 +220,20 @@ fn write_fields<W: Write>(
 /// # Errors
 ///
 /// Returns the fault of an explanation; `Trace` with `Memory` if memory is short.
-pub(crate) fn comparison<H: NamedFiles + Screen, R: Read + Drop, W: Write, E: Write>(
-    call: &mut Call<'_, '_, '_, '_, H, R, E>,
+pub(crate) fn comparison<W: Write>(
+    alloc: Global,
     columns: [Column<'_>; 3],
     table: Table,
     output: &mut W,
 ) -> Result<Vec<u8>, ExplainFault> {
     let [recorded, control, other] = columns;
-    let first = summary_of(call, &recorded, output)?;
-    let second = summary_of(call, &control, output)?;
-    let third = summary_of(call, &other, output)?;
+    let first = summary_of(alloc, &recorded, output)?;
+    let second = summary_of(alloc, &control, output)?;
+    let third = summary_of(alloc, &other, output)?;
     let records = [line_of(&first, 1), line_of(&second, 1), line_of(&third, 1)];
-    let mut page = Vec::new(call.alloc);
+    let mut page = Vec::new(alloc);
     match write_page(
-        call.alloc,
+        alloc,
         &mut page,
         table,
         line_of(&first, 0),

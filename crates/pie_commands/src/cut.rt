@@ -180,7 +180,7 @@ fn cut_out<R: Read + Drop, W: Write>(
 /// Returns the number of the last event of a text of either kind.
 fn last_event<H: NamedFiles + Screen, R: Read + Drop, E: Write>(
     call: &mut Call<'_, '_, '_, '_, H, R, E>,
-    text: Source<'_, R, H::File>,
+    text: Source<R, H::File>,
 ) -> Result<u64, TraceFault> {
     let (rt, is_shown) = (call.rt, shows_progress(call.rt, call.options, true));
     let (watched, kind) = ProgressReader::recognizing(text, &mut *call.errors, rt, is_shown);

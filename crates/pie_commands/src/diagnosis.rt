@@ -1,6 +1,6 @@
 //! The cause of a text's fault (this project's own): the line and the field of the file, and what is allowed there.
 //!
-//! `locate_fault` finds the line of a fault, and `find_cause` reads the text up to the record of the fault. One walk over the table of records (table.rt)
+//! `find_cause` reads a text again, up to the record of its fault. One walk over the table of records (table.rt)
 //! finds its problem: a kind, a number of fields, or the first field that is not allowed. If the table allows the
 //! record, bounds.rt finds the first number that another number bounds. `write_cause` writes the lines that
 //! describe the cause.
@@ -21,7 +21,7 @@ mod table;
 mod text;
 mod walk;
 
-pub(crate) use cause::{Cause, find_cause, locate_fault};
+pub(crate) use cause::find_cause;
 pub(crate) use message::write_cause;
 pub(crate) use table::{queued_field_name, resume_field_name};
 pub(crate) use text::TextKind;

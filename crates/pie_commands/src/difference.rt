@@ -4,7 +4,7 @@ use crate::call::Call;
 use crate::files::{NamedFiles, Source};
 use crate::name::{InCommand, InLine};
 use crate::progress::{ProgressReader, Screen};
-use either::{Left, Right};
+use either::Right;
 use pie_book::Event;
 use pie_explain::{DecidedEvent, EventDecision, decide_event, push_words};
 use pie_params::Params;
@@ -85,7 +85,7 @@ pub(crate) fn details_of<H: NamedFiles + Screen, R: Read + Drop, E: Write>(
         return None;
     }
     let (rt, alloc) = (call.rt, call.alloc);
-    let text: Source<'_, R, H::File> = Left(Right(rt.open_again(name)?));
+    let text: Source<R, H::File> = Right(rt.open_again(name)?);
     let reader = ProgressReader::new(text, &mut *call.errors, rt, false);
     match decide_event(alloc, reader, number) {
         Ok(Some(decided)) => Some(Details { number, decided }),

@@ -68,6 +68,7 @@ pub(crate) fn dispatch_to_file<
         errors: &mut *errors,
     };
     let end = dispatch(&mut call, &mut fresh);
+    drop(call);
     let is_there = finish_output(rt, fresh, name, is_forced, end.is_whole(), errors);
     end.after_output(is_there)
 }

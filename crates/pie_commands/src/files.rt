@@ -59,9 +59,8 @@ pub trait NamedFiles {
 
 // ---- files that are read
 
-/// A text that is read: standard input, a file, or bytes in memory. With one type for all, the code that reads is compiled
-/// once.
-pub(crate) type Source<'t, R, F> = Either<Either<R, F>, &'t [u8]>;
+/// A text that is read: standard input, or a file. With one type for both, the code that reads is compiled once.
+pub(crate) type Source<R, F> = Either<R, F>;
 
 /// Opens the text of this name: a file, or standard input without a name or for `-`. If a file can't be opened, or if `input`
 /// was already taken, a line is written to `errors` and the result is `None`.
@@ -70,10 +69,10 @@ pub(crate) fn open_text<H: NamedFiles, R: Read + Drop, E: Write>(
     name: Option<&str>,
     input: &mut Option<R>,
     errors: &mut E,
-) -> Option<Source<'static, R, H::File>> {
+) -> Option<Source<R, H::File>> {
     let Some(name) = file_of(name) else {
         return match input.take() {
-            Some(reader) => Some(Left(Left(reader))),
+            Some(reader) => Some(Left(reader)),
             None => {
                 fault(errors, "-: standard input has already been read");
                 None
@@ -81,7 +80,7 @@ pub(crate) fn open_text<H: NamedFiles, R: Read + Drop, E: Write>(
         };
     };
     match rt.open_named(name) {
-        Ok(file) => Some(Left(Right(file))),
+        Ok(file) => Some(Right(file)),
         Err(why) => {
             named_fault(errors, name, why);
             None

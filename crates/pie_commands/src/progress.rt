@@ -23,10 +23,10 @@ const WIPE: &[u8] = b"\r\x1b[K";
 
 /// A wrapper of a reader. It returns the bytes of the inner reader. On `errors` it reports the system's reason for a
 /// failed read and, if requested, the progress.
-pub(crate) struct ProgressReader<'e, R: Drop, W: Write, C: Clock + Drop> {
+pub(crate) struct ProgressReader<R: Drop, W: Write + Drop, C: Clock + Drop> {
     /// The inner reader, after the bytes that were read to recognize the text.
     inner: Chain<Head, R>,
-    errors: &'e mut W,
+    errors: W,
     clock: C,
     /// The moment at which reading began, if the clock could be read.
     begun: Option<Instant>,
@@ -82,7 +82,7 @@ fn since<C: Clock>(begun: Option<Instant>, clock: &C) -> Option<u64> {
     }
 }
 
-impl<R: Drop, W: Write, C: Clock + Drop> ProgressReader<'_, R, W, C> {
+impl<R: Drop, W: Write + Drop, C: Clock + Drop> ProgressReader<R, W, C> {
     /// Counts bytes that were read, and reports the progress if a report is due.
     fn count(&mut self, bytes: &[u8])
         ensures { inner_of self.new ≡ inner_of self.old }
@@ -92,7 +92,7 @@ impl<R: Drop, W: Write, C: Clock + Drop> ProgressReader<'_, R, W, C> {
         if self.bytes >= self.next {
             self.next = self.bytes.saturating_add(STEP);
             let milliseconds = since(self.begun, &self.clock);
-            write_progress(&mut *self.errors, self.bytes, self.records, milliseconds);
+            write_progress(&mut self.errors, self.bytes, self.records, milliseconds);
         }
     }
 
@@ -102,7 +102,7 @@ impl<R: Drop, W: Write, C: Clock + Drop> ProgressReader<'_, R, W, C> {
     {
         if self.next > STEP {
             self.next = STEP;
-            wipe(&mut *self.errors);
+            wipe(&mut self.errors);
         }
     }
 
@@ -113,20 +113,15 @@ impl<R: Drop, W: Write, C: Clock + Drop> ProgressReader<'_, R, W, C> {
     {
         if !matches!(why.kind(), ErrorKind::Interrupted) {
             self.wipe();
-            fault(&mut *self.errors, why);
+            fault(&mut self.errors, why);
         }
         why
     }
 }
 
-impl<'e, R: Read + Drop, W: Write, C: Clock + Drop> ProgressReader<'e, R, W, C> {
+impl<R: Read + Drop, W: Write + Drop, C: Clock + Drop> ProgressReader<R, W, C> {
     /// Wraps a reader. The wrapper reports its progress if it `is_shown`.
-    pub(crate) fn new(
-        inner: R,
-        errors: &'e mut W,
-        clock: C,
-        is_shown: bool,
-    ) -> ProgressReader<'e, R, W, C>
+    pub(crate) fn new(inner: R, errors: W, clock: C, is_shown: bool) -> ProgressReader<R, W, C>
         ensures { remaining_of R.remaining result ≡ R.remaining inner }
     {
         ProgressReader::with_head(Head::none(), inner, errors, clock, is_shown)
@@ -140,10 +135,10 @@ impl<'e, R: Read + Drop, W: Write, C: Clock + Drop> ProgressReader<'e, R, W, C> 
     /// `Read` if the reader fails before the text is recognized. The system's reason is then written to `errors`.
     pub(crate) fn recognizing(
         inner: R,
-        errors: &'e mut W,
+        errors: W,
         clock: C,
         is_shown: bool,
-    ) -> (ProgressReader<'e, R, W, C>, Result<bool, TraceFault>)
+    ) -> (ProgressReader<R, W, C>, Result<bool, TraceFault>)
         ensures kept { IfSome (R.remaining inner) (λ text. remaining_of R.remaining result.0 ≡ Some text) }
         ensures recognized { IfOk result.1 (λ is_steps. IfSome (R.remaining inner) (λ text. is_steps ≡ is_linux_text text)) }
         ensures fault { IfErr result.1 (λ why. why ≡ TraceFault.Read) }
@@ -164,10 +159,10 @@ impl<'e, R: Read + Drop, W: Write, C: Clock + Drop> ProgressReader<'e, R, W, C> 
     fn with_head(
         head: Head,
         inner: R,
-        errors: &'e mut W,
+        errors: W,
         clock: C,
         is_shown: bool,
-    ) -> ProgressReader<'e, R, W, C>
+    ) -> ProgressReader<R, W, C>
         ensures { remaining_of R.remaining result ≡ prepend_known (head_bytes head) (R.remaining inner) }
     {
         let begun = if is_shown {
@@ -188,7 +183,7 @@ impl<'e, R: Read + Drop, W: Write, C: Clock + Drop> ProgressReader<'e, R, W, C> 
     }
 }
 
-impl<R: Read + Drop, W: Write, C: Clock + Drop> Read for ProgressReader<'_, R, W, C> {
+impl<R: Read + Drop, W: Write + Drop, C: Clock + Drop> Read for ProgressReader<R, W, C> {
     ghost remaining = { remaining_of R.remaining };
 
     fn read(&mut self, buf: &mut [u8]) -> io::Result<usize> {
@@ -206,11 +201,11 @@ impl<R: Read + Drop, W: Write, C: Clock + Drop> Read for ProgressReader<'_, R, W
     }
 }
 
-impl<R: Drop, W: Write, C: Clock + Drop> Drop for ProgressReader<'_, R, W, C> {
+impl<R: Drop, W: Write + Drop, C: Clock + Drop> Drop for ProgressReader<R, W, C> {
     fn drop(self) {
         let ProgressReader {
             inner: _,
-            errors,
+            mut errors,
             clock: _,
             begun: _,
             is_shown: _,
@@ -219,7 +214,7 @@ impl<R: Drop, W: Write, C: Clock + Drop> Drop for ProgressReader<'_, R, W, C> {
             next,
         } = self;
         if next > STEP {
-            wipe(errors);
+            wipe(&mut errors);
         }
     }
 }

@@ -5,7 +5,7 @@ use crate::files::{NamedFiles, Source};
 use crate::name::InCommand;
 use crate::progress::{ProgressReader, Screen};
 use crate::steps::audit_steps;
-use either::{Left, Right};
+use either::Right;
 use pie_linux_history::StepsFault;
 use pie_record::{Record, Records, TraceFault};
 use std::alloc::{AllocError, Global};
@@ -80,16 +80,10 @@ impl Rows {
     }
 
     /// Returns the place of the first field whose number is not allowed: an audit of the fields up to it has a fault of a number.
-    fn bad_number<H: NamedFiles + Screen, R: Read + Drop, E: Write>(
-        &self,
-        call: &mut Call<'_, '_, '_, '_, H, R, E>,
-    ) -> Option<usize> {
-        let (rt, alloc) = (call.rt, call.alloc);
+    fn bad_number(&self, alloc: Global) -> Option<usize> {
         for place in 0..self.fields.len() {
             let text = self.text_to(alloc, place.saturating_add(1)).ok()?;
-            let bytes: Source<'_, R, H::File> = Right(text.as_slice());
-            let reader = ProgressReader::new(bytes, &mut *call.errors, rt, false);
-            let found = audit_steps(alloc, reader);
+            let found = audit_steps(alloc, text.as_slice());
             if matches!(found, Err(StepsFault::Trace(TraceFault::Number { .. }))) {
                 return Some(place);
             }
@@ -166,7 +160,7 @@ fn rows_at<H: NamedFiles + Screen, R: Read + Drop, E: Write>(
     name: &str,
     row: u64,
 ) -> Option<Rows> {
-    let text: Source<'_, R, H::File> = Left(Right(call.rt.open_again(name)?));
+    let text: Source<R, H::File> = Right(call.rt.open_again(name)?);
     let reader = ProgressReader::new(text, &mut *call.errors, call.rt, false);
     rows_of(call.alloc, reader, row)
 }
@@ -191,7 +185,7 @@ pub(crate) fn report_field<H: NamedFiles + Screen, R: Read + Drop, E: Write>(
             return true;
         }
         TraceFault::Word { .. } => rows.bad_word(),
-        _ => rows.bad_number(call),
+        _ => rows.bad_number(call.alloc),
     };
     if let Some(place) = place {
         write_field(&rows, why, place, name, call.errors);

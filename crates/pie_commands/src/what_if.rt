@@ -12,7 +12,6 @@ use crate::options::{bound, file, flag, number, output as output_file, parsed, t
 use crate::params::warn_rounded;
 use crate::progress::{ProgressReader, Screen, shows_progress};
 use clap::ArgMatches;
-use either::Right;
 use pie_explain::ExplainFault;
 use pie_params::Params;
 use pie_trace::TraceFault;
@@ -191,7 +190,7 @@ fn write_other<H: NamedFiles + Screen, R: Read + Drop, W: Write, E: Write>(
     call: &mut Call<'_, '_, '_, '_, H, R, E>,
     alteration: &Alteration,
     whole: bool,
-    text: Source<'_, R, H::File>,
+    text: Source<R, H::File>,
     output: &mut W,
 ) -> End {
     let (rt, alloc) = (call.rt, call.alloc);
@@ -223,17 +222,14 @@ fn decide_other<R: Read + Drop, W: Write>(
 }
 
 /// Decides the history in `text` again, in memory. Returns the other history and its end. Nothing is written to `output`.
-fn decide_in_memory<H: NamedFiles + Screen, R: Read + Drop, W: Write, E: Write>(
-    call: &mut Call<'_, '_, '_, '_, H, R, E>,
+fn decide_in_memory<W: Write>(
+    alloc: Global,
     text: &[u8],
     alteration: &Alteration,
     output: &mut W,
 ) -> Result<(Vec<u8>, WhatIfEnd), WhatIfFault> {
-    let (rt, alloc) = (call.rt, call.alloc);
-    let text: Source<'_, R, H::File> = Right(text);
-    let reader = ProgressReader::new(text, &mut *call.errors, rt, false);
     let mut other = JsonWriter::new(alloc, output, false, usize::MAX);
-    let outcome = decide_other(alloc, reader, &mut other, alteration);
+    let outcome = decide_other(alloc, text, &mut other, alteration);
     let other = other.into_withheld();
     match outcome {
         Ok(end) => Ok((other, end)),
@@ -245,8 +241,8 @@ fn decide_in_memory<H: NamedFiles + Screen, R: Read + Drop, W: Write, E: Write>(
 }
 
 /// Returns the text of the comparison of the history in `text` with its control and the other history.
-fn compare_text<H: NamedFiles + Screen, R: Read + Drop, W: Write, E: Write>(
-    call: &mut Call<'_, '_, '_, '_, H, R, E>,
+fn compare_text<W: Write>(
+    alloc: Global,
     alteration: &Alteration,
     table: Table,
     text: &[u8],
@@ -256,8 +252,8 @@ fn compare_text<H: NamedFiles + Screen, R: Read + Drop, W: Write, E: Write>(
         from: alteration.from,
         params: UNCHANGED,
     };
-    let (control, control_end) = decide_in_memory(call, text, &control, output)?;
-    let (other, end) = decide_in_memory(call, text, alteration, output)?;
+    let (control, control_end) = decide_in_memory(alloc, text, &control, output)?;
+    let (other, end) = decide_in_memory(alloc, text, alteration, output)?;
     let after = end.before.saturating_add(1);
     let columns = [
         Column {
@@ -276,7 +272,7 @@ fn compare_text<H: NamedFiles + Screen, R: Read + Drop, W: Write, E: Write>(
             omitted: end.omitted,
         },
     ];
-    Ok(comparison(call, columns, table, output))
+    Ok(comparison(alloc, columns, table, output))
 }
 
 /// Compares a history, which is read into memory, with its control and the other history.
@@ -284,7 +280,7 @@ fn compare<H: NamedFiles + Screen, R: Read + Drop, W: Write, E: Write>(
     call: &mut Call<'_, '_, '_, '_, H, R, E>,
     alteration: &Alteration,
     table: Table,
-    text: Source<'_, R, H::File>,
+    text: Source<R, H::File>,
     output: &mut W,
 ) -> End {
     let (rt, alloc) = (call.rt, call.alloc);
@@ -302,7 +298,7 @@ fn compare<H: NamedFiles + Screen, R: Read + Drop, W: Write, E: Write>(
         };
         return call.end_at_fault(fault);
     }
-    match compare_text(call, alteration, table, &text, output) {
+    match compare_text(alloc, alteration, table, &text, output) {
         Ok(page) => {
             if !matches!(table, Table::Words) {
                 fault(call.errors, NO_REACTION);

@@ -2,7 +2,7 @@
 
 use crate::diagnosis::bounds::bound_problem;
 use crate::diagnosis::hint::Hint;
-use crate::diagnosis::line_finder::{Located, locate};
+use crate::diagnosis::line_finder::locate;
 use crate::diagnosis::queue::Queue;
 use crate::diagnosis::text::{Place, TextKind};
 use crate::diagnosis::walk::{Problem, problem_of, shape_of};
@@ -45,26 +45,21 @@ fn record_of(why: TraceFault) -> Option<u64> {
     }
 }
 
-/// Returns the line and the first bytes of a text that has the fault `why`. `None` if the fault names no record, or if the
-/// text can't be read.
-pub(crate) fn locate_fault<R: Read>(why: TraceFault, reader: &mut R) -> Option<Located> {
-    let number = record_of(why)?;
-    locate(reader, number.saturating_sub(1)).ok()
-}
-
-/// Returns the cause of the fault `why` that a text of this kind has (this project's own). `reader` reads the text from its
-/// beginning, and `located` is where its fault is. `None` if the fault names no record, if the text has no such fault, or if
-/// it can't be read again.
+/// Returns the cause of the fault `why` that a text of this kind has (this project's own). `reader` and `again` both
+/// read the text from its beginning: the one for its records, the other for its lines. `None` if the fault names no
+/// record, if the text has no such fault, or if it can't be read again.
 pub(crate) fn find_cause<R: Read + Drop>(
     alloc: Global,
     kind: TextKind,
     why: TraceFault,
-    located: &Located,
     reader: R,
+    again: R,
 ) -> Option<Cause> {
+    let mut lines = again;
     let number = record_of(why)?;
+    let located = locate(&mut lines, number.saturating_sub(1)).ok()?;
     if let TraceFault::NoOpen = why {
-        if let Some(hint) = Hint::of(located) {
+        if let Some(hint) = Hint::of(&located) {
             return Some(Cause {
                 line: 1,
                 reason: Reason::File(hint),

@@ -379,14 +379,16 @@ def shorter_limits(queue="limit100"):
 
 def limits_text():
     """Returns the outcome of the criterion of PLAN.md, in words."""
-    parts = []
-    for question, limits in CANDIDATES.items():
-        present, (chosen, _) = next(iter(limits)), chosen_limit(question)
+    says = [shorter_limits()]
+    for question in CANDIDATES:
+        present, (chosen, _) = next(iter(CANDIDATES[question])), chosen_limit(question)
         if lacking := not_run_limits(question):
-            parts.append(f"{question} stays {present}, since not all runs of {', '.join(f'`{LIMITS[name]}`' for name in lacking)} exist")
+            says.append(f"Not all runs of {', '.join(f'`{LIMITS[name]}`' for name in lacking)} exist, so {question} of {present} stays.")
+        elif chosen == present:
+            says.append(f"The [criterion](../bench/uml/PLAN.md#limits) keeps {question} of {present}.")
         else:
-            parts.append(f"{question} {f'stays {present}' if chosen == present else f'becomes {chosen} in place of {present}'}")
-    return f"{shorter_limits()} By the [criterion](../bench/uml/PLAN.md#limits), {', and '.join(parts)}."
+            says.append(f"It gives {chosen} for {question}, in place of {present}.")
+    return " ".join(says)
 
 
 # versions that no commit of this repository contains

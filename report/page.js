@@ -210,7 +210,7 @@ function heading() {
     say(element("span"), `${events} in ${duration(LENGTH)}, from ${span}. `, asked && `Options: ${asked}`);
     if (DATA.status !== 0) {
         const what = DATA.status === 2 ? "An event of this history is not what the rules give: " : "This history has a fault: ";
-        say(element("fault"), [what], DATA.told, `. The page shows the ${events} before it.`);
+        say(element("fault"), [what], DATA.message, `. The page shows the ${events} before it.`);
         element("fault").hidden = false;
     }
     const point = `A point of the charts covers ${duration(PERIOD)}. `;

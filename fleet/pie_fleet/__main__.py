@@ -62,7 +62,7 @@ def plain(line):
     return "".join(f"\\x{ord(it):02x}" if ord(it) < 32 or ord(it) == 127 else it for it in line)
 
 
-def tell(line):
+def report_line(line):
     print(plain(f"pie-fleet: {line}"), file=sys.stderr)
 
 
@@ -117,7 +117,7 @@ def gather(asked, rows, add):
     if asked.scheduler:
         client = client_of(asked.scheduler)
         from . import cluster
-        workers = cluster.Workers(client, asked.pie, tell)
+        workers = cluster.Workers(client, asked.pie, report_line)
         if workers.wanted is None:
             raise SystemExit(f"pie-fleet: no worker has {asked.pie}")
         fit = workers.fit(None)
@@ -184,7 +184,7 @@ def main(words):
         print_worst(ended, column)
     for row in ended:
         if int(row["status"]) == 1:
-            tell(f"{row['link']}: {row['finding']}: {row['note']}")
+            report_line(f"{row['link']}: {row['finding']}: {row['note']}")
     status = table.status_of(ended)
     return status or (3 if any(": differs for" not in line for line in found) else 0)
 
@@ -193,8 +193,8 @@ if __name__ == "__main__":
     try:
         sys.exit(main(sys.argv[1:]))
     except (OSError, ValueError, OutputError, subprocess.SubprocessError) as fault:
-        tell(fault)
+        report_line(fault)
         sys.exit(1)
     except KeyboardInterrupt:
-        tell("stopped: the same command continues")
+        report_line("stopped: the same command continues")
         sys.exit(130)

@@ -20,13 +20,13 @@ MOST_FILES, MOST_BYTES = 64, 2 ** 25
 class Workers:
     """The workers of a cluster, with their hosts and versions of `pie`."""
 
-    def __init__(self, client, pie, tell):
-        self.client, self.pie, self.tell = client, pie, tell
-        self.versions, self.names, self.threads, self.told = {}, {}, {}, set()
+    def __init__(self, client, pie, report):
+        self.client, self.pie, self.report = client, pie, report
+        self.versions, self.names, self.threads, self.reported = {}, {}, {}, set()
         self.look()
         counted = Counter(version for version in self.versions.values() if version)
         self.wanted = max(sorted(counted), key=lambda version: counted[version]) if counted else None
-        self.tell_wrong()
+        self.report_wrong()
 
     def look(self):
         """Adds new workers, and removes those that are gone."""
@@ -44,14 +44,14 @@ class Workers:
         """Examines all workers again, because one has another `pie` than before."""
         self.names.clear()
         self.look()
-        self.tell_wrong()
+        self.report_wrong()
 
     def tell_wrong(self):
         for at in self.names:
-            if self.versions.get(at) != self.wanted and at not in self.told:
-                self.told.add(at)
+            if self.versions.get(at) != self.wanted and at not in self.reported:
+                self.reported.add(at)
                 has = self.versions.get(at) or f"no program {self.pie}"
-                self.tell(f"worker {at} gets no work: it has {has}, and not {self.wanted}")
+                self.report(f"worker {at} gets no work: it has {has}, and not {self.wanted}")
 
     def fit(self, host):
         """Returns the workers that a batch may be sent to."""

@@ -56,8 +56,8 @@ def read(path):
 
 def worst(rows, column, most=10):
     """Returns the rows with the greatest values in a column, the greatest first."""
-    told = [row for row in rows if number(row, column) is not None]
-    return sorted(told, key=lambda row: (-number(row, column), row["link"]))[:most]
+    known = [row for row in rows if number(row, column) is not None]
+    return sorted(known, key=lambda row: (-number(row, column), row["link"]))[:most]
 
 
 def status_of(rows):

@@ -19,16 +19,16 @@ WORDS = ["link", "path", "host", "finding", "note"]  # (the other columns have n
 def version_of(pie):
     """Returns the version of `pie` on this machine, or None."""
     try:
-        told = _call([pie, "--version"])
+        done = _call([pie, "--version"])
     except OSError:
         return None
-    return told.stdout.strip() if told.returncode == 0 else None
+    return done.stdout.strip() if done.returncode == 0 else None
 
 
 def fields_of(pie):
     """Returns the names of the summary's fields, as `pie` writes them for a history without events."""
-    told = subprocess.run([pie, "explain", "--summary", "--csv"], capture_output=True, text=True, errors="replace", input="open,0,1,1,1\n")
-    return told.stdout.split("\n")[0].split(",")
+    done = subprocess.run([pie, "explain", "--summary", "--csv"], capture_output=True, text=True, errors="replace", input="open,0,1,1,1\n")
+    return done.stdout.split("\n")[0].split(",")
 
 
 def host_and_version(pie):
@@ -87,9 +87,9 @@ def _reason(ended, path):
     """Returns one line with the reason why `pie` failed: its lines about the file at `path`, without the file's name but with that in a command."""
     if ended.returncode < 0:
         return f"pie was ended by signal {-ended.returncode}"
-    told = [line.removeprefix("pie: ").removeprefix(f"{STDIN}: ") for line in ended.stderr.strip().split("\n") if line.startswith("pie: ")]
-    told = [re.sub(f" of {STDIN}(?=[,:])", "", line).replace(f"{STDIN} is", "it is").replace(STDIN, shlex.quote(path)) for line in told]
-    return "; ".join(told) or ended.stderr.strip().split("\n")[0] or f"pie ended with {ended.returncode} and said nothing"
+    lines = [line.removeprefix("pie: ").removeprefix(f"{STDIN}: ") for line in ended.stderr.strip().split("\n") if line.startswith("pie: ")]
+    lines = [re.sub(f" of {STDIN}(?=[,:])", "", line).replace(f"{STDIN} is", "it is").replace(STDIN, shlex.quote(path)) for line in lines]
+    return "; ".join(lines) or ended.stderr.strip().split("\n")[0] or f"pie ended with {ended.returncode} and said nothing"
 
 
 def rows_of(files, pie, wanted):

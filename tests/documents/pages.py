@@ -1,11 +1,10 @@
 #!/usr/bin/env python3
-"""Runs each command of README.md, of the pages for users in docs/ and of the pages of bindings/ and examples/ in a fresh copy of the
-repository, and follows each link of every page.
+"""Runs each command of every page in a fresh copy of the repository, and follows each link of every page.
 
 An indented block is one bash script. It starts at the top of the copy, with the files that earlier blocks of its
 page left. If a block begins with `$ `, each line with `$ ` is a script of its own, and the lines below it are its
 expected output. A block that begins with a comment of a file's name, such as /* queue.c */, is that file. Text in
-fences is not run.
+fences is not run. NOT_RUN names each block and each fence of commands that is not run, with the reason.
 
 If a page speaks of files that its reader has, PREPARED has the script that makes them.
 
@@ -31,7 +30,29 @@ from checks import NAME, ROOT, check, finish  # noqa: E402
 BUILT = ["crates/pie/out/pie", "crates/pie_c/out/libpie_c.a", "crates/pie_link_c/out/libpie_link_c.a"]
 # folders in which make takes long: built once here for their check.sh (with the same lock) and for the copies
 MADE = ["bindings/dpdk", "bindings/ns3"]
-RUN = ["README.md", *(f"docs/{name}.md" for name in ("FORMATS", "LIBRARY", "OPERATING", "PARAMETERS")), "bindings/**/*.md", "examples/**/*.md"]
+PAGES = ["*.md", "docs/*.md", "bench/**/*.md", "bindings/**/*.md", "dist/*.md", "examples/**/*.md", "upstream/*.md"]
+KERNEL = "needs root, and a kernel with the module or with bpf"
+MACHINES = "needs other machines"
+# The blocks and fences of commands that are not run, by their first words, with the reason.
+NOT_RUN = {
+    "README.md": {"# pie-watch eth0": KERNEL},
+    "CONTRIBUTING.md": {".ci/quick": "minutes; the gate runs this test"},
+    "bench/uml/README.md": {"bench/steps/install.sh": "builds a Linux and measures for hours"},
+    "bindings/bpf/README.md": {"# pie-qdisc attach": KERNEL},
+    "bindings/dpdk/README.md": {"$ dpdk-telemetry.py": "needs a program of DPDK that runs"},
+    "bindings/kernel/README.md": {"dpkg-buildpackage": KERNEL, "bindings/kernel/install.sh": KERNEL, "$ tc -s qdisc": KERNEL},
+    "bindings/linux/README.md": {"# tc qdisc add": KERNEL},
+    "dist/README.md": {"dist/make.sh": "proves and builds every library"},
+    "docs/DEVELOPING.md": {"rt check": "a list, which proves", ".ci/quick": "a list; the gate runs its scripts"},
+    "docs/OPERATING.md": {
+        "pie-watch eth0": KERNEL, "pie-metrics --again": "needs a text of pie-watch that is written", "pie audit north.history": "writes to a folder of the system",
+        "pie-tap follow": KERNEL, "export DASK_CONFIG": MACHINES, "python3 -m pie_fleet": MACHINES, "parallel -X": MACHINES, "cd histories": MACHINES,
+    },
+    "docs/RESULTS.md": {"bindings/ns3/scenarios.sh": "simulates for hours"},
+    "examples/README.md": {"pie explain --from": "needs the reader's own packets"},
+}
+# the first words of a fence of commands, in addition to those of language sh
+COMMAND = re.compile(r"[$#] |(?:pie|pie-[a-z]+|python3|make|cd|export) ")
 # the histories of a page's reader: one that differs, one that is cut off, a day, and an archive from which a segment is missing and in which the
 # state of another one is changed
 PREPARED = {"docs/OPERATING.md": r"""
@@ -46,7 +67,6 @@ pie cut --every 1000 month.history | (cd archive && csplit -z -s -n 4 -f month. 
 rm archive/month.0006
 awk -F, -v OFS=, 'NR == 1 { $NF++ } 1' archive/month.0011 > changed && mv changed archive/month.0011
 """}
-LINKED = [*RUN, "*.md", "docs/*.md", "bench/*.md"]
 LINK = re.compile(r"\]\(([^)\s]+)\)")
 # a stand-in for rt, in the folder of a crate whose program or library was built
 RT = """#!/usr/bin/env bash
@@ -97,6 +117,28 @@ def blocks(text):
             block.append("")
         was_empty = not line.strip()
     return found
+
+
+def fences(text):
+    """Returns the fences of commands of a page."""
+    found = re.findall(r"^```(.*)\n(.*?)^```$", text, flags=re.M | re.S)
+    return [block for language, block in found if language == "sh" or (not language and COMMAND.match(block))]
+
+
+def reason(page, block):
+    """Returns the first words of an entry of NOT_RUN for this block, and its reason, or None."""
+    entries = NOT_RUN.get(str(page.relative_to(ROOT)), {})
+    return next(((words, why) for words, why in entries.items() if block.startswith(words)), None)
+
+
+def check_named(page):
+    """Checks that each fence of commands is named in NOT_RUN, and each entry of the page there is one of its blocks."""
+    name, text = page.relative_to(ROOT), page.read_text()
+    for block in fences(text):
+        check(reason(page, block), f"{name}: the fence of commands is neither run nor named in NOT_RUN: {block.splitlines()[0]}")
+    named = {reason(page, block)[0] for block in [*fences(text), *blocks(text)] if reason(page, block)}
+    for words in set(NOT_RUN.get(str(name), {})) - named:
+        check(False, f"{name}: NOT_RUN names a block that is not there: {words}")
 
 
 def has_numpy(python):
@@ -166,6 +208,8 @@ def run_page(page, copy, words):
         if is_file:
             (copy / is_file[1]).write_text(block + "\n")
             continue
+        if reason(page, block):
+            continue
         count += 1
         for command, printed in commands(block):
             lacks = missing(command, copy, words)
@@ -187,14 +231,17 @@ def main():
     words = sys.argv[1:]
     real = "--rt" in words
     chosen = [Path(it).resolve() for it in words if it != "--rt"]
-    for page in pages(LINKED):
+    for page in pages(PAGES):
         follow_links(page)
+        check_named(page)
+    for name in set(NOT_RUN) - {str(page.relative_to(ROOT)) for page in pages(PAGES)}:
+        check(False, f"NOT_RUN names a page that is not there: {name}")
     for name in MADE:
         if subprocess.run([ROOT / name / "install.sh", "--check"], capture_output=True, check=False).returncode == 0:
             made = subprocess.run(["flock", ROOT / name, "make", "-s", "-C", ROOT / name], capture_output=True, text=True, check=False)
             check(made.returncode == 0, f"make -C {name} ends with status {made.returncode}:\n{made.stderr[-2000:]}")
     with tempfile.TemporaryDirectory() as work:
-        for page in chosen or pages(RUN):
+        for page in chosen or pages(PAGES):
             if not blocks(page.read_text()):
                 continue
             copy = Path(work) / "repository"

@@ -361,6 +361,51 @@ def preambles():
         check(got == want, "the cause in a preamble", "a short record", got, want)
 
 
+def nearest_allowed(value, allowed):
+    """Returns the number that is nearest to `value` among those that a cause allows."""
+    if allowed.startswith("are "):
+        return min(map(int, allowed.removeprefix("are ").split(", ")), key=lambda it: abs(it - value))
+    bounds = [int(it) for it in re.findall(r"\d+", allowed)]
+    return min(max(value, bounds[0]), bounds[-1])
+
+
+def causes_in(work, texts):
+    """Audits these texts in one call. Returns the place, the value and the allowed contents of the field that is the cause in the first line
+    of each text, by the text's number."""
+    for number, text in enumerate(texts):
+        with open(f"{work}/{number}", "w", encoding="ascii") as file:
+            file.write(text)
+    errors = run(["audit", *(f"{work}/{number}" for number in range(len(texts)))], b"")[2].decode()
+    found = re.findall(r'^pie: line 1 of \S*/(\d+), field (\d+) \(\w+\): "(.*)"; allowed (.*)$', errors, re.M)
+    return {int(number): (int(place), value, allowed) for number, place, value, allowed in found}
+
+
+def cures():
+    """Changes each number of a `resume` record: the nearest number that the cause allows then removes the fault, also if several checks fail."""
+    excerpt = run(["cut", "--event", "6"], run(["run"], QUEUED)[1])[1].decode().splitlines()
+    row, rest = excerpt[0].split(","), "".join(f"{line}\n" for line in excerpt[1:])
+
+    def text_with(changes):
+        return ",".join(changes.get(place, field) for place, field in enumerate(row, 1)) + "\n" + rest
+
+    changes = []
+    for place, field in enumerate(row, 1):
+        if field.isdigit():
+            value = int(field)
+            others = {0, 1, value - 1, value + 1, value + 2, value // 2, 2 * value + 1, 10**6, 2**41, 2**60, 2**64 - 1}
+            changes += [{place: str(it)} for it in sorted(others - {value, -1})]
+    with tempfile.TemporaryDirectory() as work:
+        found = causes_in(work, [text_with(it) for it in changes])
+        cured = []
+        for number, (place, value, allowed) in found.items():
+            if re.fullmatch(r"is \d+|is a number from \d+ to \d+|are [0-9, ]+", allowed) and value.isdigit():
+                cured.append((changes[number], {**changes[number], place: str(nearest_allowed(int(value), allowed))}))
+        left = causes_in(work, [text_with(it) for _, it in cured])
+    for number, cause_left in left.items():
+        check(False, "a number that does not cure:", *cured[number], cause_left)
+    check(len(cured) > 250, "few numbers of a resume record had a cause:", len(cured), "of", len(changes))
+
+
 def small():
     """Returns a trace and a history of four records, one of them replaced entirely or in part."""
     trace = b"open,0,4,16,100\narrive,1,10,7,1500,ect0,0\ndepart,2,25\ndepart,2,30\n"
@@ -402,6 +447,7 @@ def main():
         causes()
         steps_of_linux()
         preambles()
+        cures()
         small()
         found = compare(PROGRAM, sample, sampled)
     for it in found[:50]:

@@ -249,7 +249,7 @@ def hold_faults(folder):
                         ([history, out, "--flows", folder / "changed"], f"{folder}/changed: a row is not a flow"),
                         ([history, out, "--pie", folder / "none"], f"{folder}/none: No such file or directory"),
                         ([history, out, "--extcap-interface", "eth0"], "there is no interface eth0, only pie"),
-                        ([history, out, "--every"], "unrecognized arguments: --every; --help tells more")):
+                        ([history, out, "--every"], "unrecognized arguments: --every; see --help")):
         done = extcap(*words)
         check(done == (1, f"pie-extcap: {says}\n"), done)
     # without --force no file is replaced; a pipe, a device and a new file are written

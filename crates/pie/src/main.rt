@@ -24,10 +24,7 @@ fn main(mut rt: HostRuntime) -> ExitCode {
         &mut errors,
     );
     let is_closed = output.is_closed();
-    if let Some(why) = output.reason() {
-        let _ = eprintln!(rt; "pie: {why}");
-    }
-    let _ = end.report(is_closed, &mut errors);
+    end.report(output.reason(), is_closed, &mut errors);
     ExitCode::from(end.status(is_closed))
 }
 

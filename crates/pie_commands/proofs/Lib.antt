@@ -1,3 +1,4 @@
+mod AdviceExamples
 mod Names
 mod Examples
 mod TextKindFacts

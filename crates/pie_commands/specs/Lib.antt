@@ -1,3 +1,4 @@
+pub mod Advice
 pub mod Advising
 pub mod Alterations
 pub mod Cuts

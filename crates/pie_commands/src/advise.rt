@@ -3,12 +3,12 @@ ghost use Rattle.std.specs.Prelude.{◌≡◌};
 ghost use Rattle.clap.specs.Words.{found_of, rows_of};
 ghost use Rattle.pie_commands.specs.Advising.{range_given, rate_given, request_in};
 
+use crate::advising::{Range, Request, advice_for, opening_for_link, push_advice, range_in};
 use crate::call::Call;
 use crate::end::{End, end_failed, end_of_page, end_unable};
 use crate::options::{flag, parsed, text};
 use crate::params::overhead_in;
 use clap::ArgMatches;
-use pie_advise::{Range, Request, advice_for, opening_for_link, push_advice, range_in};
 use pie_text::Page;
 use pie_units::{Quantity, rate_of};
 use std::io::Write;
@@ -74,8 +74,8 @@ fn request_of<E: Write>(options: &ArgMatches<'_>, errors: &mut E) -> Option<Requ
 }
 
 /// `pie advise`: writes advice on the parameters of a queue for the link that the options describe.
-pub(crate) fn advise<H, W: Write, E: Write>(
-    call: &mut Call<'_, '_, '_, '_, H, E>,
+pub(crate) fn advise<H, R: Drop, W: Write, E: Write>(
+    call: &mut Call<'_, '_, '_, '_, H, R, E>,
     output: &mut W,
 ) -> End {
     let Some(request) = request_of(call.options, call.errors) else {

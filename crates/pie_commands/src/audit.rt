@@ -4,16 +4,15 @@ use crate::audit_json::write_object;
 use crate::call::Call;
 use crate::difference::{Details, details_of, write_details};
 use crate::end::{End, end_with_fault};
-use crate::files::{NamedFiles, reader_named};
+use crate::files::{NamedFiles, Source, open_text};
 use crate::joint::report_joint;
 use crate::name::InLine;
 use crate::options::flag;
 use crate::progress::{ProgressReader, Screen, shows_progress};
 use crate::steps::{audit_steps, finding_of};
-use either::{Either, Left};
 use pie_audit::Finding;
 use pie_cut::{Joined, Joint, TextEnd, UnlikeRecords, audit_joined};
-use pie_linux_history::StepsFinding;
+use pie_linux_history::{StepsFault, StepsFinding};
 use pie_trace::TraceFault;
 use std::io;
 use std::io::{Read, Write};
@@ -31,44 +30,54 @@ pub(crate) struct Audited {
     unlike: Option<UnlikeRecords>,
 }
 
+/// Returns the result of an audit of recorded steps in the file `name`, if it has a name, as `audit_text` does.
+fn audited_steps<H: NamedFiles + Screen, R: Read + Drop, E: Write>(
+    call: &mut Call<'_, '_, '_, '_, H, R, E>,
+    name: Option<&str>,
+    found: Result<StepsFinding, StepsFault>,
+) -> Result<Audited, End> {
+    match found {
+        Ok(found) => Ok(Audited {
+            joined: Joined {
+                finding: finding_of(found),
+                joint: None,
+            },
+            steps: Some(found),
+            unlike: None,
+        }),
+        Err(why) => Err(call.end_of_steps(name, name, why)),
+    }
+}
+
 /// Audits a text of either kind in the file `name`, if it has a name. With `--joined` also compares its beginning
 /// with `end`, the end of the text before it, and stores the end of this text in `end`. If the text can't be audited, writes
 /// a line to the error stream, and returns the end.
 fn audit_text<H: NamedFiles + Screen, R: Read + Drop, E: Write>(
-    call: &mut Call<'_, '_, '_, '_, H, E>,
+    call: &mut Call<'_, '_, '_, '_, H, R, E>,
     name: Option<&str>,
-    reader: R,
+    text: Source<R, H::File>,
     end: &mut Option<TextEnd>,
 ) -> Result<Audited, End> {
     let (rt, alloc, are_joined) = (call.rt, call.alloc, flag(call.options, "joined"));
     let is_shown = shows_progress(rt, call.options, false);
-    let (watched, kind) = ProgressReader::recognizing(reader, &mut *call.errors, rt, is_shown);
-    let is_steps = match kind {
-        Ok(is_steps) => is_steps,
+    let (watched, kind) = ProgressReader::recognizing(text, &mut *call.errors, rt, is_shown);
+    match kind {
+        Ok(false) => {}
+        Ok(true) => {
+            *end = None;
+            if are_joined {
+                drop(watched);
+                call.line(name, NOT_JOINED);
+                return Err(End::Failed);
+            }
+            let found = audit_steps(alloc, watched);
+            return audited_steps(call, name, found);
+        }
         Err(why) => {
             drop(watched);
             *end = None;
             return Err(call.end_of_text(name, name, why));
         }
-    };
-    if is_steps {
-        *end = None;
-        if are_joined {
-            drop(watched);
-            call.line(name, NOT_JOINED);
-            return Err(End::Failed);
-        }
-        return match audit_steps(alloc, watched) {
-            Ok(found) => Ok(Audited {
-                joined: Joined {
-                    finding: finding_of(found),
-                    joint: None,
-                },
-                steps: Some(found),
-                unlike: None,
-            }),
-            Err(why) => Err(call.end_of_steps(name, name, why)),
-        };
     }
     let mut unlike = None;
     let found = if are_joined {
@@ -97,25 +106,15 @@ fn joined_of(found: Result<Finding, TraceFault>) -> Result<Joined, TraceFault> {
     }
 }
 
-/// Audits the text in the file `name`, or in `input` without a name, as `audit_text` does.
+/// Audits the text in the file `name`, or in standard input without a name, as `audit_text` does.
 #[inline(never)]
 fn audit_named<H: NamedFiles + Screen, R: Read + Drop, E: Write>(
-    call: &mut Call<'_, '_, '_, '_, H, E>,
+    call: &mut Call<'_, '_, '_, '_, H, R, E>,
     name: Option<&str>,
-    input: &mut Option<R>,
     end: &mut Option<TextEnd>,
 ) -> Result<Audited, End> {
-    // The type equals the type of a file's reader, so an audit is compiled once.
-    let reader: Option<Either<R, H::File>> = match (name, input.take()) {
-        (Some(name), stdin) => {
-            *input = stdin;
-            reader_named(call.rt, name, input, call.errors)
-        }
-        (None, Some(input)) => Some(Left(input)),
-        (None, None) => None,
-    };
-    match reader {
-        Some(reader) => audit_text(call, name, reader, end),
+    match open_text(call.rt, name, &mut call.input, call.errors) {
+        Some(text) => audit_text(call, name, text, end),
         None => {
             *end = None;
             Err(End::Unopened)
@@ -151,8 +150,8 @@ fn write_name<W: Write>(name: Option<&str>, output: &mut W) -> io::Result<()> {
 
 /// Writes the lines on the error stream about a result: the event that differs with its `details`, the numbers of lost steps,
 /// or the joint that does not fit.
-fn report<H: NamedFiles, E: Write>(
-    call: &mut Call<'_, '_, '_, '_, H, E>,
+fn report<H: NamedFiles + Screen, R: Read + Drop, E: Write>(
+    call: &mut Call<'_, '_, '_, '_, H, R, E>,
     name: Option<&str>,
     audited: &Audited,
     details: &Option<Details>,
@@ -172,16 +171,14 @@ fn report<H: NamedFiles, E: Write>(
 }
 
 /// Writes the result of an audit, and the lines about it. Returns the end of the text.
-fn end_of_audited<H: NamedFiles, W: Write, E: Write>(
-    call: &mut Call<'_, '_, '_, '_, H, E>,
+fn end_of_audited<H: NamedFiles + Screen, R: Read + Drop, W: Write, E: Write>(
+    call: &mut Call<'_, '_, '_, '_, H, R, E>,
     name: Option<&str>,
     audited: &Audited,
     output: &mut W,
 ) -> End {
     let details = match (audited.joined.finding, audited.steps, name) {
-        (Finding::Differs { event }, None, Some(name)) => {
-            details_of(call.rt, call.alloc, name, event)
-        }
+        (Finding::Differs { event }, None, Some(name)) => { details_of(call, name, event) }
         _ => None,
     };
     let written = if flag(call.options, "json") {
@@ -208,22 +205,20 @@ fn worse(one: End, other: End) -> End {
     }
 }
 
-/// `pie audit`: audits the files that the options name, each in turn, or `input` if they name none, and writes the finding of
+/// `pie audit`: audits the files that the options name, each in turn, or standard input if they name none, and writes the finding of
 /// each. With `--joined` they are the files of one history, in its order; then it also writes the joint of a file with the
 /// file before it, if that file was clean. Returns the worst end of all files; a joint that does not fit counts as a
 /// difference. If a line can't be written, returns the writer's fault.
 pub(crate) fn audit<H: NamedFiles + Screen, R: Read + Drop, W: Write, E: Write>(
-    call: &mut Call<'_, '_, '_, '_, H, E>,
-    input: R,
+    call: &mut Call<'_, '_, '_, '_, H, R, E>,
     output: &mut W,
 ) -> End {
-    let mut stdin = Some(input);
     let mut last: Option<TextEnd> = None;
     let names = call.options.get_strs("file").unwrap_or(&[]);
     let mut worst = End::Done;
     for place in 0..names.len().max(1) {
         let name = names.get(place).copied();
-        let end = match audit_named(call, name, &mut stdin, &mut last) {
+        let end = match audit_named(call, name, &mut last) {
             Ok(audited) => end_of_audited(call, name, &audited, output),
             Err(end) => end,
         };

@@ -1,30 +1,33 @@
 //! A call of a subcommand, and its ends at a text.
 
+use crate::diagnosis::{find_cause, write_cause};
 use crate::difference::report_difference;
 use crate::end::{End, end_failed, fault, named_fault};
 use crate::files::NamedFiles;
 use crate::name::InCommand;
 use crate::options::{HelpPage, file};
+use crate::progress::Screen;
 use crate::steps_fault::report_field;
 use clap::ArgMatches;
-use pie_diagnosis::{find_cause, write_cause};
 use pie_linux_history::{StepDifference, StepsFault};
 use pie_trace::TraceFault;
 use std::alloc::Global;
 use std::fmt::Display;
-use std::io::Write;
+use std::io::{Read, Write};
 
-/// A call of a subcommand: the system, memory, the page and the options of the subcommand, and the error stream.
+/// A call of a subcommand: the system, memory, the page and the options of the subcommand, and the standard streams.
 #[derive(Drop)]
-pub(crate) struct Call<'h, 'o, 'w, 'e, H, E> {
+pub(crate) struct Call<'h, 'o, 'w, 'e, H, R: Drop, E> {
     pub(crate) rt: &'h H,
     pub(crate) alloc: Global,
     pub(crate) page: HelpPage<'static>,
     pub(crate) options: &'o ArgMatches<'w>,
+    /// Standard input, until it is read.
+    pub(crate) input: Option<R>,
     pub(crate) errors: &'e mut E,
 }
 
-impl<H: NamedFiles, E: Write> Call<'_, '_, '_, '_, H, E> {
+impl<H: NamedFiles + Screen, R: Read + Drop, E: Write> Call<'_, '_, '_, '_, H, R, E> {
     /// Writes a line, after the name of a file if there is one.
     pub(crate) fn line<D: Display + Drop>(&mut self, name: Option<&str>, text: D) {
         match name {
@@ -91,7 +94,7 @@ impl<H: NamedFiles, E: Write> Call<'_, '_, '_, '_, H, E> {
         fault(self.errors, text);
         if let Some(name) = file(self.options) {
             let is_explained = self.page.word == "explain";
-            report_difference(self.rt, self.alloc, name, number, is_explained, self.errors);
+            report_difference(self, name, number, is_explained);
         }
         End::Differs
     }
@@ -125,9 +128,7 @@ impl<H: NamedFiles, E: Write> Call<'_, '_, '_, '_, H, E> {
             }
             (_, Some(name)) => {
                 self.line(prefix, fault);
-                if !report_field(self.rt, self.alloc, name, fault, self.errors)
-                    && prefix.is_none()
-                {
+                if !report_field(self, name, fault) && prefix.is_none() {
                     self.name_text(name);
                 }
                 End::Fault(fault)

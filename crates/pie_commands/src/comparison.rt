@@ -1,7 +1,9 @@
 //! The comparison of a history with its control and with the other history of `pie what-if`, by the numbers of their
 //! summaries.
 
-use pie_explain::{EventChoice, ExplainFault, Form, Selection, explain};
+use crate::explain::explain_sums;
+use crate::json::JsonWriter;
+use pie_explain::{EventChoice, ExplainFault, Form, Selection};
 use pie_summary::SummariesOnly;
 use pie_trace::TraceFault;
 use pie_what_if::Omitted;
@@ -52,16 +54,22 @@ pub(crate) fn fault_in_memory(why: TraceFault) -> TraceFault {
     }
 }
 
-/// Returns the summary of the events of a column, as a CSV text of a header and a record.
-fn summary_of(alloc: Global, column: &Column<'_>) -> Result<Vec<u8>, ExplainFault> {
-    let mut written = Vec::new(alloc);
+/// Returns the summary of the events of a column, as a CSV text of a header and a record. Nothing is written to `output`.
+fn summary_of<W: Write>(
+    alloc: Global,
+    column: &Column<'_>,
+    output: &mut W,
+) -> Result<Vec<u8>, ExplainFault> {
+    let mut written = JsonWriter::new(alloc, output, false, usize::MAX);
     let selection = Selection::of(EventChoice::After(column.after));
     let form = Form {
         csv: true,
         by_wall: false,
     };
     let sums = SummariesOnly { form, every: None };
-    let why = match explain(alloc, column.text, &mut written, selection, sums) {
+    let outcome = explain_sums(alloc, column.text, &mut written, selection, sums);
+    let written = written.into_withheld();
+    let why = match outcome {
         Ok(_) => return Ok(written),
         Err(ExplainFault::Trace(why)) => ExplainFault::Trace(fault_in_memory(why)),
         Err(why) => why,
@@ -207,19 +215,21 @@ fn write_fields<W: Write>(
 }
 
 /// Returns the text of a comparison of these columns: the history as it was recorded, the control, and the other history.
+/// Nothing is written to `output`.
 ///
 /// # Errors
 ///
 /// Returns the fault of an explanation; `Trace` with `Memory` if memory is short.
-pub(crate) fn comparison(
+pub(crate) fn comparison<W: Write>(
     alloc: Global,
     columns: [Column<'_>; 3],
     table: Table,
+    output: &mut W,
 ) -> Result<Vec<u8>, ExplainFault> {
     let [recorded, control, other] = columns;
-    let first = summary_of(alloc, &recorded)?;
-    let second = summary_of(alloc, &control)?;
-    let third = summary_of(alloc, &other)?;
+    let first = summary_of(alloc, &recorded, output)?;
+    let second = summary_of(alloc, &control, output)?;
+    let third = summary_of(alloc, &other, output)?;
     let records = [line_of(&first, 1), line_of(&second, 1), line_of(&third, 1)];
     let mut page = Vec::new(alloc);
     match write_page(

@@ -5,7 +5,7 @@ ghost use Rattle.pie_commands.specs.Cuts.{HasSome, chosen, pieces_of, moment_bou
 
 use crate::call::Call;
 use crate::end::{End, fault};
-use crate::files::{NamedFiles, open_input, reader_named};
+use crate::files::{NamedFiles, Source, open_text};
 use crate::options::{bounds_of, file, number, report_two};
 use crate::progress::{ProgressReader, Screen, shows_progress};
 use crate::steps::cut_steps;
@@ -133,8 +133,8 @@ fn step_pieces_of(pieces: Pieces) -> Option<StepPieces>
 // ---- the ends
 
 /// Returns the end of a cut of a history with this result.
-fn end_of<H: NamedFiles, E: Write>(
-    call: &mut Call<'_, '_, '_, '_, H, E>,
+fn end_of<H: NamedFiles + Screen, R: Read + Drop, E: Write>(
+    call: &mut Call<'_, '_, '_, '_, H, R, E>,
     outcome: Result<u64, CutFault>,
 ) -> End {
     match outcome {
@@ -146,8 +146,8 @@ fn end_of<H: NamedFiles, E: Write>(
 }
 
 /// Returns the end of a cut of recorded steps with this result.
-fn end_of_steps<H: NamedFiles, E: Write>(
-    call: &mut Call<'_, '_, '_, '_, H, E>,
+fn end_of_steps<H: NamedFiles + Screen, R: Read + Drop, E: Write>(
+    call: &mut Call<'_, '_, '_, '_, H, R, E>,
     outcome: Result<(u64, StepsFinding), StepsFault>,
 ) -> End {
     match outcome {
@@ -178,12 +178,12 @@ fn cut_out<R: Read + Drop, W: Write>(
 }
 
 /// Returns the number of the last event of a text of either kind.
-fn last_event<H: Screen, R: Read + Drop, E: Write>(
-    call: &mut Call<'_, '_, '_, '_, H, E>,
-    reader: R,
+fn last_event<H: NamedFiles + Screen, R: Read + Drop, E: Write>(
+    call: &mut Call<'_, '_, '_, '_, H, R, E>,
+    text: Source<R, H::File>,
 ) -> Result<u64, TraceFault> {
     let (rt, is_shown) = (call.rt, shows_progress(call.rt, call.options, true));
-    let (watched, kind) = ProgressReader::recognizing(reader, &mut *call.errors, rt, is_shown);
+    let (watched, kind) = ProgressReader::recognizing(text, &mut *call.errors, rt, is_shown);
     match kind {
         Ok(false) => last_number(call.alloc, watched),
         Ok(true) => count_rows(call.alloc, watched),
@@ -197,9 +197,8 @@ fn last_event<H: Screen, R: Read + Drop, E: Write>(
 /// Returns the pieces as numbers of events: the last `many` events of the file that the options name, which is read for it.
 /// If there is no file, or if it can't be read, writes a line to the error stream, and returns the end.
 fn numbered<H: NamedFiles + Screen, R: Read + Drop, E: Write>(
-    call: &mut Call<'_, '_, '_, '_, H, E>,
+    call: &mut Call<'_, '_, '_, '_, H, R, E>,
     pieces: Pieces,
-    no_input: &mut Option<R>,
 ) -> Result<Pieces, End>
     requires { HasSome pieces }
     ensures { IfOk result HasSome }
@@ -211,32 +210,29 @@ fn numbered<H: NamedFiles + Screen, R: Read + Drop, E: Write>(
         None | Some("-") => return Err(call.failed(NO_NAME)),
         Some(name) => name,
     };
-    // The type of the reader equals that of the cut's reader, so reading is compiled once.
-    let Some(reader) = reader_named(call.rt, name, no_input, call.errors) else {
+    let Some(text) = open_text(call.rt, Some(name), &mut call.input, call.errors) else {
         return Err(End::Unopened);
     };
-    match last_event(call, reader) {
+    match last_event(call, text) {
         Ok(number) => Ok(Pieces::Excerpt(Span::last(number, many))),
         Err(why) => Err(call.end_at_fault(why)),
     }
 }
 
-/// `pie cut`: cuts the pieces that the options choose out of the text in the file that they name, or in `input`.
+/// `pie cut`: cuts the pieces that the options choose out of the text in the file that they name, or in standard input.
 pub(crate) fn cut<H: NamedFiles + Screen, R: Read + Drop, W: Write, E: Write>(
-    call: &mut Call<'_, '_, '_, '_, H, E>,
-    input: R,
+    call: &mut Call<'_, '_, '_, '_, H, R, E>,
     output: &mut W,
 ) -> End {
     let (rt, alloc, options) = (call.rt, call.alloc, call.options);
     let Some(pieces) = pieces_of(options, call.errors) else {
         return End::Failed;
     };
-    let mut no_input: Option<R> = None;
-    let pieces = match numbered(call, pieces, &mut no_input) {
+    let pieces = match numbered(call, pieces) {
         Ok(pieces) => pieces,
         Err(end) => return end,
     };
-    let Some(reader) = open_input(rt, options, input, call.errors) else {
+    let Some(reader) = open_text(rt, file(options), &mut call.input, call.errors) else {
         return End::Unopened;
     };
     let is_shown = shows_progress(rt, options, true);

@@ -1,7 +1,10 @@
 //! The details of an event that differs: its record, the record that the rules give there, or the reason why they give none.
 
-use crate::files::NamedFiles;
+use crate::call::Call;
+use crate::files::{NamedFiles, Source};
 use crate::name::{InCommand, InLine};
+use crate::progress::{ProgressReader, Screen};
+use either::Right;
 use pie_book::Event;
 use pie_explain::{DecidedEvent, EventDecision, decide_event, push_words};
 use pie_params::Params;
@@ -9,7 +12,7 @@ use pie_record::Line;
 use pie_text::{Page, RowBuffer, put_event, put_params};
 use std::alloc::Global;
 use std::fmt;
-use std::io::Write;
+use std::io::{Read, Write};
 
 /// The details of an event that differs.
 #[derive(Clone, Copy)]
@@ -73,16 +76,17 @@ fn put(row: &mut RowBuffer, event: &Event) {
 
 /// Decides the event with this number again. The text is in the file `name`, which is read again. `None` if the file can't be
 /// read again, or is standard input (`-`).
-pub(crate) fn details_of<H: NamedFiles>(
-    rt: &H,
-    alloc: Global,
+pub(crate) fn details_of<H: NamedFiles + Screen, R: Read + Drop, E: Write>(
+    call: &mut Call<'_, '_, '_, '_, H, R, E>,
     name: &str,
     number: u64,
 ) -> Option<Details> {
     if name == "-" {
         return None;
     }
-    let reader = rt.open_again(name)?;
+    let (rt, alloc) = (call.rt, call.alloc);
+    let text: Source<R, H::File> = Right(rt.open_again(name)?);
+    let reader = ProgressReader::new(text, &mut *call.errors, rt, false);
     match decide_event(alloc, reader, number) {
         Ok(Some(decided)) => Some(Details { number, decided }),
         _ => None,
@@ -128,15 +132,13 @@ pub(crate) fn write_details<E: Write>(
 
 /// Writes the lines about the event with this number, which differs, as `write_details` does. The text is in the file `name`,
 /// which is read again. If it can't be read again, nothing is written.
-pub(crate) fn report_difference<H: NamedFiles, E: Write>(
-    rt: &H,
-    alloc: Global,
+pub(crate) fn report_difference<H: NamedFiles + Screen, R: Read + Drop, E: Write>(
+    call: &mut Call<'_, '_, '_, '_, H, R, E>,
     name: &str,
     number: u64,
     is_explained: bool,
-    errors: &mut E,
 ) {
-    if let Some(details) = details_of(rt, alloc, name, number) {
-        write_details(alloc, name, &details, is_explained, errors);
+    if let Some(details) = details_of(call, name, number) {
+        write_details(call.alloc, name, &details, is_explained, call.errors);
     }
 }

@@ -26,16 +26,16 @@ pub(crate) fn dispatch<
     R: Read + Drop,
     W: Write,
     E: Write,
->(call: &mut Call<'_, '_, '_, '_, H, E>, input: R, output: &mut W) -> End {
+>(call: &mut Call<'_, '_, '_, '_, H, R, E>, output: &mut W) -> End {
     match call.page.subcommand {
-        Subcommand::Run => run(call, input, output),
-        Subcommand::Audit => audit(call, input, output),
-        Subcommand::Explain => explain(call, input, output),
-        Subcommand::Cut => cut(call, input, output),
-        Subcommand::Migrate => migrate(call, input, output),
+        Subcommand::Run => run(call, output),
+        Subcommand::Audit => audit(call, output),
+        Subcommand::Explain => explain(call, output),
+        Subcommand::Cut => cut(call, output),
+        Subcommand::Migrate => migrate(call, output),
         Subcommand::Storm => storm(call, output),
         Subcommand::Params => params(call, output),
-        Subcommand::WhatIf => what_if(call, input, output),
+        Subcommand::WhatIf => what_if(call, output),
         Subcommand::Advise => advise(call, output),
     }
 }
@@ -64,9 +64,11 @@ pub(crate) fn dispatch_to_file<
         alloc,
         page,
         options,
+        input: Some(input),
         errors: &mut *errors,
     };
-    let end = dispatch(&mut call, input, &mut fresh);
+    let end = dispatch(&mut call, &mut fresh);
+    drop(call);
     let is_there = finish_output(rt, fresh, name, is_forced, end.is_whole(), errors);
     end.after_output(is_there)
 }

@@ -44,17 +44,15 @@ impl End {
         }
     }
 
-    /// Writes the line of a failure of the writer to `errors`. If its reader is gone (`is_closed`), or the writer did
-    /// not fail, nothing is written.
-    ///
-    /// # Errors
-    ///
-    /// Returns the error of `errors`.
-    pub fn report<E: Write>(self, is_closed: bool, errors: &mut E) -> io::Result<()> {
-        if is_closed || !self.is_unwritten() {
-            return Ok(());
+    /// Writes the lines of a failure of the writer to `errors`: the system's `reason` if there is one, and that the output
+    /// failed. If its reader is gone (`is_closed`), or the writer did not fail, the second line is not written.
+    pub fn report<E: Write>(self, reason: Option<io::Error>, is_closed: bool, errors: &mut E) {
+        if let Some(why) = reason {
+            fault(errors, why);
         }
-        errors.write_all(b"pie: cannot write the output\n")
+        if !is_closed && self.is_unwritten() {
+            fault(errors, "cannot write the output");
+        }
     }
 
     /// Returns true if the output is complete.
@@ -105,12 +103,26 @@ pub(crate) fn end_of_page<W: Write, E: Write>(page: &[u8], output: &mut W, error
 
 /// Writes the line of a fault. A line that can't be written is passed over.
 pub(crate) fn fault<E: Write, D: Display + Drop>(errors: &mut E, text: D) {
-    let _ = writeln!(errors, "pie: {text}");
+    let _ = errors.write_all(b"pie: ");
+    write_end(errors, text);
 }
 
 /// Writes the line of a fault of the file `name`.
 pub(crate) fn named_fault<E: Write, D: Display + Drop>(errors: &mut E, name: &str, text: D) {
-    let _ = writeln!(errors, "pie: {}: {text}", InLine(name));
+    begin_line(errors, name);
+    write_end(errors, text);
+}
+
+/// Writes the beginning of a line about the file `name`.
+#[inline(never)]
+fn begin_line<E: Write>(errors: &mut E, name: &str) {
+    let _ = write!(errors, "pie: {}: ", InLine(name));
+}
+
+/// Writes the end of a line. (A function of its own is compiled once for each type of text.)
+#[inline(never)]
+fn write_end<E: Write, D: Display + Drop>(errors: &mut E, text: D) {
+    let _ = writeln!(errors, "{text}");
 }
 
 /// A text, and a number after it.

@@ -5,10 +5,11 @@ ghost use Rattle.pie_commands.specs.Selections.{chosen_events, every_of, is_sele
 
 use crate::call::Call;
 use crate::end::{End, fault};
-use crate::files::{NamedFiles, open_input};
+use crate::files::{NamedFiles, open_text};
 use crate::json::JsonWriter;
 use crate::options::{bounds_of, file, flag, moment, number, parsed, report_two, text};
 use crate::progress::{ProgressReader, Screen, shows_progress, writes_to_terminal};
+use crate::reports::{OtherReport, as_digest, by_flow, in_lines, in_words};
 use crate::steps::{explain_steps, lacks_queue};
 use clap::ArgMatches;
 use pie_explain::{EventChoice, EventRecords, ExplainFault, Form, Selection, Words};
@@ -202,16 +203,45 @@ fn explain_with<R: Read + Drop, W: Write>(
 ) -> Result<u64, ExplainFault> {
     let outcome = match kind {
         OutputKind::Records(each) => pie_explain::explain(alloc, input, output, selection, each),
-        OutputKind::Words(each) => pie_explain::explain(alloc, input, output, selection, each),
-        OutputKind::Sums(sums) => pie_explain::explain(alloc, input, output, selection, sums),
-        OutputKind::Lines(lines) => pie_explain::explain(alloc, input, output, selection, lines),
-        OutputKind::Digest(digest) => pie_explain::explain(alloc, input, output, selection, digest),
-        OutputKind::Flows(flows) => pie_explain::explain(alloc, input, output, selection, flows),
+        OutputKind::Sums(sums) => explain_sums(alloc, input, output, selection, sums),
+        OutputKind::Words(each) => explain_other(alloc, input, output, selection, in_words(each)),
+        OutputKind::Lines(lines) => explain_other(alloc, input, output, selection, in_lines(lines)),
+        OutputKind::Digest(it) => explain_other(alloc, input, output, selection, as_digest(it)),
+        OutputKind::Flows(flows) => explain_other(alloc, input, output, selection, by_flow(flows)),
     };
     match outcome {
         Err(ExplainFault::Trace(why)) => Err(ExplainFault::Trace(output.fault_of(why))),
         _ => outcome,
     }
+}
+
+/// Writes the summaries of the chosen events.
+#[inline(never)]
+pub(crate) fn explain_sums<R: Read + Drop, W: Write>(
+    alloc: Global,
+    input: R,
+    output: &mut JsonWriter<'_, W>,
+    selection: Selection,
+    sums: SummariesOnly,
+) -> Result<u64, ExplainFault> {
+    pie_explain::explain(alloc, input, output, selection, sums)
+}
+
+/// Writes the explanations of the chosen events by one of the other reports.
+#[inline(never)]
+fn explain_other<R: Read + Drop, W: Write>(
+    alloc: Global,
+    input: R,
+    output: &mut JsonWriter<'_, W>,
+    selection: Selection,
+    report: OtherReport,
+) -> Result<u64, ExplainFault> {
+    pie_explain::explain(alloc, input, output, selection, report)
+}
+
+/// Returns the number of bytes that are withheld at most, in case the text lacks the chosen queue.
+fn most_withheld(queue: Option<&str>) -> usize {
+    if queue.is_some() { 1 << 16 } else { 0 }
 }
 
 /// Returns the style of lines in the output of these options.
@@ -222,8 +252,8 @@ fn style_of<H: Screen>(rt: &H, options: &ArgMatches<'_>) -> LineStyle {
 }
 
 /// Returns the end of an explanation of a history with this result.
-fn end_of<H: NamedFiles, E: Write>(
-    call: &mut Call<'_, '_, '_, '_, H, E>,
+fn end_of<H: NamedFiles + Screen, R: Read + Drop, E: Write>(
+    call: &mut Call<'_, '_, '_, '_, H, R, E>,
     outcome: Result<u64, ExplainFault>,
 ) -> End {
     match outcome {
@@ -238,8 +268,8 @@ fn end_of<H: NamedFiles, E: Write>(
 
 /// Returns the end of an explanation of recorded steps with this result. Writes the output that was withheld, unless the text
 /// lacks the chosen queue.
-fn end_of_steps<H: NamedFiles, W: Write, E: Write>(
-    call: &mut Call<'_, '_, '_, '_, H, E>,
+fn end_of_steps<H: NamedFiles + Screen, R: Read + Drop, W: Write, E: Write>(
+    call: &mut Call<'_, '_, '_, '_, H, R, E>,
     output: &mut JsonWriter<'_, W>,
     selection: Selection,
     queue: Option<&str>,
@@ -264,21 +294,20 @@ fn end_of_steps<H: NamedFiles, W: Write, E: Write>(
     }
 }
 
-/// `pie explain`: explains the chosen events of the text in the file that the options name, or in `input`,
+/// `pie explain`: explains the chosen events of the text in the file that the options name, or in standard input,
 /// up to its first fault or the first event that differs. Returns a difference as `End::Differs`. If the text has a
 /// fault, the options choose events more than once, no event matches, or the reader, the writer or memory fails, the end
 /// is an error. Each error has a line on the error stream; a writer's fault is reported later (`End::report`). On a
 /// terminal the header of lines is repeated, and lines are coloured unless the user wants no colours.
 pub(crate) fn explain<H: NamedFiles + Screen, R: Read + Drop, W: Write, E: Write>(
-    call: &mut Call<'_, '_, '_, '_, H, E>,
-    input: R,
+    call: &mut Call<'_, '_, '_, '_, H, R, E>,
     output: &mut W,
 ) -> End {
     let (rt, alloc, options) = (call.rt, call.alloc, call.options);
     let Some(selection) = selection_of(options, call.errors) else {
         return End::Failed;
     };
-    let Some(reader) = open_input(rt, options, input, call.errors) else {
+    let Some(reader) = open_text(rt, file(options), &mut call.input, call.errors) else {
         return End::Unopened;
     };
     let (kind, queue) = (
@@ -286,7 +315,7 @@ pub(crate) fn explain<H: NamedFiles + Screen, R: Read + Drop, W: Write, E: Write
         text(options, "queue"),
     );
     let is_shown = shows_progress(rt, options, true);
-    let mut output = JsonWriter::new(alloc, output, flag(options, "json"), queue.is_some());
+    let mut output = JsonWriter::new(alloc, output, flag(options, "json"), most_withheld(queue));
     let (watched, found) = ProgressReader::recognizing(reader, &mut *call.errors, rt, is_shown);
     let is_steps = match found {
         Ok(is_steps) => is_steps,

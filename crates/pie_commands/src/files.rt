@@ -3,8 +3,7 @@
 ghost use Rattle.std.specs.Prelude.{◌≡◌, ◌⊎◌, IsSome, None, false, true};
 
 use crate::end::{fault, named_fault};
-use crate::options::{file, file_of};
-use clap::ArgMatches;
+use crate::options::file_of;
 use either::{Either, Left, Right};
 use std::io;
 use std::io::{Read, Write};
@@ -60,15 +59,18 @@ pub trait NamedFiles {
 
 // ---- files that are read
 
-/// Opens the file `name` for reading. The name `-` takes the reader from `input`; this is possible once. If the
-/// file can't be opened, or `input` is already taken, a line is written to `errors` and the result is `None`.
-pub(crate) fn reader_named<H: NamedFiles, R: Read + Drop, E: Write>(
+/// A text that is read: standard input, or a file. With one type for both, the code that reads is compiled once.
+pub(crate) type Source<R, F> = Either<R, F>;
+
+/// Opens the text of this name: a file, or standard input without a name or for `-`. If a file can't be opened, or if `input`
+/// was already taken, a line is written to `errors` and the result is `None`.
+pub(crate) fn open_text<H: NamedFiles, R: Read + Drop, E: Write>(
     rt: &H,
-    name: &str,
+    name: Option<&str>,
     input: &mut Option<R>,
     errors: &mut E,
-) -> Option<Either<R, H::File>> {
-    if name == "-" {
+) -> Option<Source<R, H::File>> {
+    let Some(name) = file_of(name) else {
         return match input.take() {
             Some(reader) => Some(Left(reader)),
             None => {
@@ -76,30 +78,13 @@ pub(crate) fn reader_named<H: NamedFiles, R: Read + Drop, E: Write>(
                 None
             }
         };
-    }
+    };
     match rt.open_named(name) {
         Ok(file) => Some(Right(file)),
         Err(why) => {
             named_fault(errors, name, why);
             None
         }
-    }
-}
-
-/// Opens the input of a subcommand that reads one text: the file that the options name, or `input` if they name none. If
-/// it can't be opened, a line is written to `errors` and the result is `None`.
-pub(crate) fn open_input<H: NamedFiles, R: Read + Drop, E: Write>(
-    rt: &H,
-    options: &ArgMatches<'_>,
-    input: R,
-    errors: &mut E,
-) -> Option<Either<R, H::File>> {
-    match file(options) {
-        Some(name) => {
-            let mut stdin = Some(input);
-            reader_named(rt, name, &mut stdin, errors)
-        }
-        None => Some(Left(input)),
     }
 }
 

@@ -4,6 +4,9 @@ use std::alloc::Global;
 use std::io;
 use std::io::Write;
 
+/// The digits of hexadecimal numbers.
+const DIGITS: &[u8; 16] = b"0123456789abcdef";
+
 /// Writes a string of JSON with these bytes, in quotes. Quotes, backslashes and control characters are escaped.
 ///
 /// # Errors
@@ -22,7 +25,10 @@ pub(crate) fn write_string<W: Write>(writer: &mut W, bytes: &[u8]) -> io::Result
         match *byte {
             b'"' => writer.write_all(b"\\\"")?,
             b'\\' => writer.write_all(b"\\\\")?,
-            code @ 0..=31 => write!(writer, "\\u{code:04x}")?,
+            code @ 0..=31 => {
+                let (high, low) = (b'0' + (code >> 4), DIGITS[usize::from(code & 15)]);
+                writer.write_all(&[b'\\', b'u', b'0', b'0', high, low])?
+            }
             other => writer.write_all(&[other])?,
         }
     }
@@ -73,20 +79,18 @@ pub(crate) struct JsonWriter<'a, W: Write> {
     objects: Vec<u8>,
     /// True after a write for which there was no memory.
     is_short: bool,
-    /// The output is withheld, until it is long or released.
-    is_withheld: bool,
+    /// The number of bytes that are withheld at most. 0 after they are released.
+    most: usize,
 }
 
-/// The number of bytes that are withheld at most.
-const MAX_WITHHELD: usize = 1 << 16;
-
 impl<'a, W: Write> JsonWriter<'a, W> {
-    /// Returns a writer of objects, or unless it `is_json` of the text itself. Its output may be withheld. Takes no memory.
+    /// Returns a writer of objects, or unless it `is_json` of the text itself. At most `most` bytes of its output are withheld,
+    /// until they are released or taken. Takes no memory.
     pub(crate) fn new(
         alloc: Global,
         output: &'a mut W,
         is_json: bool,
-        is_withheld: bool,
+        most: usize,
     ) -> JsonWriter<'a, W> {
         JsonWriter {
             output,
@@ -96,16 +100,22 @@ impl<'a, W: Write> JsonWriter<'a, W> {
             field: Vec::new(alloc),
             objects: Vec::new(alloc),
             is_short: false,
-            is_withheld,
+            most,
         }
     }
 
     /// Writes the output that was withheld. Later output is not withheld.
     pub(crate) fn release(&mut self) -> io::Result<()> {
-        self.is_withheld = false;
+        self.most = 0;
         self.output.write_all(self.objects.as_slice())?;
         self.objects.clear();
         Ok(())
+    }
+
+    /// Returns the output that was withheld.
+    pub(crate) fn into_withheld(self) -> Vec<u8> {
+        let JsonWriter { objects, .. } = self;
+        objects
     }
 
     /// Returns the fault of a text that is written here: if memory was short, a failed write is a lack of memory.
@@ -163,21 +173,21 @@ impl<'a, W: Write> JsonWriter<'a, W> {
 
 impl<W: Write> Write for JsonWriter<'_, W> {
     fn write(&mut self, text: &[u8]) -> io::Result<usize> {
-        if !self.is_json && !self.is_withheld {
+        if !self.is_json && self.most == 0 {
             return self.output.write(text);
         }
         if let Err(why) = self.keep(text) {
             self.is_short = true;
             return Err(why);
         }
-        if !self.is_withheld || self.objects.len() > MAX_WITHHELD {
+        if self.objects.len() > self.most {
             self.release()?;
         }
         Ok(text.len())
     }
 
     fn flush(&mut self) -> io::Result<()> {
-        if self.is_withheld {
+        if self.most > 0 {
             return Ok(());
         }
         self.output.flush()

@@ -20,11 +20,13 @@
 #![tactic(auto)]
 
 mod advise;
+mod advising;
 mod audit;
 mod audit_json;
 mod call;
 mod comparison;
 mod cut;
+mod diagnosis;
 mod difference;
 mod dispatch;
 mod end;
@@ -38,6 +40,7 @@ mod options;
 mod params;
 mod program;
 mod progress;
+mod reports;
 mod run;
 mod steps;
 mod steps_fault;

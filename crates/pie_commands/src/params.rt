@@ -216,8 +216,8 @@ fn opening_in<E: Write>(alloc: Global, options: &ArgMatches<'_>, errors: &mut E)
 }
 
 /// `pie params`: writes the record that opens a book with the parameters of these options.
-pub(crate) fn params<H, W: Write, E: Write>(
-    call: &mut Call<'_, '_, '_, '_, H, E>,
+pub(crate) fn params<H, R: Drop, W: Write, E: Write>(
+    call: &mut Call<'_, '_, '_, '_, H, R, E>,
     output: &mut W,
 ) -> End {
     let Some(opening) = opening_in(call.alloc, call.options, call.errors) else {

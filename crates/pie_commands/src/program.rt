@@ -108,9 +108,10 @@ fn perform<H: Threads + Wait + Sync + NamedFiles + Screen, R: Read + Drop, W: Wr
         alloc,
         page,
         options,
+        input: Some(input),
         errors,
     };
-    dispatch(&mut call, input, output)
+    dispatch(&mut call, output)
 }
 
 /// Returns the page of the subcommand of the command line with its options, or `None` if there is no subcommand.

@@ -113,7 +113,7 @@ impl<R: Drop, W: Write + Drop, C: Clock + Drop> ProgressReader<R, W, C> {
     {
         if !matches!(why.kind(), ErrorKind::Interrupted) {
             self.wipe();
-            fault(&mut self.errors, &why);
+            fault(&mut self.errors, why);
         }
         why
     }

@@ -2,24 +2,23 @@
 
 use crate::call::Call;
 use crate::end::End;
-use crate::files::{NamedFiles, open_input};
-use crate::options::flag;
+use crate::files::{NamedFiles, open_text};
+use crate::options::{file, flag};
 use crate::progress::{ProgressReader, Screen, shows_progress};
 use pie_trace::run_trace;
 use std::io::{Read, Write};
 
-/// `pie run`: runs the trace or the excerpt in the file that the options name, or in `input`, and writes its history.
+/// `pie run`: runs the trace or the excerpt in the file that the options name, or in standard input, and writes its history.
 /// Writes a fault to the error stream; after a run without a fault also its numbers of events and of refused records, if the
 /// options request them.
 // (within `dispatch`, the loop over records would share its registers with the other subcommands)
 #[inline(never)]
 pub(crate) fn run<H: NamedFiles + Screen, R: Read + Drop, W: Write, E: Write>(
-    call: &mut Call<'_, '_, '_, '_, H, E>,
-    input: R,
+    call: &mut Call<'_, '_, '_, '_, H, R, E>,
     output: &mut W,
 ) -> End {
     let (rt, options) = (call.rt, call.options);
-    let Some(reader) = open_input(rt, options, input, call.errors) else {
+    let Some(reader) = open_text(rt, file(options), &mut call.input, call.errors) else {
         return End::Unopened;
     };
     let is_shown = shows_progress(rt, options, true);
@@ -39,15 +38,14 @@ pub(crate) fn run<H: NamedFiles + Screen, R: Read + Drop, W: Write, E: Write>(
     }
 }
 
-/// `pie migrate`: writes the history in the file that the options name, or in `input`, in version two. Writes a fault
+/// `pie migrate`: writes the history in the file that the options name, or in standard input, in version two. Writes a fault
 /// to the error stream.
 pub(crate) fn migrate<H: NamedFiles + Screen, R: Read + Drop, W: Write, E: Write>(
-    call: &mut Call<'_, '_, '_, '_, H, E>,
-    input: R,
+    call: &mut Call<'_, '_, '_, '_, H, R, E>,
     output: &mut W,
 ) -> End {
     let (rt, options) = (call.rt, call.options);
-    let Some(reader) = open_input(rt, options, input, call.errors) else {
+    let Some(reader) = open_text(rt, file(options), &mut call.input, call.errors) else {
         return End::Unopened;
     };
     let is_shown = shows_progress(rt, options, true);

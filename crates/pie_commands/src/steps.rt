@@ -7,6 +7,8 @@ use crate::explain::OutputKind;
 use crate::files::NamedFiles;
 use crate::json::JsonWriter;
 use crate::name::InLine;
+use crate::progress::Screen;
+use crate::reports::{as_digest, by_flow, in_lines};
 use pie_audit::Finding;
 use pie_explain::{EventChoice, ExplainFault, Selection};
 use pie_linux_history::{
@@ -51,9 +53,16 @@ pub(crate) fn explain_steps<R: Read + Drop, W: Write>(
         }
         OutputKind::Records(each) => report(alloc, reader, output, selection, queue, each),
         OutputKind::Sums(sums) => report(alloc, reader, output, selection, queue, sums),
-        OutputKind::Lines(lines) => report(alloc, reader, output, selection, queue, lines),
-        OutputKind::Digest(digest) => report(alloc, reader, output, selection, queue, digest),
-        OutputKind::Flows(flows) => report(alloc, reader, output, selection, queue, flows),
+        OutputKind::Lines(lines) => report(
+            alloc,
+            reader,
+            output,
+            selection,
+            queue,
+            in_lines(lines),
+        ),
+        OutputKind::Digest(it) => report(alloc, reader, output, selection, queue, as_digest(it)),
+        OutputKind::Flows(flows) => report(alloc, reader, output, selection, queue, by_flow(flows)),
     };
     match outcome {
         Err(StepsFault::Trace(why)) => Err(StepsFault::Trace(output.fault_of(why))),
@@ -80,7 +89,7 @@ pub(crate) fn lacks_queue(queue: Option<&str>, finding: StepsFinding) -> bool {
     }
 }
 
-impl<H: NamedFiles, E: Write> Call<'_, '_, '_, '_, H, E> {
+impl<H: NamedFiles + Screen, R: Read + Drop, E: Write> Call<'_, '_, '_, '_, H, R, E> {
     /// Writes the number of steps that the recorder lost, and the numbers of steps whose rows lack an input, each if it is above 0,
     /// after the name of the file.
     pub(crate) fn report_lost(&mut self, name: Option<&str>, counts: StepsCounts) {

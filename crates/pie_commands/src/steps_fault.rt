@@ -1,8 +1,12 @@
 //! The line after a fault of recorded steps of Linux: the field that causes it.
 
-use crate::files::NamedFiles;
+use crate::call::Call;
+use crate::files::{NamedFiles, Source};
 use crate::name::InCommand;
-use pie_linux_history::{StepsFault, audit};
+use crate::progress::{ProgressReader, Screen};
+use crate::steps::audit_steps;
+use either::Right;
+use pie_linux_history::StepsFault;
 use pie_record::{Record, Records, TraceFault};
 use std::alloc::{AllocError, Global};
 use std::io::{Read, Write};
@@ -61,8 +65,8 @@ impl Rows {
         Ok(text.push(b'\n')?)
     }
 
-    /// Returns true if the row is read without a fault of its numbers when its fields from `place` on are empty.
-    fn is_read_to(&self, alloc: Global, place: usize) -> Result<bool, AllocError> {
+    /// Returns the text of the first row, and of the row with empty fields from `place` on.
+    fn text_to(&self, alloc: Global, place: usize) -> Result<Vec<u8>, AllocError> {
         let mut text = Vec::new(alloc);
         for at in 0..self.names.len() {
             if at > 0 {
@@ -72,14 +76,15 @@ impl Rows {
         }
         text.push(b'\n')?;
         self.add_fields(&mut text, place)?;
-        let found = audit(alloc, text.as_slice());
-        Ok(!matches!(found, Err(StepsFault::Trace(TraceFault::Number { .. }))))
+        Ok(text)
     }
 
-    /// Returns the place of the first field whose number is not allowed.
+    /// Returns the place of the first field whose number is not allowed: an audit of the fields up to it has a fault of a number.
     fn bad_number(&self, alloc: Global) -> Option<usize> {
         for place in 0..self.fields.len() {
-            if !self.is_read_to(alloc, place.saturating_add(1)).ok()? {
+            let text = self.text_to(alloc, place.saturating_add(1)).ok()?;
+            let found = audit_steps(alloc, text.as_slice());
+            if matches!(found, Err(StepsFault::Trace(TraceFault::Number { .. }))) {
                 return Some(place);
             }
         }
@@ -116,60 +121,74 @@ fn allowed_for(column: &[u8], field: &[u8]) -> &'static str {
     }
 }
 
-/// Reads the text in the file `name` again, and writes a line with the field that causes the fault `why`. Returns false if the
-/// field is not found; nothing is written then.
-pub(crate) fn report_field<H: NamedFiles, E: Write>(
-    rt: &H,
-    alloc: Global,
-    name: &str,
-    why: TraceFault,
-    errors: &mut E,
-) -> bool {
-    let (TraceFault::Fields { row } | TraceFault::Number { row } | TraceFault::Word { row }) = why
-    else {
-        return false;
+/// Writes the line about a row with a wrong number of fields.
+fn write_count<E: Write>(rows: &Rows, row: u64, name: &str, errors: &mut E) {
+    let (shown, count) = (InCommand(name), rows.fields.len());
+    let (what, all) = match rows.fields.get(0) {
+        Some(b"lost") => ("lost", 3),
+        _ => ("the first row", rows.names.len()),
     };
-    let Some(rows) = rt
-        .open_again(name)
-        .and_then(|reader| rows_of(alloc, reader, row))
-    else {
-        return false;
-    };
-    let (shown, count, all) = (InCommand(name), rows.fields.len(), rows.names.len());
-    let place = match why {
-        TraceFault::Fields { .. } => {
-            let is_lost = matches!(rows.fields.get(0), Some(b"lost"));
-            let (what, all) = if is_lost {
-                ("lost", 3)
-            } else {
-                ("the first row", all)
-            };
-            let _ = writeln!(
-                errors,
-                "pie: record {row} of {shown}: {count} fields; {what} has {all}"
-            );
-            return true;
-        }
-        TraceFault::Word { .. } => rows.bad_word(),
-        _ => rows.bad_number(alloc),
-    };
-    let Some(place) = place else {
-        return false;
-    };
+    let _ = writeln!(
+        errors,
+        "pie: record {row} of {shown}: {count} fields; {what} has {all}"
+    );
+}
+
+/// Writes the line about a field that is not allowed.
+fn write_field<E: Write>(rows: &Rows, why: TraceFault, place: usize, name: &str, errors: &mut E) {
     let (column, field) = (
         rows.names.get(place).unwrap_or(&[]),
         rows.fields.get(place).unwrap_or(&[]),
     );
-    let (verb, allowed) = match (why, column) {
-        (TraceFault::Word { .. }, b"type") => ("are", TYPES),
-        (TraceFault::Word { .. }, _) => ("are", "pie, fq_pie"),
-        _ => ("is", allowed_for(column, field)),
+    let (row, verb, allowed) = match (why, column) {
+        (TraceFault::Word { row }, b"type") => (row, "are", TYPES),
+        (TraceFault::Word { row }, _) => (row, "are", "pie, fq_pie"),
+        (TraceFault::Number { row }, _) => (row, "is", allowed_for(column, field)),
+        _ => return,
     };
-    let number = place.saturating_add(1);
+    let (shown, number) = (InCommand(name), place.saturating_add(1));
     let (column, field) = (column.escape_ascii(), field.escape_ascii());
     let _ = writeln!(
         errors,
         "pie: record {row} of {shown}, field {number} ({column}): \"{field}\"; allowed {verb} {allowed}"
     );
-    true
+}
+
+/// Reads the text in the file `name` again. Returns its first row and the row with this number.
+fn rows_at<H: NamedFiles + Screen, R: Read + Drop, E: Write>(
+    call: &mut Call<'_, '_, '_, '_, H, R, E>,
+    name: &str,
+    row: u64,
+) -> Option<Rows> {
+    let text: Source<R, H::File> = Right(call.rt.open_again(name)?);
+    let reader = ProgressReader::new(text, &mut *call.errors, call.rt, false);
+    rows_of(call.alloc, reader, row)
+}
+
+/// Reads the text in the file `name` again, and writes a line with the field that causes the fault `why`. Returns false if the
+/// field is not found; nothing is written then.
+pub(crate) fn report_field<H: NamedFiles + Screen, R: Read + Drop, E: Write>(
+    call: &mut Call<'_, '_, '_, '_, H, R, E>,
+    name: &str,
+    why: TraceFault,
+) -> bool {
+    let (TraceFault::Fields { row } | TraceFault::Number { row } | TraceFault::Word { row }) = why
+    else {
+        return false;
+    };
+    let Some(rows) = rows_at(call, name, row) else {
+        return false;
+    };
+    let place = match why {
+        TraceFault::Fields { .. } => {
+            write_count(&rows, row, name, call.errors);
+            return true;
+        }
+        TraceFault::Word { .. } => rows.bad_word(),
+        _ => rows.bad_number(call.alloc),
+    };
+    if let Some(place) = place {
+        write_field(&rows, why, place, name, call.errors);
+    }
+    place.is_some()
 }

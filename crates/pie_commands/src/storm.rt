@@ -110,8 +110,8 @@ fn numbers_of(options: &ArgMatches<'_>, elements: Elements) -> StormNumbers
 /// `pie storm`: runs the storm of these options, audits its events and writes their history. If a text names no
 /// choice, the end is `Failed`; if memory or a thread is missing, `CannotStart`; if the writer fails or memory is short
 /// meanwhile, a fault; otherwise `Done`.
-pub(crate) fn storm<H: Threads + Wait + Clock + Sync, W: Write, E: Write>(
-    call: &mut Call<'_, '_, '_, '_, H, E>,
+pub(crate) fn storm<H: Threads + Wait + Clock + Sync, R: Drop, W: Write, E: Write>(
+    call: &mut Call<'_, '_, '_, '_, H, R, E>,
     output: &mut W,
 ) -> End {
     let (alloc, options) = (call.alloc, call.options);

@@ -6,8 +6,9 @@ ghost use Rattle.pie_commands.specs.Alterations.{alteration_of, checked_alterati
 use crate::call::Call;
 use crate::comparison::{Column, NO_REACTION, Table, comparison, fault_in_memory};
 use crate::end::{End, end_of_page, end_with_fault, fault};
-use crate::files::{NamedFiles, open_input};
-use crate::options::{bound, flag, number, output as output_file, parsed, text};
+use crate::files::{NamedFiles, Source, open_text};
+use crate::json::JsonWriter;
+use crate::options::{bound, file, flag, number, output as output_file, parsed, text};
 use crate::params::warn_rounded;
 use crate::progress::{ProgressReader, Screen, shows_progress};
 use clap::ArgMatches;
@@ -168,8 +169,8 @@ fn report_omitted<E: Write>(errors: &mut E, omitted: Omitted) {
 
 /// Returns the end of a history that was not decided again, by this reason. If the output was collected in memory, a failed
 /// write is a lack of memory.
-fn end_of<H: NamedFiles, E: Write>(
-    call: &mut Call<'_, '_, '_, '_, H, E>,
+fn end_of<H: NamedFiles + Screen, R: Read + Drop, E: Write>(
+    call: &mut Call<'_, '_, '_, '_, H, R, E>,
     is_in_memory: bool,
     why: WhatIfFault,
 ) -> End {
@@ -186,21 +187,19 @@ fn end_of<H: NamedFiles, E: Write>(
 
 /// Writes the other history of a text to `output`: while it is decided, or if it is wanted `whole`, once it is complete.
 fn write_other<H: NamedFiles + Screen, R: Read + Drop, W: Write, E: Write>(
-    call: &mut Call<'_, '_, '_, '_, H, E>,
+    call: &mut Call<'_, '_, '_, '_, H, R, E>,
     alteration: &Alteration,
     whole: bool,
-    reader: R,
+    text: Source<R, H::File>,
     output: &mut W,
 ) -> End {
     let (rt, alloc) = (call.rt, call.alloc);
     let is_shown = shows_progress(rt, call.options, true);
-    let watched = ProgressReader::new(reader, &mut *call.errors, rt, is_shown);
-    let mut page = Vec::new(alloc);
-    let outcome = if whole {
-        decide_again(alloc, watched, &mut page, alteration)
-    } else {
-        decide_again(alloc, watched, output, alteration)
-    };
+    let watched = ProgressReader::new(text, &mut *call.errors, rt, is_shown);
+    let most = if whole { usize::MAX } else { 0 };
+    let mut other = JsonWriter::new(alloc, output, false, most);
+    let outcome = decide_other(alloc, watched, &mut other, alteration);
+    let page = other.into_withheld();
     match outcome {
         Ok(end) => {
             fault(call.errors, NO_REACTION);
@@ -211,14 +210,28 @@ fn write_other<H: NamedFiles + Screen, R: Read + Drop, W: Write, E: Write>(
     }
 }
 
-/// Decides the history in `text` again, in memory. Returns the other history and its end.
-fn decide_in_memory(
+/// Decides a history again. (A function of its own is compiled once.)
+#[inline(never)]
+fn decide_other<R: Read + Drop, W: Write>(
+    alloc: Global,
+    reader: R,
+    other: &mut JsonWriter<'_, W>,
+    alteration: &Alteration,
+) -> Result<WhatIfEnd, WhatIfFault> {
+    decide_again(alloc, reader, other, alteration)
+}
+
+/// Decides the history in `text` again, in memory. Returns the other history and its end. Nothing is written to `output`.
+fn decide_in_memory<W: Write>(
     alloc: Global,
     text: &[u8],
     alteration: &Alteration,
+    output: &mut W,
 ) -> Result<(Vec<u8>, WhatIfEnd), WhatIfFault> {
-    let mut other = Vec::new(alloc);
-    match decide_again(alloc, text, &mut other, alteration) {
+    let mut other = JsonWriter::new(alloc, output, false, usize::MAX);
+    let outcome = decide_other(alloc, text, &mut other, alteration);
+    let other = other.into_withheld();
+    match outcome {
         Ok(end) => Ok((other, end)),
         Err(why) => {
             drop(other);
@@ -228,18 +241,19 @@ fn decide_in_memory(
 }
 
 /// Returns the text of the comparison of the history in `text` with its control and the other history.
-fn compare_text(
+fn compare_text<W: Write>(
     alloc: Global,
     alteration: &Alteration,
     table: Table,
     text: &[u8],
+    output: &mut W,
 ) -> Result<Result<Vec<u8>, ExplainFault>, WhatIfFault> {
     let control = Alteration {
         from: alteration.from,
         params: UNCHANGED,
     };
-    let (control, control_end) = decide_in_memory(alloc, text, &control)?;
-    let (other, end) = decide_in_memory(alloc, text, alteration)?;
+    let (control, control_end) = decide_in_memory(alloc, text, &control, output)?;
+    let (other, end) = decide_in_memory(alloc, text, alteration, output)?;
     let after = end.before.saturating_add(1);
     let columns = [
         Column {
@@ -258,20 +272,20 @@ fn compare_text(
             omitted: end.omitted,
         },
     ];
-    Ok(comparison(alloc, columns, table))
+    Ok(comparison(alloc, columns, table, output))
 }
 
-/// Compares the history of `reader`, which is read into memory, with its control and the other history.
+/// Compares a history, which is read into memory, with its control and the other history.
 fn compare<H: NamedFiles + Screen, R: Read + Drop, W: Write, E: Write>(
-    call: &mut Call<'_, '_, '_, '_, H, E>,
+    call: &mut Call<'_, '_, '_, '_, H, R, E>,
     alteration: &Alteration,
     table: Table,
-    reader: R,
+    text: Source<R, H::File>,
     output: &mut W,
 ) -> End {
     let (rt, alloc) = (call.rt, call.alloc);
     let is_shown = shows_progress(rt, call.options, true);
-    let mut watched = ProgressReader::new(reader, &mut *call.errors, rt, is_shown);
+    let mut watched = ProgressReader::new(text, &mut *call.errors, rt, is_shown);
     let mut text = Vec::new(alloc);
     let read = watched.read_to_end(&mut text);
     drop(watched);
@@ -284,7 +298,7 @@ fn compare<H: NamedFiles + Screen, R: Read + Drop, W: Write, E: Write>(
         };
         return call.end_at_fault(fault);
     }
-    match compare_text(alloc, alteration, table, &text) {
+    match compare_text(alloc, alteration, table, &text, output) {
         Ok(page) => {
             if !matches!(table, Table::Words) {
                 fault(call.errors, NO_REACTION);
@@ -299,12 +313,11 @@ fn compare<H: NamedFiles + Screen, R: Read + Drop, W: Write, E: Write>(
     }
 }
 
-/// `pie what-if`: decides the history or excerpt in the file that the options name, or in `input`, again with other
+/// `pie what-if`: decides the history or excerpt in the file that the options name, or in standard input, again with other
 /// parameters from a moment on. With `-o` writes the other history, otherwise a comparison. An event that differs from
 /// the rules, or options that are not valid, are a failure. Each error has a line on the error stream.
 pub(crate) fn what_if<H: NamedFiles + Screen, R: Read + Drop, W: Write, E: Write>(
-    call: &mut Call<'_, '_, '_, '_, H, E>,
-    input: R,
+    call: &mut Call<'_, '_, '_, '_, H, R, E>,
     output: &mut W,
 ) -> End {
     let options = call.options;
@@ -315,11 +328,11 @@ pub(crate) fn what_if<H: NamedFiles + Screen, R: Read + Drop, W: Write, E: Write
         return call.failed(ONE_FORM);
     };
     warn_rounded(options, call.errors);
-    let Some(reader) = open_input(call.rt, options, input, call.errors) else {
+    let Some(text) = open_text(call.rt, file(options), &mut call.input, call.errors) else {
         return End::Unopened;
     };
     match wanted {
-        Wanted::Other { whole } => write_other(call, &alteration, whole, reader, output),
-        Wanted::Comparison(table) => compare(call, &alteration, table, reader, output),
+        Wanted::Other { whole } => write_other(call, &alteration, whole, text, output),
+        Wanted::Comparison(table) => compare(call, &alteration, table, text, output),
     }
 }

@@ -4,9 +4,8 @@
 //! the units of other queues (`numbers_for`), the predicted mean wait, and the conditions of the warnings (`IsOutlook`).
 //! Both are proved. `push_advice` writes them with their reasons; its words are tested.
 //!
-//! The margins of stability are those of docs/margins.py, at the link that is asked for. They are computed from a linear
+//! The margins of stability are those of docs/margins.py, at the link of the request. They are computed from a linear
 //! model in fixed-point arithmetic, and tested, not proved.
-#![tactic(auto)]
 
 mod advice;
 mod margin;
@@ -15,8 +14,5 @@ mod outlook;
 mod request;
 mod setting;
 
-pub use advice::{Advice, advice_for, opening_for_link, push_advice};
-pub use margin::{Margins, RangeMargins};
-pub use numbers::Numbers;
-pub use outlook::Outlook;
-pub use request::{Range, RangeEnd, RangeFault, Request, range_in};
+pub(crate) use advice::{advice_for, opening_for_link, push_advice};
+pub(crate) use request::{Range, Request, range_in};

@@ -1,10 +1,11 @@
 //! The bounds that connect numbers of openings and of preambles (docs/FORMATS.md, "Checks of a preamble").
 //!
-//! The bounds are in the order in which readers check them, so the first violated one is the cause of the fault.
+//! The bounds are in the order in which readers check them, so the first violated one is the cause of the fault. If the
+//! number that it allows violates another bound, and a term of a sum has a number that violates none, that term is the cause.
 
-use crate::field::Allowed;
-use crate::table::{NINE, Shape};
-use crate::walk::Problem;
+use crate::diagnosis::field::Allowed;
+use crate::diagnosis::table::{NINE, Shape};
+use crate::diagnosis::walk::{FieldCause, Problem};
 use pie_record::Record;
 use pie_record::field::{has_word, is_kind, long_number_at};
 use pie_record::words::Kind;
@@ -29,13 +30,34 @@ const COUNTS: [(&str, u128); 13] = [
     ("waited", 1 << 60),
 ];
 
+/// The statistics whose sum is the number of events.
+const EVENTS: &[&str] = &["arrivals", "left", "empty", "updates", "resets", "changes"];
+
+/// The statistics whose sum is the number of packets that were queued.
+const QUEUED: &[&str] = &["enqueued", "marked"];
+
+/// The statistics whose sum is the number of packets that were dropped.
+const DROPPED: &[&str] = &["early", "over_bytes", "over_packets"];
+
+/// The sums: the numbers on both sides of each equation.
+const SUMS: [(&[&str], &[&str]); 3] = [
+    (&["count"], EVENTS),
+    (
+        &["arrivals"],
+        &["enqueued", "marked", "early", "over_bytes", "over_packets"],
+    ),
+    (&["packets", "left"], QUEUED),
+];
+
 /// The numbers of a record by their names, and the first of them that is out of its bounds.
 #[derive(Clone, Copy)]
 pub(crate) struct Numbers<'a> {
     row: &'a Record,
     shape: Shape,
-    /// The place from which on a name is searched.
+    /// The first place of the search for a name.
     from: usize,
+    /// A place with a number that replaces the number of its field.
+    replaced: Option<(usize, u128)>,
     /// The first number that is out of its bounds.
     pub(crate) problem: Option<Problem>,
 }
@@ -47,6 +69,7 @@ impl<'a> Numbers<'a> {
             row,
             shape,
             from: 1,
+            replaced: None,
             problem: None,
         }
     }
@@ -71,8 +94,26 @@ impl<'a> Numbers<'a> {
     /// Returns the number of this name; 0 if the record has none.
     pub(crate) fn number(&self, name: &str) -> u128 {
         match self.place(name) {
-            Some(place) => long_number_at(self.row, place, u128::MAX).unwrap_or(0),
+            Some(place) => self.number_in(place),
             None => 0,
+        }
+    }
+
+    /// Returns the number at this place.
+    fn number_in(&self, place: usize) -> u128 {
+        match self.replaced {
+            Some((replaced, number)) if replaced == place => number,
+            _ => long_number_at(self.row, place, u128::MAX).unwrap_or(0),
+        }
+    }
+
+    /// Returns true if these contents are allowed at this place.
+    fn accepts(&self, place: usize, allowed: Allowed) -> bool {
+        match (self.replaced, allowed) {
+            (Some((replaced, number)), Allowed::Range { least, most }) if replaced == place => least
+                <= number
+                && number <= most,
+            _ => allowed.accepts(self.row, place),
         }
     }
 
@@ -96,7 +137,7 @@ impl<'a> Numbers<'a> {
     /// Allows these contents in the field of this name, if the record has one.
     pub(crate) fn allow(&mut self, name: &'static str, allowed: Allowed) {
         match self.place(name) {
-            Some(place) if self.problem.is_none() && !allowed.accepts(self.row, place) => {
+            Some(place) if self.problem.is_none() && !self.accepts(place, allowed) => {
                 self.problem = Some(Problem::of_field(self.row, place, name, allowed));
             }
             _ => {}
@@ -211,9 +252,7 @@ impl<'a> Numbers<'a> {
 
     /// Checks the numbers that are sums of others.
     fn check_sums(&mut self) {
-        let events = self.sum(&["arrivals", "left", "empty", "updates", "resets", "changes"]);
-        let queued = self.sum(&["enqueued", "marked"]);
-        let dropped = self.sum(&["early", "over_bytes", "over_packets"]);
+        let (events, queued, dropped) = (self.sum(EVENTS), self.sum(QUEUED), self.sum(DROPPED));
         self.only("count", events);
         self.only("arrivals", queued.saturating_add(dropped));
         self.up_to("left", queued);
@@ -253,13 +292,91 @@ impl<'a> Numbers<'a> {
     }
 }
 
+// ---- the number that removes the problem
+
+/// Returns the numbers of a `resume` record, with a number that replaces the one of a field, and their first problem.
+fn checked_resume(row: &Record, shape: Shape, replaced: Option<(usize, u128)>) -> Numbers<'_> {
+    let mut numbers = Numbers::new(row, shape);
+    numbers.replaced = replaced;
+    numbers.check_resume();
+    numbers
+}
+
+impl Numbers<'_> {
+    /// Returns true if the record has no problem with this number at this place.
+    fn is_removed_by(&self, place: usize, number: u128) -> bool {
+        let numbers = checked_resume(self.row, self.shape, Some((place, number)));
+        numbers.problem.is_none()
+    }
+
+    /// Returns true if the record has no problem with the nearest number that the cause of this problem allows.
+    fn is_removed_alone(&self, problem: Problem) -> bool {
+        match problem {
+            Problem::Field(
+                FieldCause {
+                    place,
+                    allowed: Allowed::Range { least, most },
+                    ..
+                },
+            ) => self.is_removed_by(place, self.number_in(place).min(most).max(least)),
+            _ => true,
+        }
+    }
+
+    /// Returns the problem of the first of the numbers `terms`, if another number in its place removes all problems: the one
+    /// for which the sum of `terms` equals the sum of `others`.
+    fn balanced(
+        &self,
+        terms: &'static [&'static str],
+        others: &'static [&'static str],
+    ) -> Option<Problem> {
+        let (sum, other) = (self.sum(terms), self.sum(others));
+        for term in 0..terms.len() {
+            let name = terms[term];
+            let number = self.number(name).saturating_add(other).checked_sub(sum);
+            match (self.place(name), number) {
+                (Some(place), Some(number)) if self.is_removed_by(place, number) => {
+                    let (least, most) = (number, number);
+                    return Some(Problem::of_field(
+                        self.row,
+                        place,
+                        name,
+                        Allowed::Range { least, most },
+                    ));
+                }
+                _ => {}
+            }
+        }
+        None
+    }
+}
+
+/// Returns the problem of a `resume` record: the first number that is out of its bounds. If the nearest number in its bounds
+/// leaves a problem, and another number of a sum leaves none, returns the problem of that number of a sum.
+fn resume_problem(row: &Record, shape: Shape) -> Option<Problem> {
+    let numbers = checked_resume(row, shape, None);
+    let problem = numbers.problem?;
+    if numbers.is_removed_alone(problem) {
+        return Some(problem);
+    }
+    for number in 0..SUMS.len() {
+        let (left, right) = SUMS[number];
+        let found = numbers
+            .balanced(left, right)
+            .or(numbers.balanced(right, left));
+        if found.is_some() {
+            return found;
+        }
+    }
+    Some(problem)
+}
+
 /// Returns the first number of a first record that is out of its bounds.
 pub(crate) fn bound_problem(row: &Record, shape: Shape) -> Option<Problem> {
-    let mut numbers = Numbers::new(row, shape);
     if has_word(row, 0, b"resume") {
-        numbers.check_resume();
-    } else {
-        numbers.check_opening(is_kind(row, Kind::Open3));
+        return resume_problem(row, shape);
     }
+    let mut numbers = Numbers::new(row, shape);
+    numbers.check_opening(is_kind(row, Kind::Open3));
     numbers.problem
 }

@@ -10,17 +10,18 @@
 //! and its phase lags by pi / 2 + x + atan(x) + atan(x W / 2), less the angle of alpha + beta - beta e^-jwT. T is
 //! `t_update`, and the divisor that of auto-tuning (RFC 8033, section 4.2). Everything is fixed-point arithmetic. The
 //! results are tested against floating-point numbers, and not proved (tests/program/advise.py).
-//! The least margins of stability over the ranges of a link.
-use crate::numbers::{ONE, RIGHT_ANGLE, angle, logarithm, narrowed, product, sine};
-use crate::request::{Range, Request};
+//!
+//! `margins_over` returns the least margins over the ranges of a link.
+use crate::advising::numbers::{ONE, RIGHT_ANGLE, angle, logarithm, narrowed, product, sine};
+use crate::advising::request::{Range, Request};
 
 /// Margins of stability. The loop is unstable if one is below 0.
-#[derive(Clone, Copy, Debug, PartialEq, Eq)]
-pub struct Margins {
+#[derive(Clone, Copy)]
+pub(crate) struct Margins {
     /// The phase margin, in hundredths of a degree.
-    pub phase: i64,
+    pub(crate) phase: i64,
     /// The gain margin, in hundredths of a decibel.
-    pub gain: i64,
+    pub(crate) gain: i64,
 }
 
 /// The target delay, in nanoseconds.
@@ -224,15 +225,15 @@ pub(crate) fn margins_at(trip: u64, window: u64) -> Margins {
 }
 
 /// The margins of stability over the ranges of a link.
-#[derive(Clone, Copy, Debug, PartialEq, Eq)]
-pub struct RangeMargins {
+#[derive(Clone, Copy)]
+pub(crate) struct RangeMargins {
     /// The least margins of all places of the ranges at which the model applies; `None` if it applies nowhere.
-    pub least: Option<Margins>,
+    pub(crate) least: Option<Margins>,
     /// True if some windows are below two packets. The model does not apply to these.
-    pub has_short_windows: bool,
+    pub(crate) has_short_windows: bool,
     /// True if some windows are above a million packets, or some round-trip times above 10 s. The model does not apply
     /// to these.
-    pub is_beyond: bool,
+    pub(crate) is_beyond: bool,
 }
 
 /// The greatest round-trip time of the model, in nanoseconds and with the target delay.

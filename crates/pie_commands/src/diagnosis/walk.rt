@@ -1,9 +1,9 @@
 //! The first problem of a record, by the table of records.
 
-use crate::field::Allowed;
-use crate::quoted::Quoted;
-use crate::table::{FORMS, Shape};
-use crate::text::Place;
+use crate::diagnosis::field::Allowed;
+use crate::diagnosis::quoted::Quoted;
+use crate::diagnosis::table::{FORMS, Shape};
+use crate::diagnosis::text::Place;
 use pie_record::Record;
 use pie_record::field::has_word;
 

@@ -55,10 +55,10 @@ impl Position {
     }
 }
 
-/// A search for the line in which a record begins.
+/// A search for the first line of a record.
 #[derive(Clone, Copy)]
 struct LineFinder {
-    /// The number of records before it whose ends were not yet read.
+    /// The number of records before it that are not yet read to their ends.
     left: u64,
     /// The position of the next byte, if there is such a record.
     position: Position,

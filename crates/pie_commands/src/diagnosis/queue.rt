@@ -1,10 +1,10 @@
 //! The queue of an excerpt's preamble, as far as its records were read.
 
-use crate::bounds::Numbers;
-use crate::field::Allowed;
-use crate::table::Shape;
-use crate::text::{Place, TextKind};
-use crate::walk::{Problem, problem_of, shape_of};
+use crate::diagnosis::bounds::Numbers;
+use crate::diagnosis::field::Allowed;
+use crate::diagnosis::table::Shape;
+use crate::diagnosis::text::{Place, TextKind};
+use crate::diagnosis::walk::{Problem, problem_of, shape_of};
 use pie_record::Record;
 use pie_record::field::has_word;
 

@@ -1,7 +1,7 @@
 //! The words of an advice up to the opening's record: the link, each parameter with its reason, and the lines that
 //! configure the queue.
-use crate::numbers::Numbers;
-use crate::request::{Range, Request};
+use crate::advising::numbers::Numbers;
+use crate::advising::request::{Range, Request};
 use pie_event::Opening;
 use pie_params::RawParams;
 use pie_units::Overhead;

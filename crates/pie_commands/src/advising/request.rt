@@ -1,33 +1,32 @@
 //! The link for which parameters are chosen, and ranges such as `10ms-100ms`.
 ghost use Rattle.std.specs.Prelude.{◌≡◌, ◌≤◌, length};
-ghost use Rattle.pie_advise.specs.Advice.{dash_place, pair_of, range_in, value_given};
+ghost use Rattle.pie_commands.specs.Advice.{dash_place, pair_of, range_in, value_given};
 
 use pie_units::{Overhead, Quantity, UnitFault, read};
 use std::fmt;
-use thiserror::Error;
 
 /// The ends of a range.
-#[derive(Clone, Copy, Debug, PartialEq, Eq)]
-pub struct Range {
+#[derive(Clone, Copy)]
+pub(crate) struct Range {
     /// The least value.
-    pub least: u64,
+    pub(crate) least: u64,
     /// The greatest value.
-    pub greatest: u64,
+    pub(crate) greatest: u64,
 }
 
 /// A link with its flows.
-#[derive(Clone, Copy, Debug, PartialEq, Eq)]
-pub struct Request {
+#[derive(Clone, Copy)]
+pub(crate) struct Request {
     /// The link's rate, in bits per second, at least 1.
-    pub rate: u64,
+    pub(crate) rate: u64,
     /// The round-trip times without the queue, in nanoseconds.
-    pub trips: Range,
+    pub(crate) trips: Range,
     /// The numbers of flows that send at the same time, at least 1.
-    pub flows: Range,
+    pub(crate) flows: Range,
     /// The bytes that the link adds to each packet, or does not send.
-    pub overhead: Overhead,
+    pub(crate) overhead: Overhead,
     /// True if packets of ECN-capable endpoints are marked.
-    pub ecn: bool,
+    pub(crate) ecn: bool,
 }
 
 /// Returns the number of bytes before the first dash.
@@ -48,8 +47,8 @@ fn dash_place(text: &[u8]) -> usize
 }
 
 /// An end of a range.
-#[derive(Clone, Copy, Debug, PartialEq, Eq)]
-pub enum RangeEnd {
+#[derive(Clone, Copy)]
+pub(crate) enum RangeEnd {
     /// Both ends, which one number gives.
     Both,
     /// The least value.
@@ -59,8 +58,8 @@ pub enum RangeEnd {
 }
 
 /// The reason why a text is not a range. Its message follows the option's name.
-#[derive(Clone, Copy, Debug, PartialEq, Eq, Error)]
-pub enum RangeFault {
+#[derive(Clone, Copy)]
+pub(crate) enum RangeFault {
     /// The text of an end is not a number of this kind.
     Unread(RangeEnd, Quantity, UnitFault),
     /// The least value is above the greatest.
@@ -139,7 +138,7 @@ fn pair_of(
 /// # Errors
 ///
 /// Returns `Unread` for the first text that is not a number of this kind, and otherwise `Reversed`.
-pub fn range_in(kind: Quantity, text: &[u8]) -> Result<Range, RangeFault>
+pub(crate) fn range_in(kind: Quantity, text: &[u8]) -> Result<Range, RangeFault>
     ensures { result ≡ range_in kind text.now }
 {
     let place = dash_place(text);

@@ -1,11 +1,11 @@
 //! The cause of a fault in a text, which is read again up to the fault's record.
 
-use crate::bounds::bound_problem;
-use crate::hint::Hint;
-use crate::line_finder::locate;
-use crate::queue::Queue;
-use crate::text::{Place, TextKind};
-use crate::walk::{Problem, problem_of, shape_of};
+use crate::diagnosis::bounds::bound_problem;
+use crate::diagnosis::hint::Hint;
+use crate::diagnosis::line_finder::locate;
+use crate::diagnosis::queue::Queue;
+use crate::diagnosis::text::{Place, TextKind};
+use crate::diagnosis::walk::{Problem, problem_of, shape_of};
 use pie_record::field::has_word;
 use pie_record::first_record::version_of;
 use pie_record::{Record, Records, TraceFault, Version};
@@ -23,7 +23,7 @@ pub(crate) enum Reason {
 
 /// The cause of a fault.
 #[derive(Clone, Copy)]
-pub struct Cause {
+pub(crate) struct Cause {
     /// The number of the line in which the record begins, counted from 1. 1 if the reason is the whole file.
     pub(crate) line: u64,
     /// The reason.
@@ -47,8 +47,8 @@ fn record_of(why: TraceFault) -> Option<u64> {
 
 /// Returns the cause of the fault `why` that a text of this kind has (this project's own). `reader` and `again` both
 /// read the text from its beginning: the one for its records, the other for its lines. `None` if the fault names no
-/// record, if the text has no such fault, or if it cannot be read again.
-pub fn find_cause<R: Read + Drop>(
+/// record, if the text has no such fault, or if it can't be read again.
+pub(crate) fn find_cause<R: Read + Drop>(
     alloc: Global,
     kind: TextKind,
     why: TraceFault,

@@ -1,31 +1,31 @@
-//! The parameters in the units of other queues.
-//! Fixed-point numbers: sines, arc tangents and logarithms in billionths. Their errors are below 1e-7.
+//! The parameters in the units of other queues, and fixed-point numbers: sines, arc tangents and logarithms in billionths,
+//! with errors below 1e-7.
 ghost use Rattle.std.specs.Prelude.{◌≡◌};
-ghost use Rattle.pie_advise.specs.Advice.{full_packets, numbers_for, packet_bytes, sixteenths, tail_threshold};
+ghost use Rattle.pie_commands.specs.Advice.{full_packets, numbers_for, packet_bytes, sixteenths, tail_threshold};
 
 use pie_event::Opening;
 
 /// The parameters of an opening in the units of `tc` and of DPDK.
-#[derive(Clone, Copy, Debug, PartialEq, Eq)]
-pub struct Numbers {
+#[derive(Clone, Copy)]
+pub(crate) struct Numbers {
     /// The limit of Linux's `pie`: the packets of 1514 bytes that contain `limit_bytes`.
-    pub pie_limit: u64,
+    pub(crate) pie_limit: u64,
     /// `tailq_th` of DPDK's `rte_pie`: `pie_limit`, but at most 65535, because it has 16 bits.
-    pub tail_threshold: u64,
+    pub(crate) tail_threshold: u64,
     /// The mean size of packets from which on `limit_bytes` is reached before the limit in packets, rounded up.
-    pub packet_bytes: u64,
+    pub(crate) packet_bytes: u64,
     /// `alpha` of `tc`, in sixteenths, rounded down.
-    pub alpha: u128,
+    pub(crate) alpha: u128,
     /// `beta` of `tc`, in sixteenths, rounded down.
-    pub beta: u128,
+    pub(crate) beta: u128,
     /// The target in microseconds, rounded down.
-    pub target: u64,
+    pub(crate) target: u64,
     /// The time between two updates in microseconds, rounded down.
-    pub t_update: u64,
+    pub(crate) t_update: u64,
     /// The burst allowance in microseconds, rounded down.
-    pub max_burst: u64,
+    pub(crate) max_burst: u64,
     /// The probability from which on ECN-capable packets are dropped, in per cent, rounded down.
-    pub mark_ecnth: u64,
+    pub(crate) mark_ecnth: u64,
 }
 
 /// Returns the number of packets of 1514 bytes that contain `bytes` bytes, rounded up.

@@ -1,12 +1,12 @@
 //! The lines that describe a cause.
 
-use crate::cause::{Cause, Reason};
-use crate::field::Allowed;
-use crate::hint::Hint;
-use crate::keywords::{Keywords, MAX_KEYWORDS};
-use crate::table::FORMS;
-use crate::text::{Place, TextKind};
-use crate::walk::{FieldCause, Problem};
+use crate::diagnosis::cause::{Cause, Reason};
+use crate::diagnosis::field::Allowed;
+use crate::diagnosis::hint::Hint;
+use crate::diagnosis::keywords::{Keywords, MAX_KEYWORDS};
+use crate::diagnosis::table::FORMS;
+use crate::diagnosis::text::{Place, TextKind};
+use crate::diagnosis::walk::{FieldCause, Problem};
 use std::io;
 use std::io::Write;
 
@@ -16,7 +16,7 @@ use std::io::Write;
 /// # Errors
 ///
 /// Returns the error of the writer.
-pub fn write_cause<W: Write>(
+pub(crate) fn write_cause<W: Write>(
     cause: &Cause,
     name: &str,
     command: &str,

@@ -1,10 +1,10 @@
 //! Files that are no trace and no history, by their first bytes.
 
-use crate::line_finder::Located;
+use crate::diagnosis::line_finder::Located;
 
 /// A property of a whole file.
 #[derive(Clone, Copy)]
-pub enum Hint {
+pub(crate) enum Hint {
     /// The file is empty.
     Empty,
     /// The file has only empty lines.

@@ -1,8 +1,8 @@
 //! The fields of records: their names and their contents.
 
-use crate::keywords::Keywords;
-use crate::table::U64;
-use crate::text::Place;
+use crate::diagnosis::keywords::Keywords;
+use crate::diagnosis::table::U64;
+use crate::diagnosis::text::Place;
 use pie_record::Record;
 use pie_record::field::{has_word, long_number_at};
 

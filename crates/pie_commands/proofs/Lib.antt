@@ -1,4 +1,3 @@
-mod AdviceExamples
 mod Names
 mod Examples
 mod TextKindFacts

@@ -2,9 +2,9 @@
 use Rattle.std.specs.Prelude.{ℕ, ◌==◌, List, Bool, Option, Some, None, Result, Ok, Err, codes, if◌then◌else◌, option_and_then}
 use Rattle.std.specs.Result.{result_ok}
 use Rattle.clap.specs.Words.{Row, Text, first_of}
-use Rattle.pie_commands.specs.Advice.{range_in}
-use Rattle.pie_commands.specs.declared.advising.request.Range.{Range}
-use Rattle.pie_commands.specs.declared.advising.request.Request.{Request}
+use Rattle.pie_units.specs.Advice.{range_in}
+use Rattle.pie_units.specs.declared.advising.request.Range.{Range}
+use Rattle.pie_units.specs.declared.advising.request.Request.{Request}
 use Rattle.pie_units.specs.Number.{rate_of}
 use Rattle.pie_units.specs.Opening.{overhead_of}
 use Rattle.pie_units.specs.declared.layer.Overhead.{Overhead}

@@ -1,4 +1,3 @@
-pub mod Advice
 pub mod Advising
 pub mod Alterations
 pub mod Cuts

@@ -3,13 +3,13 @@ ghost use Rattle.std.specs.Prelude.{◌≡◌};
 ghost use Rattle.clap.specs.Words.{found_of, rows_of};
 ghost use Rattle.pie_commands.specs.Advising.{range_given, rate_given, request_in};
 
-use crate::advising::{Range, Request, advice_for, opening_for_link, push_advice, range_in};
 use crate::call::Call;
 use crate::end::{End, end_failed, end_of_page, end_unable};
 use crate::options::{flag, parsed, text};
 use crate::params::overhead_in;
 use clap::ArgMatches;
 use pie_text::Page;
+use pie_units::advising::{Range, Request, advice_for, opening_for_link, push_advice, range_in};
 use pie_units::{Quantity, rate_of};
 use std::io::Write;
 

@@ -1,6 +1,5 @@
 //! A call of a subcommand, and its ends at a text.
 
-use crate::diagnosis::{find_cause, write_cause};
 use crate::difference::report_difference;
 use crate::end::{End, end_failed, fault, named_fault};
 use crate::files::NamedFiles;
@@ -11,6 +10,7 @@ use crate::steps_fault::report_field;
 use clap::ArgMatches;
 use pie_linux_history::{StepDifference, StepsFault};
 use pie_trace::TraceFault;
+use pie_trace::diagnosis::{find_cause, write_cause};
 use std::alloc::Global;
 use std::fmt::Display;
 use std::io::{Read, Write};

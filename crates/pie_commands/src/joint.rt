@@ -1,9 +1,9 @@
 //! The line on the error stream about a joint at which two texts do not fit together.
 
-use crate::diagnosis::{queued_field_name, resume_field_name};
 use crate::end::named_fault;
 use pie_audit::Finding;
 use pie_cut::{Joined, Joint, UnlikeRecords};
+use pie_trace::diagnosis::{queued_field_name, resume_field_name};
 use std::fmt;
 use std::io::Write;
 use std::str::from_utf8;

@@ -20,13 +20,11 @@
 #![tactic(auto)]
 
 mod advise;
-mod advising;
 mod audit;
 mod audit_json;
 mod call;
 mod comparison;
 mod cut;
-mod diagnosis;
 mod difference;
 mod dispatch;
 mod end;

@@ -20,6 +20,7 @@
 //! The output of a run of an excerpt is clean, with the events before it (`continued_runs_are_clean`).
 #![tactic(auto)]
 
+pub mod diagnosis;
 pub mod law;
 mod migration;
 mod run;

@@ -1,3 +1,4 @@
+pub mod Advice
 pub mod Time
 pub mod Number
 pub mod Opening

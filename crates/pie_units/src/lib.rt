@@ -12,6 +12,7 @@
 //! it (`size_on_link`).
 #![tactic(auto)]
 
+pub mod advising;
 mod layer;
 mod number;
 mod options;

@@ -1,7 +1,7 @@
 //! The page of `pie advise`: its arguments and its help.
 
-use crate::diagnosis::TextKind;
 use crate::options::argument::{Argument, HelpPage, Subcommand, ValueKind, row};
+use pie_trace::diagnosis::TextKind;
 
 /// The page of `pie advise`.
 pub(crate) const ADVISE: HelpPage<'static> = HelpPage {

@@ -1,8 +1,8 @@
 //! The arguments of a subcommand as data: its options and the files that it reads.
 
-use crate::diagnosis::TextKind;
 use clap::builder::ValueParser;
 use clap::{Arg, ArgAction};
+use pie_trace::diagnosis::TextKind;
 use std::alloc::Global;
 
 /// The kind of value that an option takes, or a file argument.

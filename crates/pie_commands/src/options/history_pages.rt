@@ -1,9 +1,9 @@
 //! The pages of `pie audit`, `pie explain`, `pie cut` and `pie migrate`: their arguments and their help.
 
-use crate::diagnosis::TextKind;
 use crate::options::argument::{
     Argument, FILE, FORCE, HelpPage, OUTPUT, PROGRESS, Subcommand, ValueKind, row,
 };
+use pie_trace::diagnosis::TextKind;
 
 /// The page of `pie audit`.
 pub(crate) const AUDIT: HelpPage<'static> = HelpPage {

@@ -1,9 +1,9 @@
 //! The pages of `pie run`, `pie storm` and `pie params`: their arguments and their help.
 
-use crate::diagnosis::TextKind;
 use crate::options::argument::{
     Argument, FILE, FORCE, HelpPage, OUTPUT, PROGRESS, Subcommand, ValueKind, row,
 };
+use pie_trace::diagnosis::TextKind;
 
 /// The page of `pie run`.
 pub(crate) const RUN: HelpPage<'static> = HelpPage {

@@ -1,9 +1,9 @@
 //! The page of `pie what-if`: its arguments and its help.
 
-use crate::diagnosis::TextKind;
 use crate::options::argument::{
     Argument, FILE, FORCE, HelpPage, PROGRESS, Subcommand, ValueKind, row,
 };
+use pie_trace::diagnosis::TextKind;
 
 /// The page of `pie what-if`.
 pub(crate) const WHAT_IF: HelpPage<'static> = HelpPage {

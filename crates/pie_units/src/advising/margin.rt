@@ -17,11 +17,11 @@ use crate::advising::request::{Range, Request};
 
 /// Margins of stability. The loop is unstable if one is below 0.
 #[derive(Clone, Copy)]
-pub(crate) struct Margins {
+pub struct Margins {
     /// The phase margin, in hundredths of a degree.
-    pub(crate) phase: i64,
+    pub phase: i64,
     /// The gain margin, in hundredths of a decibel.
-    pub(crate) gain: i64,
+    pub gain: i64,
 }
 
 /// The target delay, in nanoseconds.
@@ -52,8 +52,8 @@ pub(crate) const GREATEST_WINDOW: u64 = 1_000_000_000_000;
 
 /// An edge of auto-tuning: the window, in millionths of a packet, above which a greater divisor applies.
 #[derive(Clone, Copy)]
-pub(crate) struct Edge {
-    pub(crate) window: u64,
+pub struct Edge {
+    pub window: u64,
     divisor: u64,
 }
 
@@ -214,7 +214,7 @@ fn margin(above: u64, below: u64, factor: u64) -> i64 {
 
 /// Returns the margins at a round-trip time, in nanoseconds and with the target delay, and a window, in millionths of a
 /// packet: at most the exact ones, and at least those less 0.05 degrees and 0.05 decibels.
-pub(crate) fn margins_at(trip: u64, window: u64) -> Margins {
+pub fn margins_at(trip: u64, window: u64) -> Margins {
     let open = Loop { trip, window };
     let lag = open.lag(open.gain_crossing());
     let levels = open.levels(open.phase_crossing());
@@ -226,14 +226,14 @@ pub(crate) fn margins_at(trip: u64, window: u64) -> Margins {
 
 /// The margins of stability over the ranges of a link.
 #[derive(Clone, Copy)]
-pub(crate) struct RangeMargins {
+pub struct RangeMargins {
     /// The least margins of all places of the ranges at which the model applies; `None` if it applies nowhere.
-    pub(crate) least: Option<Margins>,
+    pub least: Option<Margins>,
     /// True if some windows are below two packets. The model does not apply to these.
-    pub(crate) has_short_windows: bool,
+    pub has_short_windows: bool,
     /// True if some windows are above a million packets, or some round-trip times above 10 s. The model does not apply
     /// to these.
-    pub(crate) is_beyond: bool,
+    pub is_beyond: bool,
 }
 
 /// The greatest round-trip time of the model, in nanoseconds and with the target delay.
@@ -350,7 +350,7 @@ impl Search {
 }
 
 /// Returns the least margins over the round-trip times and numbers of flows of a link (this project's own).
-pub(crate) fn margins_over(request: &Request) -> RangeMargins {
+pub fn margins_over(request: &Request) -> RangeMargins {
     let (trips, flows, rate) = (request.trips, request.flows, request.rate);
     let (least, greatest) = (
         trips.least.saturating_add(TARGET),

@@ -1,5 +1,5 @@
 use Rattle.std.proofs.Common.{length}
-use Rattle.pie_commands.proofs.advising.request.+dash_place.Given as goal
+use Rattle.pie_units.proofs.advising.request.+dash_place.Given as goal
 
 -- the remaining bytes become fewer
 abbrev pub decreases-dash_place : goal.decreases-dash_place

@@ -14,5 +14,5 @@ mod outlook;
 mod request;
 mod setting;
 
-pub(crate) use advice::{advice_for, opening_for_link, push_advice};
-pub(crate) use request::{Range, Request, range_in};
+pub use advice::{advice_for, opening_for_link, push_advice};
+pub use request::{Range, Request, range_in};

@@ -5,21 +5,21 @@ use Rattle.pie_params.specs.declared.elements.Decay.TheVariants.{Zero}
 use Rattle.pie_units.specs.Opening.{default_packets, elements_for, gain_of, opening_for, params_for}
 use Rattle.pie_units.specs.declared.layer.LinkLayer.TheVariants.{Ethernet}
 use Rattle.pie_units.specs.declared.options.TuningOptions.{TuningOptions}
-use Rattle.pie_commands.specs.declared.advising.request.Request.{Request}
+use Rattle.pie_units.specs.declared.advising.request.Request.{Request}
 use Rattle.std.specs.Int.{div_ceil}
-use Rattle.pie_commands.specs.declared.advising.numbers.Numbers.{Numbers}
+use Rattle.pie_units.specs.declared.advising.numbers.Numbers.{Numbers}
 use Rattle.pie_params.specs.declared.raw.RawParams.{RawParams}
-use Rattle.pie_commands.specs.declared.advising.margin.RangeMargins.{RangeMargins}
-use Rattle.pie_commands.specs.declared.advising.margin.Margins.{Margins}
-use Rattle.pie_commands.specs.declared.advising.outlook.Outlook.{Outlook}
+use Rattle.pie_units.specs.declared.advising.margin.RangeMargins.{RangeMargins}
+use Rattle.pie_units.specs.declared.advising.margin.Margins.{Margins}
+use Rattle.pie_units.specs.declared.advising.outlook.Outlook.{Outlook}
 use Rattle.pie_units.specs.declared.number.UnitFault.{UnitFault}
 use Rattle.pie_units.specs.declared.number.Quantity.{Quantity}
 use Rattle.pie_units.specs.Number.{value_of}
-use Rattle.pie_commands.specs.declared.advising.request.Range.{Range}
-use Rattle.pie_commands.specs.declared.advising.request.RangeEnd.{RangeEnd}
-use Rattle.pie_commands.specs.declared.advising.request.RangeEnd.TheVariants.{Both, Least, Greatest}
-use Rattle.pie_commands.specs.declared.advising.request.RangeFault.{RangeFault}
-use Rattle.pie_commands.specs.declared.advising.request.RangeFault.TheVariants.{Unread, Reversed}
+use Rattle.pie_units.specs.declared.advising.request.Range.{Range}
+use Rattle.pie_units.specs.declared.advising.request.RangeEnd.{RangeEnd}
+use Rattle.pie_units.specs.declared.advising.request.RangeEnd.TheVariants.{Both, Least, Greatest}
+use Rattle.pie_units.specs.declared.advising.request.RangeFault.{RangeFault}
+use Rattle.pie_units.specs.declared.advising.request.RangeFault.TheVariants.{Unread, Reversed}
 
 -- the options of `tc` for a link
 abbrev pub tuning_for : Request → TuningOptions

@@ -6,11 +6,11 @@ use Rattle.pie_units.specs.declared.layer.Overhead.TheVariants.{Added, Removed}
 use Rattle.pie_units.specs.declared.number.UnitFault.TheVariants.{NotANumber}
 use Rattle.pie_units.specs.declared.number.Quantity.TheVariants.{Packets, Time}
 use Rattle.pie_units.specs.Number.{digit_count, is_word, number_after, time_scale}
-use Rattle.pie_commands.specs.Advice.{opening_for_link, numbers_for, IsRoot, cuts_the_limit, has_prediction, squared_wait, swings, wants_half, range_in}
-use Rattle.pie_commands.specs.declared.advising.margin.RangeMargins.{RangeMargins}
-use Rattle.pie_commands.specs.declared.advising.request.RangeEnd.TheVariants.{Both, Least, Greatest}
-use Rattle.pie_commands.specs.declared.advising.request.RangeFault.TheVariants.{Unread, Reversed}
-use Rattle.pie_commands.specs.declared.advising.request.Request.{Request}
+use Rattle.pie_units.specs.Advice.{opening_for_link, numbers_for, IsRoot, cuts_the_limit, has_prediction, squared_wait, swings, wants_half, range_in}
+use Rattle.pie_units.specs.declared.advising.margin.RangeMargins.{RangeMargins}
+use Rattle.pie_units.specs.declared.advising.request.RangeEnd.TheVariants.{Both, Least, Greatest}
+use Rattle.pie_units.specs.declared.advising.request.RangeFault.TheVariants.{Unread, Reversed}
+use Rattle.pie_units.specs.declared.advising.request.Request.{Request}
 
 -- one value is both ends; the ends are in order, and there are two at most
 ranges : (range_in Time (codes "10ms-100ms") ≡ Ok (record { least = 10_000_000; greatest = 100_000_000 }))

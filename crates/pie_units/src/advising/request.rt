@@ -1,32 +1,32 @@
 //! The link for which parameters are chosen, and ranges such as `10ms-100ms`.
 ghost use Rattle.std.specs.Prelude.{◌≡◌, ◌≤◌, length};
-ghost use Rattle.pie_commands.specs.Advice.{dash_place, pair_of, range_in, value_given};
+ghost use Rattle.pie_units.specs.Advice.{dash_place, pair_of, range_in, value_given};
 
-use pie_units::{Overhead, Quantity, UnitFault, read};
+use crate::{Overhead, Quantity, UnitFault, read};
 use std::fmt;
 
 /// The ends of a range.
 #[derive(Clone, Copy)]
-pub(crate) struct Range {
+pub struct Range {
     /// The least value.
-    pub(crate) least: u64,
+    pub least: u64,
     /// The greatest value.
-    pub(crate) greatest: u64,
+    pub greatest: u64,
 }
 
 /// A link with its flows.
 #[derive(Clone, Copy)]
-pub(crate) struct Request {
+pub struct Request {
     /// The link's rate, in bits per second, at least 1.
-    pub(crate) rate: u64,
+    pub rate: u64,
     /// The round-trip times without the queue, in nanoseconds.
-    pub(crate) trips: Range,
+    pub trips: Range,
     /// The numbers of flows that send at the same time, at least 1.
-    pub(crate) flows: Range,
+    pub flows: Range,
     /// The bytes that the link adds to each packet, or does not send.
-    pub(crate) overhead: Overhead,
+    pub overhead: Overhead,
     /// True if packets of ECN-capable endpoints are marked.
-    pub(crate) ecn: bool,
+    pub ecn: bool,
 }
 
 /// Returns the number of bytes before the first dash.
@@ -48,7 +48,7 @@ fn dash_place(text: &[u8]) -> usize
 
 /// An end of a range.
 #[derive(Clone, Copy)]
-pub(crate) enum RangeEnd {
+pub enum RangeEnd {
     /// Both ends, which one number gives.
     Both,
     /// The least value.
@@ -59,7 +59,7 @@ pub(crate) enum RangeEnd {
 
 /// The reason why a text is not a range. Its message follows the option's name.
 #[derive(Clone, Copy)]
-pub(crate) enum RangeFault {
+pub enum RangeFault {
     /// The text of an end is not a number of this kind.
     Unread(RangeEnd, Quantity, UnitFault),
     /// The least value is above the greatest.
@@ -138,7 +138,7 @@ fn pair_of(
 /// # Errors
 ///
 /// Returns `Unread` for the first text that is not a number of this kind, and otherwise `Reversed`.
-pub(crate) fn range_in(kind: Quantity, text: &[u8]) -> Result<Range, RangeFault>
+pub fn range_in(kind: Quantity, text: &[u8]) -> Result<Range, RangeFault>
     ensures { result ≡ range_in kind text.now }
 {
     let place = dash_place(text);

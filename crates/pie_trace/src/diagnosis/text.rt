@@ -4,7 +4,7 @@ use pie_record::Version;
 
 /// The kind of a text that a subcommand reads.
 #[derive(Clone, Copy, PartialEq, Eq)]
-pub(crate) enum TextKind {
+pub enum TextKind {
     /// A trace, or an excerpt with the records of a trace.
     Trace,
     /// A history, or an excerpt.

@@ -21,7 +21,7 @@ mod table;
 mod text;
 mod walk;
 
-pub(crate) use cause::find_cause;
-pub(crate) use message::write_cause;
-pub(crate) use table::{queued_field_name, resume_field_name};
-pub(crate) use text::TextKind;
+pub use cause::{Cause, find_cause};
+pub use message::write_cause;
+pub use table::{queued_field_name, resume_field_name};
+pub use text::TextKind;

@@ -4,19 +4,19 @@ ghost use Rattle.pie_params.specs.Params.{IsInRange, first_bad};
 ghost use Rattle.pie_record.specs.Text.{text_of};
 ghost use Rattle.pie_record.specs.Write.{opening_row};
 ghost use Rattle.pie_units.specs.Opening.{params_for};
-ghost use Rattle.pie_commands.specs.Advice.{opening_for_link, tuning_for, numbers_for, IsOutlook};
+ghost use Rattle.pie_units.specs.Advice.{opening_for_link, tuning_for, numbers_for, IsOutlook};
 
 use crate::advising::numbers::{Numbers, numbers_for};
 use crate::advising::outlook::{Outlook, outlook_for, push_expectation};
 use crate::advising::request::Request;
 use crate::advising::setting::{push_lines, push_settings};
-use pie_event::Opening;
-use pie_params::{BadParam, Decay, Params, RawParams};
-use pie_text::{Page, RowBuffer, put_opening};
-use pie_units::{
+use crate::{
     Layer, LinkLayer, TuningOptions, default_packets, elements_for, gain_of, opening_for,
     params_for,
 };
+use pie_event::Opening;
+use pie_params::{BadParam, Decay, Params, RawParams};
+use pie_text::{Page, RowBuffer, put_opening};
 use std::alloc::AllocError;
 
 /// Returns the options of `tc` for a link: the defaults of RFC 8033 and of `tc`, and the limits for the rate.
@@ -50,7 +50,7 @@ fn tuning_for(request: &Request) -> TuningOptions
 /// # Errors
 ///
 /// Returns `BadParam` with the first parameter that is out of its range: `mean_pkt`, if the overhead is too great.
-pub(crate) fn opening_for_link(request: &Request) -> Result<Opening, BadParam>
+pub fn opening_for_link(request: &Request) -> Result<Opening, BadParam>
     ensures opening { IfOk result (λ opening. opening ≡ opening_for_link request.now) }
     ensures accepts { IsOk result ↔ IsInRange (params_for (tuning_for request.now)) }
     ensures refuses { IfErr result (λ e. first_bad (params_for (tuning_for request.now)) ≡ Some e.0) }
@@ -64,15 +64,15 @@ pub(crate) fn opening_for_link(request: &Request) -> Result<Opening, BadParam>
 
 /// The advice about an opening for a link, in numbers.
 #[derive(Clone, Copy)]
-pub(crate) struct Advice {
+pub struct Advice {
     /// The parameters in the units of other queues.
-    pub(crate) numbers: Numbers,
+    pub numbers: Numbers,
     /// The expected behaviour of the queue.
-    pub(crate) outlook: Outlook,
+    pub outlook: Outlook,
 }
 
 /// Returns the advice about an opening for a link.
-pub(crate) fn advice_for(request: &Request, opening: &Opening) -> Advice
+pub fn advice_for(request: &Request, opening: &Opening) -> Advice
     ensures numbers { result.numbers ≡ numbers_for opening.now }
     ensures outlook { IsOutlook request.now opening.now.params result.outlook }
 {
@@ -117,7 +117,7 @@ fn push_end(page: &mut Page, request: &Request, outlook: &Outlook) -> Result<(),
 /// # Errors
 ///
 /// `AllocError` if memory is short.
-pub(crate) fn push_advice(
+pub fn push_advice(
     page: &mut Page,
     request: &Request,
     opening: &Opening,

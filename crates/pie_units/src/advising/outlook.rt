@@ -1,7 +1,7 @@
 //! The expected behaviour of a queue: the mean wait, the margins of stability, and the conditions of warnings, as values
 //! and as the words of an advice after the opening's record.
 ghost use Rattle.std.specs.Prelude.{◌≡◌, ◌<◌, ◌≤◌, ◌*◌, ◌+◌, ◌^◌, ◌/◌, max};
-ghost use Rattle.pie_commands.specs.Advice.{IsOutlook, IsRoot, cuts_the_limit, drops_bursts, has_prediction, is_above_a_second, is_crowded, is_single, squared_wait, swings, wants_half};
+ghost use Rattle.pie_units.specs.Advice.{IsOutlook, IsRoot, cuts_the_limit, drops_bursts, has_prediction, is_above_a_second, is_crowded, is_single, squared_wait, swings, wants_half};
 
 use crate::advising::margin::{Margins, RangeMargins, margins_over};
 use crate::advising::request::Request;
@@ -12,27 +12,27 @@ use std::fmt::Display;
 
 /// The expected behaviour of a queue at a link.
 #[derive(Clone, Copy)]
-pub(crate) struct Outlook {
+pub struct Outlook {
     /// The mean wait, in nanoseconds: the square root of the target's square and that of the time of two mean packets.
-    pub(crate) wait: u64,
+    pub wait: u64,
     /// True if the mean wait is a prediction: none of `swings`, `is_single`, `is_crowded` and `margins.is_beyond` holds.
-    pub(crate) has_prediction: bool,
+    pub has_prediction: bool,
     /// The margins of stability, from a linear model.
-    pub(crate) margins: RangeMargins,
+    pub margins: RangeMargins,
     /// True if a margin is below 0: the loop of the model is unstable.
-    pub(crate) swings: bool,
+    pub swings: bool,
     /// True if the least phase margin is below 10 degrees. Flows with long round trips then lose goodput at `decay zero`.
-    pub(crate) wants_half: bool,
+    pub wants_half: bool,
     /// True if there may be a single flow.
-    pub(crate) is_single: bool,
+    pub is_single: bool,
     /// True if a packet of 1500 bytes of each flow is more than the limit.
-    pub(crate) is_crowded: bool,
+    pub is_crowded: bool,
     /// True if `limit_bytes` bytes leave in less than the target and the burst allowance together.
-    pub(crate) drops_bursts: bool,
+    pub drops_bursts: bool,
     /// True if `limit_bytes` bytes take more than a second at the rate.
-    pub(crate) is_above_a_second: bool,
+    pub is_above_a_second: bool,
     /// True if `rte_pie` has a lower limit: more than 65535 packets of 1514 bytes are in `limit_bytes`.
-    pub(crate) cuts_the_limit: bool,
+    pub cuts_the_limit: bool,
 }
 
 /// Returns true if a margin is below 0.
@@ -124,7 +124,7 @@ fn cuts_the_limit(params: &RawParams) -> bool
 }
 
 /// Returns the expected behaviour of a queue with these parameters at a link.
-pub(crate) fn outlook_for(request: &Request, params: &RawParams) -> Outlook
+pub fn outlook_for(request: &Request, params: &RawParams) -> Outlook
     requires target { params.now.target ≤ 10 ^ 10 }
     requires mean { params.now.mean_pkt ≤ 65535 }
     ensures { IsOutlook request.now params.now result }
@@ -264,7 +264,7 @@ fn push_limit_warnings(page: &mut String, outlook: &Outlook) -> Written {
 }
 
 /// Writes the mean wait, the margins, and the warnings.
-pub(crate) fn push_expectation(page: &mut String, request: &Request, outlook: &Outlook) -> Written {
+pub fn push_expectation(page: &mut String, request: &Request, outlook: &Outlook) -> Written {
     push_wait(page, outlook)?;
     push_margins(page, request, outlook)?;
     push_decay(page, outlook)?;

@@ -1,31 +1,31 @@
 //! The parameters in the units of other queues, and fixed-point numbers: sines, arc tangents and logarithms in billionths,
 //! with errors below 1e-7.
 ghost use Rattle.std.specs.Prelude.{◌≡◌};
-ghost use Rattle.pie_commands.specs.Advice.{full_packets, numbers_for, packet_bytes, sixteenths, tail_threshold};
+ghost use Rattle.pie_units.specs.Advice.{full_packets, numbers_for, packet_bytes, sixteenths, tail_threshold};
 
 use pie_event::Opening;
 
 /// The parameters of an opening in the units of `tc` and of DPDK.
 #[derive(Clone, Copy)]
-pub(crate) struct Numbers {
+pub struct Numbers {
     /// The limit of Linux's `pie`: the packets of 1514 bytes that contain `limit_bytes`.
-    pub(crate) pie_limit: u64,
+    pub pie_limit: u64,
     /// `tailq_th` of DPDK's `rte_pie`: `pie_limit`, but at most 65535, because it has 16 bits.
-    pub(crate) tail_threshold: u64,
+    pub tail_threshold: u64,
     /// The mean size of packets from which on `limit_bytes` is reached before the limit in packets, rounded up.
-    pub(crate) packet_bytes: u64,
+    pub packet_bytes: u64,
     /// `alpha` of `tc`, in sixteenths, rounded down.
-    pub(crate) alpha: u128,
+    pub alpha: u128,
     /// `beta` of `tc`, in sixteenths, rounded down.
-    pub(crate) beta: u128,
+    pub beta: u128,
     /// The target in microseconds, rounded down.
-    pub(crate) target: u64,
+    pub target: u64,
     /// The time between two updates in microseconds, rounded down.
-    pub(crate) t_update: u64,
+    pub t_update: u64,
     /// The burst allowance in microseconds, rounded down.
-    pub(crate) max_burst: u64,
+    pub max_burst: u64,
     /// The probability from which on ECN-capable packets are dropped, in per cent, rounded down.
-    pub(crate) mark_ecnth: u64,
+    pub mark_ecnth: u64,
 }
 
 /// Returns the number of packets of 1514 bytes that contain `bytes` bytes, rounded up.
@@ -57,7 +57,7 @@ fn sixteenths(gain: u64) -> u128
 }
 
 /// Returns the parameters of an opening in the units of other queues.
-pub(crate) fn numbers_for(opening: &Opening) -> Numbers
+pub fn numbers_for(opening: &Opening) -> Numbers
     ensures { result ≡ numbers_for opening.now }
 {
     let params = opening.params.raw();
@@ -111,12 +111,12 @@ const LOGARITHM: [u64; 6] = [
 const TWO_OVER_LN_2: u64 = 2_885_390_082;
 
 /// Returns a 128-bit number, or the greatest 64-bit one if it is less.
-pub(crate) fn narrowed(value: u128) -> u64 {
+pub fn narrowed(value: u128) -> u64 {
     value.min(u128::from(u64::MAX)) as u64
 }
 
 /// Returns the product of two numbers, rounded down.
-pub(crate) fn product(left: u64, right: u64) -> u64 {
+pub fn product(left: u64, right: u64) -> u64 {
     narrowed(u128::from(left) * u128::from(right) / u128::from(ONE))
 }
 
@@ -136,7 +136,7 @@ fn short_arc_tangent(tangent: u64) -> u64 {
 }
 
 /// Returns the angle whose tangent is `opposite` / `adjacent`: 0 to a right angle, in billionths of a radian.
-pub(crate) fn angle(opposite: u64, adjacent: u64) -> u64 {
+pub fn angle(opposite: u64, adjacent: u64) -> u64 {
     if opposite <= adjacent {
         short_arc_tangent(quotient(opposite, adjacent))
     } else {
@@ -145,7 +145,7 @@ pub(crate) fn angle(opposite: u64, adjacent: u64) -> u64 {
 }
 
 /// Returns the sine of an angle of at most a right one, in billionths of a radian.
-pub(crate) fn sine(angle: u64) -> u64 {
+pub fn sine(angle: u64) -> u64 {
     let square = product(angle, angle);
     let mut sum = ONE;
     for divisor in SINE {
@@ -175,7 +175,7 @@ fn middle_logarithm(number: u128) -> u64 {
 }
 
 /// Returns the logarithm to base 2 of a whole number, in billionths. That of 0 is 0.
-pub(crate) fn logarithm(number: u128) -> u64 {
+pub fn logarithm(number: u128) -> u64 {
     if number < 1 << 64 {
         middle_logarithm(number)
     } else {

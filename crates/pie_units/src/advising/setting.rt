@@ -1,20 +1,20 @@
 //! The words of an advice up to the opening's record: the link, each parameter with its reason, and the lines that
 //! configure the queue.
+use crate::Overhead;
 use crate::advising::numbers::Numbers;
 use crate::advising::request::{Range, Request};
 use pie_event::Opening;
 use pie_params::RawParams;
-use pie_units::Overhead;
 use std::alloc::AllocError;
 use std::fmt;
 use std::fmt::Display;
 
 /// The result of a write: `AllocError` if memory is short.
-pub(crate) type Written = Result<(), AllocError>;
+pub type Written = Result<(), AllocError>;
 
 /// A time in nanoseconds, in milliseconds, rounded down to microseconds.
 #[derive(Clone, Copy)]
-pub(crate) struct Millis(pub(crate) u64);
+pub struct Millis(pub u64);
 
 impl Display for Millis {
     fn fmt<W: fmt::Write>(&self, f: &mut fmt::Formatter<W>) -> fmt::Result {
@@ -112,7 +112,7 @@ fn push_mark(page: &mut String, numbers: &Numbers, ecn: bool) -> Written {
 }
 
 /// Writes each parameter with its reason.
-pub(crate) fn push_settings(
+pub fn push_settings(
     page: &mut String,
     request: &Request,
     opening: &Opening,
@@ -179,7 +179,7 @@ fn push_rte(page: &mut String, numbers: &Numbers) -> Written {
 }
 
 /// Writes the lines that configure the queue, and the name of the record that follows.
-pub(crate) fn push_lines(
+pub fn push_lines(
     page: &mut String,
     request: &Request,
     params: &RawParams,

@@ -1,5 +1,5 @@
 #!/usr/bin/env python3
-"""Compares docs/FORMATS.md with the table of records in crates/pie_commands/src/diagnosis/table.rt, which has the layout of `rt
+"""Compares docs/FORMATS.md with the table of records in crates/pie_trace/src/diagnosis/table.rt, which has the layout of `rt
 fmt`, and with the bounds in bounds.rt beside it:
 
 - Each form of a record has the fields of the page, with the same names in the same order, and their number.
@@ -19,7 +19,7 @@ import sys
 sys.path.insert(0, f"{os.path.dirname(os.path.abspath(__file__))}/../shared")
 from checks import ROOT, check, finish  # noqa: E402
 
-CRATE = ROOT / "crates/pie_commands/src/diagnosis"
+CRATE = ROOT / "crates/pie_trace/src/diagnosis"
 PAGE = (ROOT / "docs/FORMATS.md").read_text()
 FLAT = " ".join(PAGE.split())
 # The numbers that the page names in words, or with more than one range.

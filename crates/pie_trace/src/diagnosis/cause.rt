@@ -23,7 +23,7 @@ pub(crate) enum Reason {
 
 /// The cause of a fault.
 #[derive(Clone, Copy)]
-pub(crate) struct Cause {
+pub struct Cause {
     /// The number of the line in which the record begins, counted from 1. 1 if the reason is the whole file.
     pub(crate) line: u64,
     /// The reason.
@@ -48,7 +48,7 @@ fn record_of(why: TraceFault) -> Option<u64> {
 /// Returns the cause of the fault `why` that a text of this kind has (this project's own). `reader` and `again` both
 /// read the text from its beginning: the one for its records, the other for its lines. `None` if the fault names no
 /// record, if the text has no such fault, or if it can't be read again.
-pub(crate) fn find_cause<R: Read + Drop>(
+pub fn find_cause<R: Read + Drop>(
     alloc: Global,
     kind: TextKind,
     why: TraceFault,

@@ -16,7 +16,7 @@ use std::io::Write;
 /// # Errors
 ///
 /// Returns the error of the writer.
-pub(crate) fn write_cause<W: Write>(
+pub fn write_cause<W: Write>(
     cause: &Cause,
     name: &str,
     command: &str,

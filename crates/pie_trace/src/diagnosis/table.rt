@@ -261,13 +261,13 @@ impl Form {
 
 /// Returns the name of the field at `place` of a `resume` record, as on docs/FORMATS.md. Some of these records have the
 /// field `decay`. The field at place 0 is the kind.
-pub(crate) fn resume_field_name(has_decay: bool, place: usize) -> &'static str {
+pub fn resume_field_name(has_decay: bool, place: usize) -> &'static str {
     let count = if has_decay { 61 } else { 60 };
     name_in(Place::First(TextKind::History), count, place)
 }
 
 /// Returns the name of the field at `place` of a `queued` record.
-pub(crate) fn queued_field_name(place: usize) -> &'static str {
+pub fn queued_field_name(place: usize) -> &'static str {
     name_in(Place::Preamble, 5, place)
 }
 

@@ -1,7 +1,7 @@
 //! The bounds that connect numbers of openings and of preambles (docs/FORMATS.md, "Checks of a preamble").
 //!
 //! The bounds are in the order in which readers check them, so the first violated one is the cause of the fault. If the
-//! number that it allows violates another bound, and a term of a sum has a number that violates none, that term is the cause.
+//! number that it allows violates another bound, and another field has a number that violates none, that field is the cause.
 
 use crate::diagnosis::field::Allowed;
 use crate::diagnosis::table::{NINE, Shape};
@@ -47,6 +47,16 @@ const SUMS: [(&[&str], &[&str]); 3] = [
         &["enqueued", "marked", "early", "over_bytes", "over_packets"],
     ),
     (&["packets", "left"], QUEUED),
+];
+
+/// Numbers that can equal another one: true for a number of the opening, its name, and the other one, which is of the state.
+const EQUALS: [(bool, &str, &str); 6] = [
+    (true, "moment", "moment"),
+    (true, "packets", "packets"),
+    (true, "events", "count"),
+    (false, "moment", "last"),
+    (false, "moment", "start"),
+    (false, "old", "largest_delay"),
 ];
 
 /// The numbers of a record by their names, and the first of them that is out of its bounds.
@@ -302,29 +312,59 @@ fn checked_resume(row: &Record, shape: Shape, replaced: Option<(usize, u128)>) -
     numbers
 }
 
-impl Numbers<'_> {
-    /// Returns true if the record has no problem with this number at this place.
-    fn is_removed_by(&self, place: usize, number: u128) -> bool {
-        let numbers = checked_resume(self.row, self.shape, Some((place, number)));
-        numbers.problem.is_none()
+/// Returns the nearest number that the cause of a problem allows for the number `now`, and its place.
+fn nearest(problem: Problem, now: u128) -> Option<(usize, u128)> {
+    match problem {
+        Problem::Field(
+            FieldCause {
+                place,
+                allowed: Allowed::Range { least, most },
+                ..
+            },
+        ) => Some((place, now.min(most).max(least))),
+        _ => None,
     }
+}
 
-    /// Returns true if the record has no problem with the nearest number that the cause of this problem allows.
-    fn is_removed_alone(&self, problem: Problem) -> bool {
-        match problem {
-            Problem::Field(
-                FieldCause {
-                    place,
-                    allowed: Allowed::Range { least, most },
-                    ..
-                },
-            ) => self.is_removed_by(place, self.number_in(place).min(most).max(least)),
-            _ => true,
+/// Returns the place of the field that is the cause of a problem. 0 if it is the number of fields.
+fn place_of(problem: Problem) -> usize {
+    match problem {
+        Problem::Field(cause) => cause.place,
+        Problem::Count { .. } => 0,
+    }
+}
+
+impl Numbers<'_> {
+    /// Returns the problem of the field at `place` if no problem is left with this number there.
+    fn removed_by(&self, place: usize, name: &'static str, number: u128) -> Option<Problem> {
+        let (least, most) = (number, number);
+        let numbers = checked_resume(self.row, self.shape, Some((place, number)));
+        match numbers.problem {
+            None => Some(Problem::of_field(self.row, place, name, Allowed::Range { least, most })),
+            Some(_) => None,
         }
     }
 
-    /// Returns the problem of the first of the numbers `terms`, if another number in its place removes all problems: the one
-    /// for which the sum of `terms` equals the sum of `others`.
+    /// Returns the bound of the field of this problem for which no problem is left with the nearest number in it, if there is one.
+    /// Several bounds can apply to one field.
+    fn removed_alone(&self, problem: Problem) -> Option<Problem> {
+        let mut problem = problem;
+        for _ in 0..4 {
+            let place = place_of(problem);
+            let Some(replaced) = nearest(problem, self.number_in(place)) else {
+                return Some(problem);
+            };
+            match checked_resume(self.row, self.shape, Some(replaced)).problem {
+                None => return Some(problem),
+                Some(next) if place_of(next) == place => problem = next,
+                Some(_) => return None,
+            }
+        }
+        None
+    }
+
+    /// Returns the problem of the first of the numbers `terms` for which no problem is left if the sum of `terms` equals the
+    /// sum of `others`.
     fn balanced(
         &self,
         terms: &'static [&'static str],
@@ -334,41 +374,64 @@ impl Numbers<'_> {
         for term in 0..terms.len() {
             let name = terms[term];
             let number = self.number(name).saturating_add(other).checked_sub(sum);
-            match (self.place(name), number) {
-                (Some(place), Some(number)) if self.is_removed_by(place, number) => {
-                    let (least, most) = (number, number);
-                    return Some(Problem::of_field(
-                        self.row,
-                        place,
-                        name,
-                        Allowed::Range { least, most },
-                    ));
+            if let (Some(place), Some(number)) = (self.place(name), number) {
+                let found = self.removed_by(place, name, number);
+                if found.is_some() {
+                    return found;
                 }
-                _ => {}
+            }
+        }
+        None
+    }
+
+    /// Returns the problem of a term of a sum for which no problem is left with another number.
+    fn removed_by_term(&self) -> Option<Problem> {
+        for number in 0..SUMS.len() {
+            let (left, right) = SUMS[number];
+            let found = self.balanced(left, right).or(self.balanced(right, left));
+            if found.is_some() {
+                return found;
+            }
+        }
+        None
+    }
+
+    /// Returns the problem of a number for which no problem is left if it equals another one.
+    fn removed_by_equal(&self) -> Option<Problem> {
+        for number in 0..EQUALS.len() {
+            let (is_of_opening, name, other) = EQUALS[number];
+            let mut opened = *self;
+            opened.from = if is_of_opening { 1 } else { self.from };
+            if let Some(place) = opened.place(name) {
+                let found = self.removed_by(place, name, self.number(other));
+                if found.is_some() {
+                    return found;
+                }
             }
         }
         None
     }
 }
 
-/// Returns the problem of a `resume` record: the first number that is out of its bounds. If the nearest number in its bounds
-/// leaves a problem, and another number of a sum leaves none, returns the problem of that number of a sum.
+/// Returns the problem of a `resume` record: the first number that is out of its bounds. If another number has to change, so
+/// that no problem is left, returns the problem of that number.
 fn resume_problem(row: &Record, shape: Shape) -> Option<Problem> {
     let numbers = checked_resume(row, shape, None);
     let problem = numbers.problem?;
-    if numbers.is_removed_alone(problem) {
-        return Some(problem);
+    let found = numbers
+        .removed_alone(problem)
+        .or(numbers.removed_by_term())
+        .or(numbers.removed_by_equal());
+    Some(found.unwrap_or(problem))
+}
+
+/// Returns the problem of the bytes of a `resume` record for which no problem is left if they are those of its packets.
+pub(crate) fn bytes_problem(row: &Record, shape: Shape, bytes: u128) -> Option<Problem> {
+    let numbers = checked_resume(row, shape, None);
+    if numbers.number("bytes") == bytes {
+        return None;
     }
-    for number in 0..SUMS.len() {
-        let (left, right) = SUMS[number];
-        let found = numbers
-            .balanced(left, right)
-            .or(numbers.balanced(right, left));
-        if found.is_some() {
-            return found;
-        }
-    }
-    Some(problem)
+    numbers.removed_by(numbers.place("bytes")?, "bytes", bytes)
 }
 
 /// Returns the first number of a first record that is out of its bounds.

@@ -49,14 +49,15 @@ const SUMS: [(&[&str], &[&str]); 3] = [
     (&["packets", "left"], QUEUED),
 ];
 
-/// Numbers that can equal another one: true for a number of the opening, its name, and the other one, which is of the state.
-const EQUALS: [(bool, &str, &str); 6] = [
-    (true, "moment", "moment"),
-    (true, "packets", "packets"),
-    (true, "events", "count"),
-    (false, "moment", "last"),
-    (false, "moment", "start"),
-    (false, "old", "largest_delay"),
+/// Numbers that another number of the state bounds: true for a number of the opening, its name, the other number, and the
+/// greatest number if the other one is the least; 0 if the other one is the greatest.
+const BOUNDS: [(bool, &str, &str, u128); 6] = [
+    (true, "moment", "moment", 0),
+    (true, "packets", "packets", 1 << 20),
+    (true, "events", "count", 1 << 47),
+    (false, "moment", "last", MAX_MOMENT),
+    (false, "moment", "start", MAX_MOMENT),
+    (false, "old", "largest_delay", 0),
 ];
 
 /// The numbers of a record by their names, and the first of them that is out of its bounds.
@@ -335,14 +336,16 @@ fn place_of(problem: Problem) -> usize {
 }
 
 impl Numbers<'_> {
-    /// Returns the problem of the field at `place` if no problem is left with this number there.
-    fn removed_by(&self, place: usize, name: &'static str, number: u128) -> Option<Problem> {
-        let (least, most) = (number, number);
-        let numbers = checked_resume(self.row, self.shape, Some((place, number)));
-        match numbers.problem {
-            None => Some(Problem::of_field(self.row, place, name, Allowed::Range { least, most })),
-            Some(_) => None,
-        }
+    /// Returns true if no problem is left with this number at `place`.
+    fn is_removed_by(&self, place: usize, number: u128) -> bool {
+        checked_resume(self.row, self.shape, Some((place, number)))
+            .problem
+            .is_none()
+    }
+
+    /// Returns the problem of a field that is not a number from `least` to `most`.
+    fn problem_at(&self, place: usize, name: &'static str, least: u128, most: u128) -> Problem {
+        Problem::of_field(self.row, place, name, Allowed::Range { least, most })
     }
 
     /// Returns the bound of the field of this problem for which no problem is left with the nearest number in it, if there is one.
@@ -374,11 +377,11 @@ impl Numbers<'_> {
         for term in 0..terms.len() {
             let name = terms[term];
             let number = self.number(name).saturating_add(other).checked_sub(sum);
-            if let (Some(place), Some(number)) = (self.place(name), number) {
-                let found = self.removed_by(place, name, number);
-                if found.is_some() {
-                    return found;
-                }
+            match (self.place(name), number) {
+                (Some(place), Some(number)) if self.is_removed_by(place, number) => return Some(
+                    self.problem_at(place, name, number, number),
+                ),
+                _ => {}
             }
         }
         None
@@ -396,17 +399,18 @@ impl Numbers<'_> {
         None
     }
 
-    /// Returns the problem of a number for which no problem is left if it equals another one.
-    fn removed_by_equal(&self) -> Option<Problem> {
-        for number in 0..EQUALS.len() {
-            let (is_of_opening, name, other) = EQUALS[number];
-            let mut opened = *self;
+    /// Returns the problem of a number for which no problem is left if it equals the number that bounds it.
+    fn removed_by_bound(&self) -> Option<Problem> {
+        for number in 0..BOUNDS.len() {
+            let (is_of_opening, name, other, most) = BOUNDS[number];
+            let (mut opened, bound) = (*self, self.number(other));
             opened.from = if is_of_opening { 1 } else { self.from };
-            if let Some(place) = opened.place(name) {
-                let found = self.removed_by(place, name, self.number(other));
-                if found.is_some() {
-                    return found;
-                }
+            let (least, most) = if most == 0 { (0, bound) } else { (bound, most) };
+            match opened.place(name) {
+                Some(place) if self.is_removed_by(place, bound) => return Some(self.problem_at(
+                    place, name, least, most,
+                )),
+                _ => {}
             }
         }
         None
@@ -421,17 +425,18 @@ fn resume_problem(row: &Record, shape: Shape) -> Option<Problem> {
     let found = numbers
         .removed_alone(problem)
         .or(numbers.removed_by_term())
-        .or(numbers.removed_by_equal());
+        .or(numbers.removed_by_bound());
     Some(found.unwrap_or(problem))
 }
 
-/// Returns the problem of the bytes of a `resume` record for which no problem is left if they are those of its packets.
+/// Returns the problem of the bytes of a `resume` record if no problem is left with those of its packets, and these are others.
 pub(crate) fn bytes_problem(row: &Record, shape: Shape, bytes: u128) -> Option<Problem> {
     let numbers = checked_resume(row, shape, None);
-    if numbers.number("bytes") == bytes {
-        return None;
+    let place = numbers.place("bytes")?;
+    if numbers.number("bytes") != bytes && numbers.is_removed_by(place, bytes) {
+        return Some(numbers.problem_at(place, "bytes", bytes, bytes));
     }
-    numbers.removed_by(numbers.place("bytes")?, "bytes", bytes)
+    None
 }
 
 /// Returns the first number of a first record that is out of its bounds.

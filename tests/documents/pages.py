@@ -121,7 +121,7 @@ def blocks(text):
 
 def fences(text):
     """Returns the fences of commands of a page."""
-    found = re.findall(r"^```(.*)\n(.*?)^```$", text, flags=re.M | re.S)
+    found = re.findall(r"^```([^\n]*)\n(.*?)^```$", text, flags=re.M | re.S)
     return [block for language, block in found if language == "sh" or (not language and COMMAND.match(block))]
 
 

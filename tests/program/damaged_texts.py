@@ -290,12 +290,12 @@ def preamble_cases(moment):
     def resume(fields, why, number, name, *bounds):
         return {(1, place): value for place, value in fields.items()}, why, (1, number, name), number_allowed(*bounds)
 
-    yield resume({30: 1001}, "more events than the limits allow", 30, "count", 0, 1000)
-    yield resume({32: 9}, "more packets than the ring holds", 32, "packets", 0, 8)
-    yield resume({33: 2**30 + 1}, "more bytes than a queue holds", 33, "bytes", 0, 2**30)
+    yield resume({30: 1001}, "more events than the limits allow", 30, "count", 5, 5)
+    yield resume({32: 9}, "more packets than the ring holds", 32, "packets", 2, 2)
+    yield resume({33: 2**30 + 1}, "more bytes than a queue holds", 33, "bytes", 1500, 1500)
     yield resume({31: 6}, no_number, 31, "set_by", 0, 5)
     yield {(1, 31): "x"}, no_number, (1, 31, "set_by"), f"is a number from 0 to {most}, or nothing"
-    yield resume({34: 4}, no_number, 34, "moment", 5, 2**60 - 1)
+    yield resume({34: 4}, no_number, 34, "moment", moment - 1, 2**60 - 1)
     yield resume({41: 2}, no_number, 41, "measuring", 0, 1)
     yield resume({42: 1}, no_number, 42, "start", 0, 0)
     yield resume({43: 1, 60: "x"}, no_number, 43, "counted", 0, 0)
@@ -304,28 +304,29 @@ def preamble_cases(moment):
     yield resume({21: 1}, unsound, 21, "target", 2, 10**10)
     yield {(1, 29): 1000}, unsound, (1, 29, "dq_threshold"), "are 1024, 2048, 4096, 8192, 16384, 32768, 65536"
     yield resume({34: 2**60}, unsound, 34, "moment", 0, 2**60 - 1)
-    for number, name, bound in ((35, "prob", 10**12), (36, "old", 2**40), (37, "accu", 8_499_999_999_999), (38, "burst", 10**12), (39, "last", moment)):
+    for number, name, bound in ((35, "prob", 10**12), (37, "accu", 8_499_999_999_999), (38, "burst", 10**12), (39, "last", moment)):
         yield resume({number: bound + 1}, unsound, number, name, 0, bound)
+    yield resume({36: 2**40 + 1}, unsound, 36, "old", 0, 0)
     yield resume({40: 2**60}, unsound, 40, "average", 0, 2**60 - 1)
     yield resume({41: 1, 42: moment + 1}, unsound, 42, "start", 0, moment)
     yield resume({41: 1, 43: 16384}, unsound, 43, "counted", 0, 16383)
-    yield resume({44: 2**40 + 1}, unsound, 44, "last_wait", 0, 2**40)
+    yield resume({44: 2**40 + 1}, unsound, 44, "last_wait", 0, 0)
     yield resume({45: 0}, unsound, 45, "active", 1, 1)
-    yield resume({46: 6}, statistics, 46, "arrivals", 0, 5)
+    yield resume({46: 6}, statistics, 46, "arrivals", 3, 3)
     yield resume({53: 5 * 65535 + 1}, statistics, 53, "left_bytes", 0, 5 * 65535)
-    yield resume({60: 5 * 2**60 + 1}, statistics, 60, "waited", 0, 5 * 2**60)
-    yield resume({46: 2}, statistics, 30, "count", 4, 4)
-    yield resume({46: 4, 55: 0}, statistics, 46, "arrivals", 3, 3)
+    yield resume({60: 5 * 2**60 + 1}, statistics, 60, "waited", 0, moment)
+    yield resume({46: 2}, statistics, 46, "arrivals", 3, 3)
+    yield resume({46: 4, 55: 0}, statistics, 49, "early", 1, 1)
     yield resume({46: 1, 47: 1, 52: 3}, statistics, 52, "left", 0, 1)
     yield resume({32: 1}, statistics, 32, "packets", 2, 2)
     yield resume({58: 0}, statistics, 58, "largest_queue", 1500, most)
     yield resume({36: 2**40, 59: 4}, statistics, 59, "largest_delay", 2**40, most)
-    yield resume({44: 5, 60: 4}, statistics, 44, "last_wait", 0, 4)
+    yield resume({44: 5, 60: 4}, statistics, 44, "last_wait", 0, 0)
     yield resume({60: moment + 1}, statistics, 60, "waited", 0, moment)
     yield resume({35: 1, 55: 0, 56: 1}, statistics, 35, "prob", 0, 0)
     yield resume({44: 1}, statistics, 44, "last_wait", 0, 0)
     yield resume({2: 3}, no_number, 2, "profile", 1, 2)[:3] + ("are 1, 2",)
-    yield resume({9: 0}, "limits out of range", 9, "packets", 1, 2**20)
+    yield resume({9: 0}, "limits out of range", 9, "packets", 2, 2**20)
     yield {(2, 3): 0}, "packet size out of range", (2, 3, "size"), number_allowed(1, 65535)
     yield {(2, 3): 1501}, "more bytes than were announced", (2, 3, "size"), number_allowed(1, 1500)
     yield {(2, 5): moment + 1}, "a packet that arrives later", (2, 5, "since"), number_allowed(0, moment)
@@ -392,7 +393,9 @@ def cures():
     for place, field in enumerate(row, 1):
         if field.isdigit():
             value = int(field)
-            others = {0, 1, value - 1, value + 1, value + 2, value // 2, 2 * value + 1, 10**6, 2**41, 2**60, 2**64 - 1}
+            others = {0, 1, value - 1, value + 1, value + 2, value // 2, 2 * value + 1, 10**6}
+            # (the limits of packets and of the event log have 32 bits, and a greater number is a fault of its own)
+            others |= set() if place in (9, 10) else {2**41, 2**60, 2**64 - 1}
             changes += [{place: str(it)} for it in sorted(others - {value, -1})]
     with tempfile.TemporaryDirectory() as work:
         found = causes_in(work, [text_with(it) for it in changes])

@@ -1,7 +1,7 @@
 //! The bounds that connect numbers of openings and of preambles (docs/FORMATS.md, "Checks of a preamble").
 //!
 //! The bounds are in the order in which readers check them, so the first violated one is the cause of the fault. If the
-//! number that it allows violates another bound, and a term of a sum has a number that violates none, that term is the cause.
+//! number that it allows violates another bound, and another field has a number that violates none, that field is the cause.
 
 use crate::diagnosis::field::Allowed;
 use crate::diagnosis::table::{NINE, Shape};
@@ -47,6 +47,17 @@ const SUMS: [(&[&str], &[&str]); 3] = [
         &["enqueued", "marked", "early", "over_bytes", "over_packets"],
     ),
     (&["packets", "left"], QUEUED),
+];
+
+/// Numbers that another number of the state bounds: true for a number of the opening, its name, the other number, and the
+/// greatest number if the other one is the least; 0 if the other one is the greatest.
+const BOUNDS: [(bool, &str, &str, u128); 6] = [
+    (true, "moment", "moment", 0),
+    (true, "packets", "packets", 1 << 20),
+    (true, "events", "count", 1 << 47),
+    (false, "moment", "last", MAX_MOMENT),
+    (false, "moment", "start", MAX_MOMENT),
+    (false, "old", "largest_delay", 0),
 ];
 
 /// The numbers of a record by their names, and the first of them that is out of its bounds.
@@ -302,29 +313,61 @@ fn checked_resume(row: &Record, shape: Shape, replaced: Option<(usize, u128)>) -
     numbers
 }
 
+/// Returns the nearest number that the cause of a problem allows for the number `now`, and its place.
+fn nearest(problem: Problem, now: u128) -> Option<(usize, u128)> {
+    match problem {
+        Problem::Field(
+            FieldCause {
+                place,
+                allowed: Allowed::Range { least, most },
+                ..
+            },
+        ) => Some((place, now.min(most).max(least))),
+        _ => None,
+    }
+}
+
+/// Returns the place of the field that is the cause of a problem. 0 if it is the number of fields.
+fn place_of(problem: Problem) -> usize {
+    match problem {
+        Problem::Field(cause) => cause.place,
+        Problem::Count { .. } => 0,
+    }
+}
+
 impl Numbers<'_> {
-    /// Returns true if the record has no problem with this number at this place.
+    /// Returns true if no problem is left with this number at `place`.
     fn is_removed_by(&self, place: usize, number: u128) -> bool {
-        let numbers = checked_resume(self.row, self.shape, Some((place, number)));
-        numbers.problem.is_none()
+        checked_resume(self.row, self.shape, Some((place, number)))
+            .problem
+            .is_none()
     }
 
-    /// Returns true if the record has no problem with the nearest number that the cause of this problem allows.
-    fn is_removed_alone(&self, problem: Problem) -> bool {
-        match problem {
-            Problem::Field(
-                FieldCause {
-                    place,
-                    allowed: Allowed::Range { least, most },
-                    ..
-                },
-            ) => self.is_removed_by(place, self.number_in(place).min(most).max(least)),
-            _ => true,
+    /// Returns the problem of a field that is not a number from `least` to `most`.
+    fn problem_at(&self, place: usize, name: &'static str, least: u128, most: u128) -> Problem {
+        Problem::of_field(self.row, place, name, Allowed::Range { least, most })
+    }
+
+    /// Returns the bound of the field of this problem for which no problem is left with the nearest number in it, if there is one.
+    /// Several bounds can apply to one field.
+    fn removed_alone(&self, problem: Problem) -> Option<Problem> {
+        let mut problem = problem;
+        for _ in 0..4 {
+            let place = place_of(problem);
+            let Some(replaced) = nearest(problem, self.number_in(place)) else {
+                return Some(problem);
+            };
+            match checked_resume(self.row, self.shape, Some(replaced)).problem {
+                None => return Some(problem),
+                Some(next) if place_of(next) == place => problem = next,
+                Some(_) => return None,
+            }
         }
+        None
     }
 
-    /// Returns the problem of the first of the numbers `terms`, if another number in its place removes all problems: the one
-    /// for which the sum of `terms` equals the sum of `others`.
+    /// Returns the problem of the first of the numbers `terms` for which no problem is left if the sum of `terms` equals the
+    /// sum of `others`.
     fn balanced(
         &self,
         terms: &'static [&'static str],
@@ -335,15 +378,38 @@ impl Numbers<'_> {
             let name = terms[term];
             let number = self.number(name).saturating_add(other).checked_sub(sum);
             match (self.place(name), number) {
-                (Some(place), Some(number)) if self.is_removed_by(place, number) => {
-                    let (least, most) = (number, number);
-                    return Some(Problem::of_field(
-                        self.row,
-                        place,
-                        name,
-                        Allowed::Range { least, most },
-                    ));
-                }
+                (Some(place), Some(number)) if self.is_removed_by(place, number) => return Some(
+                    self.problem_at(place, name, number, number),
+                ),
+                _ => {}
+            }
+        }
+        None
+    }
+
+    /// Returns the problem of a term of a sum for which no problem is left with another number.
+    fn removed_by_term(&self) -> Option<Problem> {
+        for number in 0..SUMS.len() {
+            let (left, right) = SUMS[number];
+            let found = self.balanced(left, right).or(self.balanced(right, left));
+            if found.is_some() {
+                return found;
+            }
+        }
+        None
+    }
+
+    /// Returns the problem of a number for which no problem is left if it equals the number that bounds it.
+    fn removed_by_bound(&self) -> Option<Problem> {
+        for number in 0..BOUNDS.len() {
+            let (is_of_opening, name, other, most) = BOUNDS[number];
+            let (mut opened, bound) = (*self, self.number(other));
+            opened.from = if is_of_opening { 1 } else { self.from };
+            let (least, most) = if most == 0 { (0, bound) } else { (bound, most) };
+            match opened.place(name) {
+                Some(place) if self.is_removed_by(place, bound) => return Some(self.problem_at(
+                    place, name, least, most,
+                )),
                 _ => {}
             }
         }
@@ -351,24 +417,26 @@ impl Numbers<'_> {
     }
 }
 
-/// Returns the problem of a `resume` record: the first number that is out of its bounds. If the nearest number in its bounds
-/// leaves a problem, and another number of a sum leaves none, returns the problem of that number of a sum.
+/// Returns the problem of a `resume` record: the first number that is out of its bounds. If another number has to change, so
+/// that no problem is left, returns the problem of that number.
 fn resume_problem(row: &Record, shape: Shape) -> Option<Problem> {
     let numbers = checked_resume(row, shape, None);
     let problem = numbers.problem?;
-    if numbers.is_removed_alone(problem) {
-        return Some(problem);
+    let found = numbers
+        .removed_alone(problem)
+        .or(numbers.removed_by_term())
+        .or(numbers.removed_by_bound());
+    Some(found.unwrap_or(problem))
+}
+
+/// Returns the problem of the bytes of a `resume` record if no problem is left with those of its packets, and these are others.
+pub(crate) fn bytes_problem(row: &Record, shape: Shape, bytes: u128) -> Option<Problem> {
+    let numbers = checked_resume(row, shape, None);
+    let place = numbers.place("bytes")?;
+    if numbers.number("bytes") != bytes && numbers.is_removed_by(place, bytes) {
+        return Some(numbers.problem_at(place, "bytes", bytes, bytes));
     }
-    for number in 0..SUMS.len() {
-        let (left, right) = SUMS[number];
-        let found = numbers
-            .balanced(left, right)
-            .or(numbers.balanced(right, left));
-        if found.is_some() {
-            return found;
-        }
-    }
-    Some(problem)
+    None
 }
 
 /// Returns the first number of a first record that is out of its bounds.

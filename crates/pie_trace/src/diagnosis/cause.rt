@@ -102,9 +102,7 @@ fn first_problem<R: Read>(
         return Some(problem);
     }
     let shape = shape_of(place, first).ok()?;
-    if let Some(problem) = bound_problem(first, shape) {
-        return Some(problem);
-    }
+    let problem = bound_problem(first, shape);
     let mut row = Record::new(alloc);
     let mut queue = Queue::after(first);
     for _ in 0..u64::MAX {
@@ -113,7 +111,7 @@ fn first_problem<R: Read>(
         }
         queue.add(&row);
     }
-    queue.problem_of_end(first, shape)
+    queue.problem_of_end(first, shape, problem)
 }
 
 /// Returns the problem of the record with this number, and the other kind of text in which it is correct. The first

@@ -1,6 +1,6 @@
 //! The queue of an excerpt's preamble, as far as its records were read.
 
-use crate::diagnosis::bounds::Numbers;
+use crate::diagnosis::bounds::{Numbers, bytes_problem};
 use crate::diagnosis::field::Allowed;
 use crate::diagnosis::table::Shape;
 use crate::diagnosis::text::{Place, TextKind};
@@ -68,8 +68,21 @@ impl Queue {
         numbers.problem
     }
 
-    /// Returns the problem of a `resume` record that announces more than the `queued` records contain.
-    pub(crate) fn problem_of_end(&self, first: &Record, shape: Shape) -> Option<Problem> {
+    /// Returns the problem of a `resume` record, whose numbers have this problem. If they have none, or if it is due to the
+    /// announced bytes, returns the problem of an announcement of more than the `queued` records contain.
+    pub(crate) fn problem_of_end(
+        &self,
+        first: &Record,
+        shape: Shape,
+        problem: Option<Problem>,
+    ) -> Option<Problem> {
+        if problem.is_some() {
+            let is_whole = 0 < self.packets && self.packets == self.announced_packets;
+            return match bytes_problem(first, shape, self.bytes) {
+                Some(found) if is_whole => Some(found),
+                _ => problem,
+            };
+        }
         let mut numbers = Numbers::new(first, shape);
         numbers.go_to("count");
         numbers.only("packets", self.packets);

@@ -3,8 +3,7 @@
 
 use pie_explain::{EventChoice, ExplainFault, Form, Selection, explain};
 use pie_summary::SummariesOnly;
-use pie_trace::TraceFault;
-use pie_what_if::Omitted;
+use pie_trace::{Omitted, TraceFault};
 use std::alloc::{AllocError, Global};
 use std::io;
 use std::io::Write;

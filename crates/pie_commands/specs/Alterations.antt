@@ -5,9 +5,9 @@ use Rattle.std.specs.Result.{result_ok}
 use Rattle.clap.specs.Words.{Row, Text, first_of}
 use Rattle.pie_params.specs.Params.{default_profile, first_bad}
 use Rattle.pie_units.specs.Opening.{gain_of}
-use Rattle.pie_what_if.specs.Params.{over}
-use Rattle.pie_what_if.specs.declared.alteration.Alteration.{Alteration}
-use Rattle.pie_what_if.specs.declared.other_params.OtherParams.{OtherParams}
+use Rattle.pie_trace.specs.Other.{over}
+use Rattle.pie_trace.specs.declared.alteration.Alteration.{Alteration}
+use Rattle.pie_trace.specs.declared.other_params.OtherParams.{OtherParams}
 use Rattle.pie_units.specs.Number.{time_of}
 use Rattle.pie_units.specs.declared.options.OptionFault.{OptionFault}
 use Rattle.pie_units.specs.declared.utc.When.{When}

@@ -14,11 +14,10 @@ use crate::progress::{ProgressReader, Screen, shows_progress};
 use clap::ArgMatches;
 use pie_explain::ExplainFault;
 use pie_params::Params;
-use pie_trace::TraceFault;
-use pie_units::{OptionFault, When, gain_of, time_of};
-use pie_what_if::{
-    Alteration, Omitted, OtherParams, WhatIfEnd, WhatIfFault, what_if as decide_again,
+use pie_trace::{
+    Alteration, Omitted, OtherParams, TraceFault, WhatIfEnd, WhatIfFault, what_if as decide_again,
 };
+use pie_units::{OptionFault, When, gain_of, time_of};
 use std::alloc::Global;
 use std::io::{ErrorKind, Read, Write};
 

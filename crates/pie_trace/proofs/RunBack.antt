@@ -256,11 +256,11 @@ run-written promises max_records kind rest rows opening few opens some =
       few = omega (arith, count);
     }
 
-pub run-lines : (promises : Promises) (max_records : ℕ) (row : Row) (rows : List Row) (opening : Opening)
+pub text_is_read_back : (promises : Promises) (max_records : ℕ) (row : Row) (rows : List Row) (opening : Opening)
     → 0 < max_records → max_records ≤ 2 ^ 32 → opening_of row ≡ Ok opening
     → IsHistoryText (history_text max_records (row ∷ rows)) opening (run_lines (version_of row) max_records opening rows)
 unfolding run_lines
-run-lines promises max_records row rows opening some few opens =
+text_is_read_back promises max_records row rows opening some few opens =
     let is = (opened promises row opening opens).begins in
     subst (λ (first : Row). IsHistoryText (history_text max_records (first ∷ rows)) opening (run_lines (version_of first) max_records opening rows)) (sym is.is)
     (let there = ap opening_of (sym is.is) ∙ opens in
@@ -357,12 +357,12 @@ abbrev pub LegalIsClean : Type 0
 LegalIsClean = (text : List ℕ) (opening : Opening) (lines : List Line) → IsHistoryText text opening lines → AreLegal opening lines
     → text_finding (records_of text) ≡ Ok (Clean (length (events_of lines)))
 
-pub run-clean : ReadBack → LegalIsClean → Promises → (max_records : ℕ) (row : Row) (rows : List Row)
+pub run_clean : ReadBack → LegalIsClean → Promises → (max_records : ℕ) (row : Row) (rows : List Row)
     (opening : Opening) → 0 < max_records → max_records ≤ 2 ^ 32 → opening_of row ≡ Ok opening
     → text_finding (records_of (history_text max_records (row ∷ rows)))
     ≡ Ok (Clean (length (progress_at_end opening (requests_of (version_of row) (before_fault (version_of row) max_records 2 rows))).history))
 unfolding run_lines events_of
-run-clean read_back clean promises max_records row rows opening some few opens =
+run_clean read_back clean promises max_records row rows opening some few opens =
     let asked = requests_of (version_of row) (before_fault (version_of row) max_records 2 rows) in
     let runs = lines-legal promises opening start [] asked (All-nil CanBeMade) refl (promises.legal_at_first opening) in
     clean (history_text max_records (row ∷ rows)) opening _ (read_back max_records row rows opening some few opens) runs.legal
@@ -381,11 +381,11 @@ before-all version max_records number (row ∷ rows) e = by (record_fault versio
         → before_fault version max_records number (row ∷ rows) ≡ row ∷ rows
     by o r e later = grind (arith, nat_tests)
 
-pub whole-clean : ReadBack → LegalIsClean → Promises → (max_records : ℕ) (rows : List Row) (end : RunEnd) → max_records ≤ 2 ^ 32 → fault_of max_records rows ≡ None
+pub whole_clean : ReadBack → LegalIsClean → Promises → (max_records : ℕ) (rows : List Row) (end : RunEnd) → max_records ≤ 2 ^ 32 → fault_of max_records rows ≡ None
     → end_of max_records rows ≡ Some end → text_finding (records_of (history_text max_records rows)) ≡ Ok (Clean end.events)
 unfolding fault_of end_of
-whole-clean read_back clean promises max_records [] end few sound run_end = cc
-whole-clean read_back clean promises max_records (row ∷ rows) end few sound run_end = by (opening_of row) refl
+whole_clean read_back clean promises max_records [] end few sound run_end = cc
+whole_clean read_back clean promises max_records (row ∷ rows) end few sound run_end = by (opening_of row) refl
   where
     found : ℕ → Result Finding TraceFault
     found events = Ok (Clean events)
@@ -396,7 +396,7 @@ whole-clean read_back clean promises max_records (row ∷ rows) end few sound ru
         let some : 0 < max_records = grind (arith, nat_tests, sound) in
         let none : first_fault (version_of row) max_records 2 rows ≡ None = grind (arith, nat_tests, sound, opens) in
         let same : end_left (version_of row) opening start 0 rows ≡ end = grind (arith, nat_tests, some, run_end, opens) in
-        run-clean read_back clean promises max_records row rows opening some few opens
+        run_clean read_back clean promises max_records row rows opening some few opens
         ∙ ap (λ (all : List Row). found (length (progress_at_end opening (requests_of (version_of row) all)).history))
         (before-all (version_of row) max_records 2 rows none)
         ∙ ap (λ (r : RunEnd). found r.events) same
@@ -569,9 +569,9 @@ module _ (again : (row : Row) (rows : List Row) (begun : Beginning) → beginnin
       behind-queue count begun.core.waiting before after begun.left
       (let rest : before ++ (lost_row count ∷ after) ≡ map queued_row begun.core.waiting ++ begun.left = cc in rest)
 
-  pub lost-part-is-fault : (count : ℕ) (before after : List Row) → text_fault (before ++ (lost_row count ∷ after)) ≢ None
+  pub lost_part_is_fault : (count : ℕ) (before after : List Row) → text_fault (before ++ (lost_row count ∷ after)) ≢ None
   unfolding text_fault
-  lost-part-is-fault count before after = by (beginning_of (before ++ (lost_row count ∷ after))) refl
+  lost_part_is_fault count before after = by (beginning_of (before ++ (lost_row count ∷ after))) refl
     where
       by : (r : Result Beginning TraceFault) → beginning_of (before ++ (lost_row count ∷ after)) ≡ r → fault_after r ≢ None
       by (Err why) is = λ e. cc

@@ -115,13 +115,6 @@ HasOutcome {X} pass (Ok value) before now =
     (pass.found ≡ None) × ((past : X) → pass.can_precede past → pass.gives past ≡ Some value) × Writes pass before now
 HasOutcome pass (Err why) before now = is_io_or_memory why ≡ false → (pass.found ≡ Some why) × Writes pass before now
 
--- the progress of a pass: some records are left, and the outcome for these gives the outcome for all
-pub record IsProgressOf {X A : Type 0} (all : Pass X A) (others : List Row → Pass X A) (left : Option (List Row)) (before now : Option (List ℕ))
-    : Type 0 where
-  pub rows : List Row
-  pub remain : left ≡ Some rows
-  pub comes : (result : Result A TraceFault) (last : Option (List ℕ)) → HasOutcome (others rows) result now last → HasOutcome all result before last
-
 -- ---- the run of a trace
 
 -- a book is in this state of a run from its opening

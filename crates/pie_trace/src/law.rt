@@ -1,8 +1,12 @@
-//! The laws of runs and migrations: history texts are read back and are clean, and excerpts continue a history.
-ghost use Rattle.pie_audit.specs.Text.{IsFound, text_fault};
+//! The laws of runs, migrations and other histories: history texts are read back and are clean, and excerpts continue a
+//! history.
+ghost use Rattle.pie_audit.specs.{Replay.CanBeMade, Text.text_lines};
+ghost use Rattle.pie_book.specs.Decision.{IsLegal};
 ghost use Rattle.pie_event.specs.Event.{CommandFits};
 ghost use Rattle.pie_text.specs.Plain.{lost_row};
-ghost use Rattle.pie_trace.specs.{All, Clean, Event, HaveSameLines, IsHistoryText, List, None, Ok, Opening, Beginning, Continues, Promises, Request, Row, Some, before_fault, end_of, fault_of, first_in_two, fold_reply, history_fault, history_lines, history_opening, history_text, history_version, length, migrated_text, migrated_version, opening_of, progress_after, progress_at_end, progress_resumed, records_of, replies, requests_of, end_of_run, fault_of_run, resumed_progress, text_of_run, beginning_within, run_lines, start, steps_of, text_finding, version_of, whole_begun, ℕ, declared.run.RunEnd.RunEnd};
+ghost use Rattle.pie_trace.specs.{All, Clean, Event, HaveSameLines, IsFound, IsHistoryText, List, None, Ok, Opening, Beginning, Continues, Promises, Request, Row, Some, before_fault, end_of, fault_of, first_in_two, fold_reply, history_fault, history_lines, history_opening, history_text, history_version, length, migrated_text, migrated_version, opening_of, progress_after, progress_at_end, progress_resumed, records_of, replies, requests_of, end_of_run, fault_of_run, resumed_progress, text_of_run, beginning_within, run_lines, start, steps_of, text_finding, version_of, whole_begun, ℕ, [], beginning_of, events_of, rows_text, take, text_fault, declared.run.RunEnd.RunEnd};
+ghost use Rattle.pie_trace.specs.{Other.ReadLine, Other.first_point, Other.point_at_end, WhatIf.end_after, WhatIf.other_text};
+ghost use Rattle.pie_trace.specs.declared.{alteration.Alteration.Alteration, decider.Outcome.TheVariants.NoEvents};
 ghost use Rattle.std.specs.Prelude.{◌++◌, ◌<◌, ◌^◌, ◌∷◌, ◌≡◌, ◌≢◌, ◌≤◌};
 
 /// The promises of the lower crates about all histories and all records.
@@ -50,6 +54,7 @@ pub fn resumed_runs_continue_the_whole()
 /// trace (`fault_of`, `history_text`, `end_of`).
 ///
 /// The function does nothing: its contract is the law (this project's own).
+#[tactic(auto, using(crate::proofs::RunFacts::whole_begins))]
 pub fn whole_traces_begin_at_openings()
     ensures { (max_records : ℕ) (row : Row) (rows : List Row) (opening : Opening) → opening_of row ≡ Ok opening
         → beginning_within max_records (row ∷ rows) ≡ whole_begun max_records (row ∷ rows) }
@@ -62,6 +67,7 @@ pub fn whole_traces_begin_at_openings()
 /// is clean (`up_to_fault`).
 ///
 /// The function does nothing: its contract is the law (this project's own).
+#[tactic(auto, using(crate::proofs::RunBack::run_clean, crate::proofs::RunBack::whole_clean))]
 pub fn runs_are_clean()
     ensures whole { (max_records : ℕ) (rows : List Row) (end : RunEnd) → max_records ≤ 2 ^ 32 → fault_of max_records rows ≡ None → end_of max_records rows ≡ Some end
         → text_finding (records_of (history_text max_records rows)) ≡ Ok (Clean end.events) }
@@ -99,6 +105,7 @@ pub fn continued_runs_are_clean()
 /// audit finds it clean.
 ///
 /// The function does nothing: its contract is the law (this project's own).
+#[tactic(auto, using(crate::proofs::RunBack::lost_part_is_fault))]
 pub fn lost_records_are_faults_of_texts()
     ensures { (count : ℕ) (before after : List Row) → text_fault (before ++ lost_row count ∷ after) ≢ None }
 {
@@ -152,4 +159,35 @@ pub fn migration_keeps_the_finding()
         → text_finding (records_of (migrated_text (2 ^ 32) (records_of text))) ≡ text_finding (records_of text) }
 {
     migrated_histories_are_read_back();
+}
+
+/// The law of other histories. If the events before a text are legal, all events of the other history are legal, whatever
+/// the alteration and the lines of the text are.
+///
+/// The function does nothing: its contract is the law (this project's own).
+#[tactic(auto, using(crate::proofs::WhatIfFacts::legal_other))]
+pub fn other_histories_are_legal()
+    ensures { (alteration : Alteration) (opening : Opening) (past : List Event) (lines : List ReadLine) → IsLegal opening past
+        → IsLegal opening (point_at_end alteration (first_point opening past) lines).events }
+{
+    pie_book::law::all_numbers_fit();
+}
+
+/// The law of the events before the moment. If no event of a legal text without a fault has the alteration's moment or a
+/// later one, the other history has the records of the text (`text`). For a whole history these are all its records
+/// (`whole`), in each version.
+///
+/// The function does nothing: its contract is the law (this project's own).
+pub fn histories_before_the_moment_are_written_again()
+    ensures text { (alteration : Alteration) (rows : List Row) (begun : Beginning) (opening : Opening) (past : List Event)
+        → end_after alteration (first_point opening past) (beginning_of rows) ≡ Some NoEvents → beginning_of rows ≡ Ok begun
+        → text_fault rows ≡ None → All CanBeMade (text_lines rows) → IsLegal opening (past ++ events_of (text_lines rows))
+        → other_text alteration (first_point opening past) rows ≡ rows_text (take begun.records_read rows ++ begun.left) }
+    ensures whole { (alteration : Alteration) (row : Row) (rows : List Row) (opening : Opening)
+        → end_after alteration (first_point opening []) (beginning_of (row ∷ rows)) ≡ Some NoEvents → opening_of row ≡ Ok opening
+        → text_fault (row ∷ rows) ≡ None → All CanBeMade (text_lines (row ∷ rows)) → IsLegal opening (events_of (text_lines (row ∷ rows)))
+        → other_text alteration (first_point opening []) (row ∷ rows) ≡ rows_text (row ∷ rows) }
+{
+    pie_excerpt::law::histories_begin_at_openings();
+    pie_record::law::lines_are_written_again();
 }

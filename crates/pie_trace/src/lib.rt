@@ -1,4 +1,4 @@
-//! Traces of commands, and the history text that a run of a trace writes, in three versions.
+//! Traces of commands, and the history text that a run of a trace writes, in three versions. Histories decided again.
 //!
 //! The definitions that the contracts cite are in `specs/`, and those of records in pie_record: a trace's first
 //! fault, and its history text.
@@ -18,18 +18,35 @@
 //! Laws about audits: the history text of every trace is clean, with the number of events that the run recorded
 //! (`runs_are_clean`). A history in version two has the finding that it had before (`migration_keeps_the_finding`).
 //! The output of a run of an excerpt is clean, with the events before it (`continued_runs_are_clean`).
+//!
+//! `what_if` reads a history or an excerpt, audits it, and writes another history: the events before a moment are the
+//! history's own. Then the parameters change, and each later command is decided after the events of the other history,
+//! `other_rows`.
 #![tactic(auto)]
 
+mod alteration;
+mod core_copy;
+mod decider;
 pub mod diagnosis;
 pub mod law;
 mod migration;
+mod omitted;
+mod other_history;
+mod other_params;
 mod run;
 mod run_start;
 mod session;
+mod steps;
+mod what_if_fault;
 
+pub use alteration::Alteration;
+pub use decider::WhatIfEnd;
 pub use migration::migrate;
+pub use omitted::Omitted;
+pub use other_history::what_if;
+pub use other_params::OtherParams;
 pub use pie_book::Opening;
 pub use pie_record::{HistoryLines, Line, OpenFault, RecordFault, TraceFault, Version};
 pub use pie_text::write_history;
 pub use run::{RunEnd, run_trace, run_trace_within};
-pub use run_start::add_beginning;
+pub use what_if_fault::WhatIfFault;

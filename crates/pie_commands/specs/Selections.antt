@@ -6,7 +6,7 @@ use Rattle.pie_explain.specs.declared.choice.EventChoice.{EventChoice}
 use Rattle.pie_explain.specs.declared.choice.EventChoice.TheVariants.{Number, Tag, Lost, Marked, All}
 use Rattle.pie_explain.specs.declared.form.Form.{Form}
 use Rattle.pie_explain.specs.declared.selection.Selection.{Selection}
-use Rattle.pie_summary.specs.declared.interval_lines.LineStyle.{LineStyle}
+use Rattle.pie_explain.specs.declared.interval_lines.LineStyle.{LineStyle}
 use Rattle.pie_units.specs.declared.utc.MomentFault.{MomentFault}
 use Rattle.pie_units.specs.declared.utc.When.{When}
 use Rattle.pie_commands.specs.Values.{bounds_of, flag_given, moment_given, number_given}

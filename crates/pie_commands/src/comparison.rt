@@ -1,8 +1,7 @@
 //! The comparison of a history with its control and with the other history of `pie what-if`, by the numbers of their
 //! summaries.
 
-use pie_explain::{EventChoice, ExplainFault, Form, Selection, explain};
-use pie_summary::SummariesOnly;
+use pie_explain::{EventChoice, ExplainFault, Form, Selection, SummariesOnly, explain};
 use pie_trace::TraceFault;
 use pie_what_if::Omitted;
 use std::alloc::{AllocError, Global};

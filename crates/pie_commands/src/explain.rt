@@ -11,9 +11,8 @@ use crate::options::{bounds_of, file, flag, moment, number, parsed, report_two, 
 use crate::progress::{ProgressReader, Screen, shows_progress, writes_to_terminal};
 use crate::steps::{explain_steps, lacks_queue};
 use clap::ArgMatches;
-use pie_explain::{EventChoice, EventRecords, ExplainFault, Form, Selection, Words};
+use pie_explain::{ByFlow, Digest, EventChoice, EventRecords, ExplainFault, Form, IntervalLines, LineStyle, Selection, SummariesOnly, Words};
 use pie_linux_history::{StepsExplained, StepsFault, StepsFinding};
-use pie_summary::{ByFlow, Digest, IntervalLines, LineStyle, SummariesOnly};
 use pie_trace::TraceFault;
 use std::alloc::Global;
 use std::io::{Read, Write};

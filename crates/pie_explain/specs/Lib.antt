@@ -9,6 +9,18 @@ pub mod Explanations
 pub mod DecidedEvent
 pub mod Answer
 pub mod TextAnswer
+pub mod Counts
+pub mod Ranges
+pub mod Aggregates
+pub mod Sums
+pub mod Interval
+pub mod SummaryRecord
+pub mod LiveInterval
+pub mod Summary
+pub mod FlowSums
+pub mod Flows
+pub mod FlowRecords
+pub mod ByFlow
 unfoldable pub use Names.*
 unfoldable pub use Explanations.*
 unfoldable pub use Answer.*

@@ -59,7 +59,8 @@ fn summary_of(alloc: Global, column: &Column<'_>) -> Result<Vec<u8>, ExplainFaul
         csv: true,
         by_wall: false,
     };
-    let sums = SummariesOnly { form, every: None };
+    let (every, style) = (None, None);
+    let sums = SummariesOnly { form, every, style };
     let why = match explain(alloc, column.text, &mut written, selection, sums) {
         Ok(_) => return Ok(written),
         Err(ExplainFault::Trace(why)) => ExplainFault::Trace(fault_in_memory(why)),

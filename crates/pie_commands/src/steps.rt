@@ -51,7 +51,6 @@ pub(crate) fn explain_steps<R: Read + Drop, W: Write>(
         }
         OutputKind::Records(each) => report(alloc, reader, output, selection, queue, each),
         OutputKind::Sums(sums) => report(alloc, reader, output, selection, queue, sums),
-        OutputKind::Lines(lines) => report(alloc, reader, output, selection, queue, lines),
         OutputKind::Digest(digest) => report(alloc, reader, output, selection, queue, digest),
         OutputKind::Flows(flows) => report(alloc, reader, output, selection, queue, flows),
     };

@@ -27,7 +27,7 @@ sys.path.insert(0, f"{os.path.dirname(os.path.abspath(__file__))}/../shared")
 from checks import NAME, ROOT, lower_crates  # noqa: E402
 
 CITED = re.compile(r"\bRattle\.(\w+)\.proofs\b")
-LEFT = {"pie_aqm": 3, "pie_audit": 1, "pie_book": 3, "pie_cut": 6, "pie_excerpt": 2, "pie_explain": 7, "pie_guarantees": 5,
+LEFT = {"pie_aqm": 3, "pie_audit": 1, "pie_book": 3, "pie_cut": 6, "pie_excerpt": 2, "pie_explain": 5, "pie_guarantees": 5,
         "pie_storm": 2, "pie_trace": 4, "pie_what_if": 1}
 
 PAGES = ("ARCHITECTURE.md", "PROMISES.md", "GUARANTEES.md", "PROVING.md")

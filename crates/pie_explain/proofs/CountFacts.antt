@@ -1,9 +1,7 @@
 -- Facts about counts with one more element.
-use Rattle.pie_explain.proofs.SummaryNames.{◌≡◌, ◌+◌, ◌<◌, ◌≤◌, ◌==◌, arith, ℕ, zero, suc, Bool, true, false, cond, List, [], ◌∷◌, ◌++◌, map, refl, sym, ap}
-use Rattle.pie_explain.proofs.SummaryNames.{◌∙◌, min, count_by, nat_lt, replicate, slice_index, slice_set, if◌then◌else◌, range_with_len, sum, eq-eqb}
-use Rattle.pie_explain.proofs.SummaryNames.{ne_eqb, nat_tests, sum_by_push, kept}
+use Rattle.pie_explain.proofs.SummaryNames.{◌≡◌, ◌+◌, ◌<◌, ◌≤◌, ◌==◌, arith, ℕ, zero, suc, Bool, true, false, cond, List, [], ◌∷◌, ◌++◌, map, refl, sym, ap, ◌∙◌, min, count_by, nat_lt, replicate, slice_index, slice_set, if◌then◌else◌, range_with_len, sum, eq-eqb, ne_eqb, nat_tests, sum_by_push, kept}
 use Rattle.std.proofs.lemmas.List.Sums.{sum_by-cons}
-use Rattle.pie_explain.specs.Counts.{count_at, counts_of}
+use Rattle.pie_explain.specs.Aggregates.{count_at, counts_of}
 
 -- a bounded number, with more added
 pub kept-more : (n more most : ℕ) → min (min n most + more) most ≡ min (n + more) most

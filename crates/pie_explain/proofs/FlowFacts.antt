@@ -1,27 +1,11 @@
 -- The flows of events with one more.
-use Rattle.pie_explain.proofs.SummaryNames.{◌≡◌, ℕ, suc, zero, Bool, true, false, cond, not, List, [], ◌∷◌, ◌++◌, map, filter, refl, sym, ap, ◌∙◌, subst}
-use Rattle.pie_explain.proofs.SummaryNames.{append-nil, length, ◌<◌, ◌+◌, Option, Some, None, if◌then◌else◌, cons_option, filter_map, values_of, eqb-true}
-use Rattle.pie_explain.proofs.SummaryNames.{eq-eqb, map_push, filter_map-append, Explained, Flow, FlowSums, added_up, flow_sums, is_of, HasFlows}
-use Rattle.pie_explain.proofs.SummaryNames.{distinct, first_of, in_order, placed, sums_beside, digits, greatest, greatest-push, kept}
-use Rattle.pie_explain.proofs.SummaryNames.{max, min, meter_input_of, replicate, sum, sum_by_push, ◌-◌, ◌^◌}
-use Rattle.std.proofs.Common.{arith, nat_eq, take, true≢false}
-use Rattle.std.specs.Fmt.{char_count, format_spec, padded_integral}
+use Rattle.pie_explain.proofs.SummaryNames.{◌≡◌, ℕ, suc, zero, Bool, true, false, cond, not, List, [], ◌∷◌, ◌++◌, map, filter, refl, sym, ap, ◌∙◌, subst, append-nil, length, ◌<◌, ◌+◌, Option, Some, None, if◌then◌else◌, cons_option, filter_map, values_of, eqb-true, eq-eqb, map_push, filter_map-append, Explained, Flow, FlowSums, added_up, flow_sums, is_of, HasFlows, distinct, first_of, in_order, placed, sums_beside, digits, greatest, greatest-push, kept, max, min, meter_input_of, replicate, sum, sum_by_push, ◌-◌, ◌^◌}
+use Rattle.std.proofs.Common.{arith, nat_eq, take, true≢false, get_or}
+use Rattle.std.specs.{Fmt.char_count, Fmt.format_spec, Fmt.padded_integral, List.IsDistinct, List.All, Map.keys_of, Map.lookup}
 use Rattle.std.specs.Prelude.{slice_index_or}
-use Rattle.std.specs.List.{IsDistinct}
-use Rattle.std.specs.Map.{keys_of, lookup}
-use Rattle.std.proofs.lemmas.Map.Made.{is_some-lookup}
-use Rattle.std.proofs.lemmas.Map.Entries.{lookup_from_place}
-use Rattle.std.proofs.lemmas.Option.{slice_get-get_or}
-use Rattle.std.proofs.lemmas.List.Elements.{All-head, All-tail}
-use Rattle.std.proofs.lemmas.Cmp.{nat_eq_equiv}
-use Rattle.std.proofs.Common.{get_or}
-use Rattle.std.specs.List.{All}
+use Rattle.std.proofs.{lemmas.Map.Made.is_some-lookup, lemmas.Map.Entries.lookup_from_place, lemmas.Option.slice_get-get_or, lemmas.List.Elements.All-head, lemmas.List.Elements.All-tail, lemmas.List.Elements.filter-append, lemmas.Cmp.nat_eq_equiv, lemmas.List.take-take, lemmas.List.take_more, lemmas.List.Sums.fold_push}
 use Rattle.indexmap.specs.IndexSet.{insert_key}
-use Rattle.std.proofs.lemmas.List.{take-take, take_more}
-use Rattle.std.proofs.lemmas.List.Elements.{filter-append}
-use Rattle.std.proofs.lemmas.List.Sums.{fold_push}
-use Rattle.pie_explain.specs.FlowSums.{flow_in, is_this, numbers_of}
-use Rattle.pie_explain.specs.Flows.{flow_of, flows_of, is_among, precedes, row_of}
+use Rattle.pie_explain.specs.{FlowSums.flow_in, FlowSums.is_this, FlowSums.numbers_of, Flows.flow_of, Flows.flows_of, Flows.is_among, Flows.precedes, Flows.row_of}
 use Rattle.pie_explain.proofs.CountFacts.{kept-more}
 use Rattle.pie_explain.proofs.SumsFacts.{sum-push}
 

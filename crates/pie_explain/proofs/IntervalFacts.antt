@@ -1,14 +1,10 @@
 -- The last events of a list with one more.
-use Rattle.pie_explain.proofs.SummaryNames.{◌≡◌, ◌==◌, ℕ, Bool, true, false, not, List, [], ◌∷◌, ◌++◌, map, refl, subst, sym, ap, ◌∙◌, Option, Some, None, eq-eqb, Err, Ok, OnOk, Result, Place, places, eqb-true, map_push, last_or, last_or-push, Explained, last_events, last_interval, interval_at, since, starts_interval}
-use Rattle.pie_explain.proofs.SummaryNames.{append-nil, append_assoc, header, summary_text_of}
+use Rattle.pie_explain.proofs.SummaryNames.{◌≡◌, ◌==◌, ℕ, Bool, true, false, not, List, [], ◌∷◌, ◌++◌, map, refl, subst, sym, ap, ◌∙◌, Option, Some, None, eq-eqb, Err, Ok, OnOk, Result, eqb-true, map_push, last_or, last_or-push, Explained, last_events, last_interval, interval_at, since, starts_interval, append-nil}
 use Rattle.std.proofs.Common.{◌⊎◌, inl, inr, arith, length, true≢false}
-use Rattle.std.proofs.lemmas.List.{length_push, flat_map_more}
+use Rattle.std.specs.Prelude.{◌&&◌}
+use Rattle.std.proofs.lemmas.List.{length_push}
 use Rattle.pie_early.proofs.Laws.{after_last-push_no, after_last-push_yes}
-use Rattle.std.specs.List.{flat_map}
-use Rattle.pie_aqm.proofs.Laws.{place_of, places-push}
-use Rattle.pie_explain.specs.Report.{Extends, Grows}
-use Rattle.pie_explain.specs.Interval.{Keeps, at_end, ends_interval, is_elsewhere}
-use Rattle.pie_explain.specs.Summary.{IsAbout, IsDigest, IsDigestAt, is_lost_or_marked}
+use Rattle.pie_explain.specs.{Report.Extends, Report.Grows, Interval.Keeps, Interval.ends_interval, Interval.is_elsewhere, Summary.IsAbout, Summary.is_lost_or_marked}
 
 -- a list is empty, or has a last element
 abbrev Ends : {X : Type 0} → List X → Type 0
@@ -90,49 +86,15 @@ some-events every interval shown is empty = by_end (ends-of shown)
         let nothing = ap length (sym (last_events-push every front last) ∙ ap (last_events every) (sym whole) ∙ empty) in
         omega (arith, nothing, length_push (since every (Some (interval_at every last)) front) last)
 
--- ---- the output with one more event, and at the end
+-- ---- a text about an event
 
-pub written-push : (header : List ℕ) (at : Place Explained → List ℕ) (shown : List Explained) (one : Explained) (text : List ℕ)
-    → text ≡ at (place_of shown one)
-    → header ++ flat_map at (places (shown ++ one ∷ [])) ≡ (header ++ flat_map at (places shown)) ++ text
-written-push header at shown one text is =
-    ap (λ ps. header ++ flat_map at ps) (places-push shown one)
-    ∙ sym (flat_map_more at header (places shown) (place_of shown one))
-    ∙ ap (λ (more : List ℕ). (header ++ flat_map at (places shown)) ++ more) (sym is)
+-- nothing is said about this event
+pub none_about : (packets : Bool) (one : Explained) (page : List ℕ) → (packets && is_lost_or_marked one) ≡ false
+    → Grows (IsAbout packets one) [] page page
+none_about packets one page none = record { more = []; grown = sym (append-nil page); says = λ _. refl }
 
--- ---- a digest
-
--- nothing is said about an event that neither lost nor marked a packet
-pub none_about : (one : Explained) (page : List ℕ) → is_lost_or_marked one ≡ false → Grows (IsAbout one) [] page page
-none_about one page none = record { more = []; grown = sym (append-nil page); says = λ _. refl }
-
-pub some_about : {A E : Type 0} (one : Explained) (result : Result A E) (page now : List ℕ) → is_lost_or_marked one ≡ true
-    → OnOk result (Extends page now) → OnOk result (Grows (IsAbout one) [] page now)
-some_about one (Ok value) page now some extends =
+pub some_about : {A E : Type 0} (packets : Bool) (one : Explained) (result : Result A E) (page now : List ℕ)
+    → (packets && is_lost_or_marked one) ≡ true → OnOk result (Extends page now) → OnOk result (Grows (IsAbout packets one) [] page now)
+some_about packets one (Ok value) page now some extends =
     record { more = extends.more; grown = extends.grown; says = λ none. absurd (true≢false (sym some ∙ none)) }
-some_about one (Err why) page now some extends = tt
-
--- the text at one more event
-at-more : (every : Option ℕ) (by_wall : Bool) (before : List (Place Explained)) (one : Place Explained) (rows about : List ℕ) → IsAbout one.event about
-    → IsDigestAt every by_wall before rows
-    → IsDigestAt every by_wall (before ++ one ∷ []) (rows ++ (at_end every (summary_text_of by_wall) one ++ about))
-at-more every by_wall [] one rows about says is =
-    (about, [], rw is (sym (append-nil (at_end every (summary_text_of by_wall) one ++ about))), says, refl)
-at-more every by_wall (first ∷ before) one rows about says is =
-    let later : List ℕ = at_end every (summary_text_of by_wall) one ++ about in (
-      is.0,
-      is.1 ++ later,
-      rw is.2 (append_assoc (at_end every (summary_text_of by_wall) first ++ is.0) is.1 later),
-      is.3,
-      at-more every by_wall before one is.1 about says is.4,
-    )
-
-pub digest-push : (every : Option ℕ) (by_wall : Bool) (shown : List Explained) (one : Explained) (text record_text about : List ℕ)
-    → record_text ≡ at_end every (summary_text_of by_wall) (place_of shown one) → IsAbout one about → IsDigest every by_wall shown text
-    → IsDigest every by_wall (shown ++ one ∷ []) (text ++ (record_text ++ about))
-digest-push every by_wall shown one text record_text about is says digest =
-    let more : List ℕ = record_text ++ about in (
-      digest.0 ++ more,
-      rw digest.1 (append_assoc (header by_wall) digest.0 more),
-      rw (places-push shown one, is) (at-more every by_wall (places shown) (place_of shown one) digest.0 about says digest.2),
-    )
+some_about packets one (Err why) page now some extends = tt

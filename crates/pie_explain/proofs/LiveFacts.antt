@@ -1,16 +1,8 @@
 -- Facts about an interval that is summed up event by event, with one more event.
-use Rattle.pie_explain.proofs.SummaryNames.{◌≡◌, ◌≤◌, ◌<◌, ◌+◌, ◌*◌, ◌-◌, ◌/◌, ◌==◌, arith, ℕ, Bool, true, false, cond, not, List, [], ◌∷◌, ◌++◌, refl}
-use Rattle.pie_explain.proofs.SummaryNames.{sym, ap, ◌∙◌, min, max, count_by, Option, Some, None, if◌then◌else◌, eq-eqb, ne_eqb}
-use Rattle.pie_explain.proofs.SummaryNames.{sum_by_push, Place, places, time_of, Explained, LiveInterval, Meter, kept, Holds, clock_of}
-use Rattle.pie_explain.proofs.SummaryNames.{length_of, number_in, last_events, last_interval, interval_at, since, starts_interval, ranges_of, record_of, summary_text_of}
-use Rattle.pie_explain.proofs.SummaryNames.{meter_of, reached, sums_of, waits_of}
+use Rattle.pie_explain.proofs.SummaryNames.{◌≡◌, ◌≤◌, ◌<◌, ◌+◌, ◌*◌, ◌-◌, ◌/◌, ◌==◌, arith, ℕ, Bool, true, false, cond, not, List, [], ◌∷◌, ◌++◌, refl, sym, ap, ◌∙◌, min, max, count_by, Option, Some, None, if◌then◌else◌, eq-eqb, ne_eqb, sum_by_push, Place, places, time_of, Explained, LiveInterval, Meter, kept, Holds, clock_of, length_of, number_in, last_events, last_interval, interval_at, since, starts_interval, ranges_of, record_of, summary_text_of, meter_of, reached, sums_of, waits_of, cons_option, timed_by}
 use Rattle.std.proofs.lemmas.Nat.{div-mul-add}
-use Rattle.pie_explain.proofs.SummaryNames.{cons_option, timed_by}
-use Rattle.pie_explain.specs.LiveInterval.{Awaits, IsSet, Spans, is_first, intervals_begun}
-use Rattle.pie_explain.specs.Interval.{at_last}
+use Rattle.pie_explain.specs.{LiveInterval.Awaits, LiveInterval.IsSet, LiveInterval.Spans, LiveInterval.is_first, LiveInterval.intervals_begun, Interval.at_last, Sums.meter_in, SummaryRecord.wait_99}
 use Rattle.std.specs.Prelude.{is_some}
-use Rattle.pie_explain.specs.Sums.{meter_in}
-use Rattle.pie_explain.specs.SummaryRecord.{wait_99}
 use Rattle.std.proofs.Common.{true≢false}
 use Rattle.pie_explain.proofs.CountFacts.{kept-more}
 use Rattle.pie_explain.proofs.IntervalFacts.{last_events-push, last_interval-push, since_begun, some-events, under_way}

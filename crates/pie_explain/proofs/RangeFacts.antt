@@ -1,10 +1,7 @@
 -- Ranges of numbers.
-use Rattle.pie_explain.proofs.SummaryNames.{◌≡◌, ◌+◌, ◌-◌, ◌*◌, ◌/◌, ◌<◌, ◌≤◌, arith, ℕ, lit≤, suc, zero, Bool, true, false, List, [], ◌∷◌, ◌++◌, length}
-use Rattle.pie_explain.proofs.SummaryNames.{refl, sym, ap, ◌∙◌, if◌then◌else◌, min, nat_le, nat_lt, slice_index, slice_set, take, Option, Some, find}
-use Rattle.pie_explain.proofs.SummaryNames.{replicate, range_with_len, sum, nat_tests, first_up_to, range_of, ranges_of}
+use Rattle.pie_explain.proofs.SummaryNames.{◌≡◌, ◌+◌, ◌-◌, ◌*◌, ◌/◌, ◌<◌, ◌≤◌, arith, ℕ, lit≤, suc, zero, Bool, true, false, List, [], ◌∷◌, ◌++◌, length, refl, sym, ap, ◌∙◌, if◌then◌else◌, min, nat_le, nat_lt, slice_index, slice_set, take, Option, Some, find, replicate, range_with_len, sum, nat_tests, first_up_to, range_of, ranges_of}
 use Rattle.std.proofs.Common.{◌^◌}
-use Rattle.std.proofs.lemmas.List.Sums.{sum_by_more}
-use Rattle.std.proofs.Math.Nat.{div-div-eq-div-mul, one-le-pow, pow-suc}
+use Rattle.std.proofs.{lemmas.List.Sums.sum_by_more, Math.Nat.div-div-eq-div-mul, Math.Nat.one-le-pow, Math.Nat.pow-suc}
 use Rattle.pie_explain.specs.Ranges.{range_within}
 use Rattle.pie_explain.proofs.CountFacts.{counted-push, none-counted}
 

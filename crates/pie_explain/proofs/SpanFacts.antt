@@ -1,12 +1,7 @@
 -- Facts about the aggregates of a list of numbers, with one more number.
-use Rattle.pie_explain.proofs.SummaryNames.{◌≡◌, ◌≤◌, ◌<◌, ◌+◌, ◌/◌, ◌%◌, ◌==◌, arith, ℕ, suc, Bool, true, false, List, [], ◌∷◌, ◌++◌, append-nil, length}
-use Rattle.pie_explain.proofs.SummaryNames.{map, refl, subst, sym, ap, ◌∙◌, max, min, slice_index, Option, Some, None, unwrap_or, if◌then◌else◌, cons_option}
-use Rattle.pie_explain.proofs.SummaryNames.{filter_map, sum, eq-eqb, eqb-true, map_push, filter_map-append, sum_by_push, greatest, last_or, greatest-push}
-use Rattle.pie_explain.proofs.SummaryNames.{last_or-push, Bounds, kept, bounds_of, peak_of, total_in, total_of}
-use Rattle.std.proofs.lemmas.Bool.{false≢true}
-use Rattle.std.proofs.lemmas.List.{length_push}
-use Rattle.pie_explain.specs.declared.aggregates.Peak.{Peak}
-use Rattle.pie_explain.specs.declared.aggregates.Total.{Total}
+use Rattle.pie_explain.proofs.SummaryNames.{◌≡◌, ◌≤◌, ◌<◌, ◌+◌, ◌/◌, ◌%◌, ◌==◌, arith, ℕ, suc, Bool, true, false, List, [], ◌∷◌, ◌++◌, append-nil, length, map, refl, subst, sym, ap, ◌∙◌, max, min, slice_index, Option, Some, None, unwrap_or, if◌then◌else◌, cons_option, filter_map, sum, eq-eqb, eqb-true, map_push, filter_map-append, sum_by_push, greatest, last_or, greatest-push, last_or-push, Bounds, kept, bounds_of, peak_of, total_in, total_of}
+use Rattle.std.proofs.{lemmas.Bool.false≢true, lemmas.List.length_push}
+use Rattle.pie_explain.specs.declared.{aggregates.Peak.Peak, aggregates.Total.Total}
 use Rattle.pie_explain.specs.Aggregates.{carried_over, counted_some, first_or}
 use Rattle.pie_explain.proofs.CountFacts.{kept-more}
 

@@ -1,10 +1,8 @@
 -- Worked examples of the definitions: each theorem computes. The tests tests/program/summary.py and flows.py cover
 -- the output.
-use Rattle.pie_explain.proofs.SummaryNames.{◌^◌, Some, None, ⊤, greatest, last_or, Bounds, interval_of, kept, first_up_to, range_of, bounds_of}
-use Rattle.pie_explain.proofs.SummaryNames.{peak_of, total_in, total_of}
+use Rattle.pie_explain.proofs.SummaryNames.{◌^◌, Some, None, ⊤, greatest, last_or, Bounds, interval_of, kept, first_up_to, range_of, bounds_of, peak_of, total_in, total_of}
 use Rattle.std.specs.Prelude.{ℕ, ◌≡◌, ◌-◌, [], ◌∷◌, map, refl}
-use Rattle.pie_explain.specs.Ranges.{end_within, range_end}
-use Rattle.pie_explain.specs.Aggregates.{mean_in, sum_in}
+use Rattle.pie_explain.specs.{Ranges.end_within, Ranges.range_end, Aggregates.mean_in, Aggregates.sum_in}
 
 -- the definitions that theorems on a worked list unfold
 unfoldable worked : Type 0

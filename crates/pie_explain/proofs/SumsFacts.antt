@@ -1,8 +1,6 @@
 -- The numbers of a list of events with one more.
 use Rattle.pie_explain.proofs.SummaryNames.{◌≡◌, ◌+◌, arith, ℕ, suc, List, [], ◌∷◌, ◌++◌, length, map, refl, sym, ap, ◌∙◌, min, Option, None, cons_option, filter_map, sum, map_push, filter_map-append, sum_by_push, Explained, last_or, Meter, kept, ranges_of, time_at, meter_of, reached, timed_by, wait_in, waits_of, Answer, Done, Left, MeterInput, Some, Updated, answer_of, cause_of, meter_input_by, size_in}
-use Rattle.pie_event.specs.declared.cause.CauseName.{CauseName}
-use Rattle.pie_event.specs.declared.command.Verdict.{Verdict}
-use Rattle.pie_event.specs.declared.command.Verdict.TheVariants.{Enqueued}
+use Rattle.pie_event.specs.declared.{cause.CauseName.CauseName, command.Verdict.Verdict, command.Verdict.TheVariants.Enqueued}
 use Rattle.pie_explain.specs.declared.meter_input.Conditions.{Conditions}
 use Rattle.pie_explain.specs.Sums.{HasConditions, answer_place, awaiting, meter_in, conditions_of_event, meter_input_of}
 use Rattle.std.proofs.lemmas.List.{length_push}

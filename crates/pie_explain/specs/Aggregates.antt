@@ -1,14 +1,21 @@
--- Aggregates of a list of numbers, and of the times of a list of events.
-use Rattle.std.specs.Prelude.{ℕ, ◌+◌, ◌-◌, ◌*◌, ◌/◌, ◌%◌, ◌^◌, ◌==◌, min, max, List, length, map, slice_index, Option, Some, None, if◌then◌else◌}
-use Rattle.std.specs.List.{filter_map, sum}
+-- Counts by places, aggregates of a list of numbers, and of the times of a list of events.
+use Rattle.std.specs.Prelude.{ℕ, ◌+◌, ◌-◌, ◌*◌, ◌/◌, ◌%◌, ◌^◌, ◌==◌, min, max, List, length, map, slice_index, Option, Some, None, if◌then◌else◌, count_by}
+use Rattle.std.specs.List.{filter_map, sum, range_with_len}
 use Rattle.pie_aqm.specs.History.{greatest, last_or}
 use Rattle.pie_explain.specs.Selection.{time_of}
-use Rattle.pie_explain.specs.declared.explanation.Explained.{Explained}
-use Rattle.pie_explain.specs.declared.aggregates.Bounds.{Bounds}
-use Rattle.pie_explain.specs.declared.aggregates.Peak.{Peak}
-use Rattle.pie_explain.specs.declared.aggregates.Span.{Span}
-use Rattle.pie_explain.specs.declared.aggregates.Total.{Total}
-use Rattle.pie_explain.specs.Counts.{kept}
+use Rattle.pie_explain.specs.declared.{explanation.Explained.Explained, aggregates.Bounds.Bounds, aggregates.Peak.Peak, aggregates.Span.Span, aggregates.Total.Total}
+
+-- a count, at most the greatest number of 64 bits
+abbrev pub kept : ℕ → ℕ
+kept n = min n (2 ^ 64 - 1)
+
+-- the number of elements with this place
+abbrev pub count_at : {X : Type 0} → (X → ℕ) → ℕ → List X → ℕ
+count_at {X} place wanted all = kept (count_by (λ (one : X). place one == wanted) all)
+
+-- the counts for each of the first `places` places
+abbrev pub counts_of : {X : Type 0} → (X → ℕ) → ℕ → List X → List ℕ
+counts_of place places all = map (λ wanted. count_at place wanted all) (range_with_len 0 places)
 
 -- the number of numbers, the first, and the last; all 0 if there is none
 abbrev pub bounds_of : List ℕ → Bounds

@@ -1,14 +1,15 @@
--- Sums by flow as CSV records.
-use Rattle.std.specs.Prelude.{ℕ, ◌-◌, ◌/◌, nat_lt, max, Bool, false, List, [], ◌∷◌, ◌++◌, length, replicate, codes, if◌then◌else◌}
+-- Sums by flow as CSV records, and their output.
+use Rattle.std.specs.Prelude.{ℕ, ◌-◌, ◌/◌, nat_lt, max, Bool, false, List, [], ◌∷◌, ◌++◌, length, replicate, codes, if◌then◌else◌, ◌≡◌}
 use Rattle.std.specs.Fmt.{digits}
-use Rattle.pie_explain.specs.declared.flow.Flow.{Flow}
-use Rattle.pie_explain.specs.declared.flow_sums.FlowSums.{FlowSums}
-use Rattle.pie_explain.specs.declared.flow_words.Name.{Name}
+use Rattle.pie_explain.specs.declared.{flow.Flow.Flow, flow_sums.FlowSums.FlowSums, flow_words.Name.Name, aggregates.Span.Span, explanation.Explained.Explained, by_flow.ByFlow.ByFlow, by_flow.FlowInterval.FlowInterval}
 use Rattle.pie_explain.specs.declared.flow_words.Name.TheVariants as name
-use Rattle.pie_explain.specs.declared.aggregates.Span.{Span}
-use Rattle.pie_explain.specs.Counts.{kept}
-use Rattle.pie_explain.specs.Flows.{first_of, sums_beside}
+use Rattle.pie_explain.specs.Aggregates.{kept, span_of}
+use Rattle.pie_explain.specs.Flows.{first_of, sums_beside, HasFlows, flows_of}
 use Rattle.pie_explain.specs.SummaryRecord.{joined, last_fields, number_fields}
+use Rattle.pie_explain.specs.Record.{header_of}
+use Rattle.pie_explain.specs.Report.{IsBegun, IsEnded}
+use Rattle.pie_explain.specs.Interval.{Keeps, at_end, at_last}
+use Rattle.pie_aqm.specs.History.{Place}
 
 -- a flow's number in eight hexadecimal digits
 unfoldable pub flow_text : ℕ → List ℕ
@@ -53,3 +54,30 @@ others_record by_wall span most first flows =
 abbrev pub flows_text : Bool → Span → ℕ → List Flow → List ℕ
 flows_text by_wall span most flows =
     each_record by_wall span (first_of most flows) ++ others_record by_wall span most (first_of most flows) flows
+
+-- the header row
+abbrev pub flow_header : Bool → List ℕ
+flow_header by_wall = header_of flow_names by_wall
+
+-- the records of the sums of these events by flow
+abbrev pub text_by_flow : ByFlow → List Explained → List ℕ
+text_by_flow by_flow all = flows_text by_flow.form.by_wall (span_of all) by_flow.most (flows_of all)
+
+-- the text at an event that begins an interval: the records of the interval before
+abbrev pub IsFlowsAt : ByFlow → Place Explained → List ℕ → Type 0
+IsFlowsAt by_flow place text = text ≡ at_end by_flow.every (text_by_flow by_flow) place
+
+-- the text of flows before its end, and the whole text, with the records of the last interval
+abbrev pub HasFlowsSoFar : ByFlow → List Explained → List ℕ → Type 0
+HasFlowsSoFar by_flow = IsBegun (flow_header by_flow.form.by_wall) (IsFlowsAt by_flow)
+
+abbrev pub HasAllFlows : ByFlow → List Explained → List ℕ → Type 0
+HasAllFlows by_flow all = IsEnded (flow_header by_flow.form.by_wall) (IsFlowsAt by_flow) (at_last by_flow.every (text_by_flow by_flow) all) all
+
+-- the state of an interval after these events: their span, and their flows
+pub record HoldsFlows (interval : FlowInterval) (all : List Explained) : Type 0 where
+  pub span : interval.span ≡ span_of all
+  pub flows : HasFlows interval.rows.entries all
+
+abbrev pub keeps_flows : ByFlow → FlowInterval → List Explained → Type 0
+keeps_flows by_flow interval all = Keeps (HoldsFlows interval) by_flow.every interval.number all

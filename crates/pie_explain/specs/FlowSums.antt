@@ -2,14 +2,9 @@
 use Rattle.std.specs.Prelude.{ℕ, ◌-◌, ◌*◌, ◌/◌, ◌^◌, ◌==◌, min, Bool, false, List, map, Option, Some, None, unwrap_or, is_some, if◌then◌else◌}
 use Rattle.std.specs.List.{sum}
 use Rattle.pie_aqm.specs.History.{greatest}
-use Rattle.pie_event.specs.declared.command.Command.{Command}
-use Rattle.pie_event.specs.declared.command.Command.TheVariants.{Arrive}
-use Rattle.pie_event.specs.declared.command.Answer.{Answer}
-use Rattle.pie_event.specs.declared.command.Answer.TheVariants.{DroppedBytes, DroppedEarly, DroppedPackets, Enqueued, Left, Marked}
-use Rattle.pie_explain.specs.declared.explanation.Explained.{Explained}
-use Rattle.pie_explain.specs.declared.flow_sums.FlowSums.{FlowSums}
-use Rattle.pie_explain.specs.declared.meter_input.MeterInput.{MeterInput}
-use Rattle.pie_explain.specs.Counts.{kept}
+use Rattle.pie_event.specs.declared.{command.Command.Command, command.Command.TheVariants.Arrive, command.Answer.Answer, command.Answer.TheVariants.DroppedBytes, command.Answer.TheVariants.DroppedEarly, command.Answer.TheVariants.DroppedPackets, command.Answer.TheVariants.Enqueued, command.Answer.TheVariants.Left, command.Answer.TheVariants.Marked}
+use Rattle.pie_explain.specs.declared.{explanation.Explained.Explained, flow_sums.FlowSums.FlowSums, meter_input.MeterInput.MeterInput}
+use Rattle.pie_explain.specs.Aggregates.{kept}
 use Rattle.pie_explain.specs.Sums.{answer_place, left_place, meter_input_of}
 
 -- ---- the numbers of one event

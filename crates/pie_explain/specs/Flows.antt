@@ -1,12 +1,8 @@
 -- The flows of a list of events, each with its numbers, and those with the most bytes.
-use Rattle.std.specs.Prelude.{ℕ, ◌≡◌, ◌==◌, ◌&&◌, ◌||◌, nat_eq, nat_lt, Bool, not, List, [], ◌∷◌, map, filter, fold, take, None, Option, Some}
-use Rattle.std.specs.Prelude.{if◌then◌else◌}
-use Rattle.std.specs.List.{IsDistinct, filter_map, list_any}
-use Rattle.std.specs.Map.{keys_of, lookup}
+use Rattle.std.specs.Prelude.{ℕ, ◌≡◌, ◌==◌, ◌&&◌, ◌||◌, nat_eq, nat_lt, Bool, not, List, [], ◌∷◌, map, filter, fold, take, None, Option, Some, if◌then◌else◌}
+use Rattle.std.specs.{List.IsDistinct, List.filter_map, List.list_any, Map.keys_of, Map.lookup}
 use Rattle.indexmap.specs.IndexSet.{insert_key}
-use Rattle.pie_explain.specs.declared.explanation.Explained.{Explained}
-use Rattle.pie_explain.specs.declared.flow.Flow.{Flow}
-use Rattle.pie_explain.specs.declared.flow_sums.FlowSums.{FlowSums}
+use Rattle.pie_explain.specs.declared.{explanation.Explained.Explained, flow.Flow.Flow, flow_sums.FlowSums.FlowSums}
 use Rattle.pie_explain.specs.FlowSums.{added_up, flow_in, flow_sums, is_of}
 
 -- ---- each flow once

@@ -2,9 +2,8 @@
 use Rattle.std.specs.Prelude.{ℕ, ◌≡◌, ◌+◌, ◌-◌, ◌*◌, ◌^◌, ◌==◌, min, max, Bool, true, List, [], ◌∷◌, ◌++◌, Option, Some, None, count_by, if◌then◌else◌}
 use Rattle.pie_aqm.specs.History.{Place, places}
 use Rattle.pie_record.specs.declared.clock.Clock.{Clock}
-use Rattle.pie_explain.specs.declared.explanation.Explained.{Explained}
-use Rattle.pie_explain.specs.declared.live_interval.LiveInterval.{LiveInterval}
-use Rattle.pie_explain.specs.Counts.{kept}
+use Rattle.pie_explain.specs.declared.{explanation.Explained.Explained, live_interval.LiveInterval.LiveInterval}
+use Rattle.pie_explain.specs.Aggregates.{kept}
 use Rattle.pie_explain.specs.Interval.{last_events, last_interval, interval_at, since, starts_interval}
 use Rattle.pie_explain.specs.Sums.{meter_in, reached, waits_of}
 pub use Rattle.pie_explain.specs.Sums.{HasConditions, meter_input_of}

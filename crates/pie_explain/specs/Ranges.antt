@@ -1,9 +1,8 @@
 -- Ranges of numbers. The first two decimal digits and the number of digits determine the range. A number below 100
 -- is a range of its own, and each further digit has 90 ranges.
-use Rattle.std.specs.Prelude.{ℕ, zero, suc, ◌+◌, ◌-◌, ◌*◌, ◌/◌, ◌%◌, ◌^◌, nat_lt, nat_le, if◌then◌else◌, min, List, length, take, Option, Some}
-use Rattle.std.specs.Prelude.{None}
+use Rattle.std.specs.Prelude.{ℕ, zero, suc, ◌+◌, ◌-◌, ◌*◌, ◌/◌, ◌%◌, ◌^◌, nat_lt, nat_le, if◌then◌else◌, min, List, length, take, Option, Some, None}
 use Rattle.std.specs.List.{find, range_with_len, sum}
-use Rattle.pie_explain.specs.Counts.{counts_of}
+use Rattle.pie_explain.specs.Aggregates.{counts_of}
 
 -- the range of a number with at most `digits` digits more than two: the range of the number without its last digit,
 -- and 90 more

@@ -1,13 +1,10 @@
 -- The output of summaries of the explained events as CSV records.
-use Rattle.std.specs.Prelude.{ℕ, ◌≡◌, Bool, false, ◌||◌, List, [], ◌∷◌, ◌++◌, Option}
-use Rattle.std.specs.List.{flat_map}
-use Rattle.pie_aqm.specs.History.{Place, places}
-use Rattle.pie_explain.specs.declared.explanation.Explained.{Explained}
-use Rattle.pie_explain.specs.declared.choice.EventChoice.TheVariants.{Lost, Marked}
-use Rattle.pie_explain.specs.Output.{header_of}
+use Rattle.std.specs.Prelude.{ℕ, ◌≡◌, Bool, false, ◌&&◌, ◌||◌, List, [], ◌++◌, Option}
+use Rattle.pie_aqm.specs.History.{Place}
+use Rattle.pie_explain.specs.declared.{explanation.Explained.Explained, choice.EventChoice.TheVariants.Lost, choice.EventChoice.TheVariants.Marked, interval.Interval.Interval, interval.Sums.Sums}
+use Rattle.pie_explain.specs.Record.{header_of}
 use Rattle.pie_explain.specs.Choice.{chooses}
-use Rattle.pie_explain.specs.declared.interval.Interval.{Interval}
-use Rattle.pie_explain.specs.declared.interval.Sums.{Sums}
+use Rattle.pie_explain.specs.Report.{IsBegun, IsEnded}
 use Rattle.pie_explain.specs.Interval.{Keeps, at_end, at_last}
 use Rattle.pie_explain.specs.SummaryRecord.{field_names, record_of, wait_99}
 use Rattle.pie_explain.specs.Sums.{sums_of, waits_of}
@@ -24,36 +21,26 @@ summary_text by_wall sums ranges = record_of by_wall sums.meter (wait_99 ranges 
 abbrev pub summary_text_of : Bool → List Explained → List ℕ
 summary_text_of by_wall all = summary_text by_wall (sums_of all) (waits_of all)
 
--- the output before the end: the header, and at each event that begins an interval after another the record of that one
-abbrev pub records_so_far : Option ℕ → Bool → List Explained → List ℕ
-records_so_far every by_wall all = header by_wall ++ flat_map (at_end every (summary_text_of by_wall)) (places all)
-
--- the whole output: the output before the end, and the record of the last interval
-abbrev pub records_whole : Option ℕ → Bool → List Explained → List ℕ
-records_whole every by_wall all = records_so_far every by_wall all ++ at_last every (summary_text_of by_wall) all
-
 -- true if `--lost` or `--marked` chooses the event
 abbrev pub is_lost_or_marked : Explained → Bool
 is_lost_or_marked one = chooses Lost one.explanation.number one.explanation.event || chooses Marked one.explanation.number one.explanation.event
 
--- a text about an event: empty unless the event lost or marked a packet
-abbrev pub IsAbout : Explained → List ℕ → Type 0
-IsAbout one text = is_lost_or_marked one ≡ false → text ≡ []
+-- a text about an event: empty, unless packets are explained, and the event lost or marked one
+abbrev pub IsAbout : Bool → Explained → List ℕ → Type 0
+IsAbout packets one text = (packets && is_lost_or_marked one) ≡ false → text ≡ []
 
--- the text at these events: the record of the interval before an event, if the event begins another, and then a text about the event
-abbrev pub IsDigestAt : Option ℕ → Bool → List (Place Explained) → List ℕ → Type 0
-IsDigestAt every by_wall [] text = text ≡ []
-IsDigestAt every by_wall (place ∷ places) text =
-    (about rest : List ℕ) × (text ≡ at_end every (summary_text_of by_wall) place ++ about ++ rest) × IsAbout place.event about × IsDigestAt every by_wall places rest
+-- the text at an event: the record of the interval before it, if the event begins another, and then a text about the event
+abbrev pub IsSummaryAt : Bool → Option ℕ → Bool → Place Explained → List ℕ → Type 0
+IsSummaryAt packets every by_wall place text =
+    (about : List ℕ) × (text ≡ at_end every (summary_text_of by_wall) place ++ about) × IsAbout packets place.event about
 
--- a digest before its end: the header, and the text at each event
-abbrev pub IsDigest : Option ℕ → Bool → List Explained → List ℕ → Type 0
-IsDigest every by_wall all text = (rows : List ℕ) × (text ≡ header by_wall ++ rows) × IsDigestAt every by_wall (places all) rows
+-- the text of summaries before its end, and the whole text, with the record of the last interval
+abbrev pub IsDigest : Bool → Option ℕ → Bool → List Explained → List ℕ → Type 0
+IsDigest packets every by_wall = IsBegun (header by_wall) (IsSummaryAt packets every by_wall)
 
--- a whole digest: with the record of the last interval
-abbrev pub IsWholeDigest : Option ℕ → Bool → List Explained → List ℕ → Type 0
-IsWholeDigest every by_wall all text =
-    (before : List ℕ) × (text ≡ before ++ at_last every (summary_text_of by_wall) all) × IsDigest every by_wall all before
+abbrev pub IsWholeDigest : Bool → Option ℕ → Bool → List Explained → List ℕ → Type 0
+IsWholeDigest packets every by_wall all =
+    IsEnded (header by_wall) (IsSummaryAt packets every by_wall) (at_last every (summary_text_of by_wall) all) all
 
 -- the state of an interval after these events: their numbers, and their waiting times
 pub record HoldsSums (interval : Interval) (all : List Explained) : Type 0 where

@@ -1,12 +1,10 @@
 -- A summary as a CSV record.
 use Rattle.std.specs.Prelude.{ℕ, ◌-◌, ◌/◌, ◌==◌, if◌then◌else◌, Bool, true, false, List, [], ◌∷◌, ◌++◌, map, slice_index, take, codes}
-use Rattle.std.specs.Fmt.{decimal}
-use Rattle.std.specs.List.{sum}
+use Rattle.std.specs.{Fmt.decimal, List.sum}
 use Rattle.pie_text.specs.Plain.{onto}
 use Rattle.pie_units.specs.Time.{utc_text}
 use Rattle.pie_explain.specs.declared.meter.Meter.{Meter}
-use Rattle.pie_explain.specs.Counts.{kept}
-use Rattle.pie_explain.specs.Aggregates.{mean_in, sum_in}
+use Rattle.pie_explain.specs.Aggregates.{kept, mean_in, sum_in}
 use Rattle.pie_explain.specs.Ranges.{end_within, first_up_to}
 use Rattle.pie_explain.specs.Sums.{left_place, updated_place}
 

@@ -1,22 +1,12 @@
 -- The numbers of a summary, each over the whole list of explained events.
 use Rattle.std.specs.Prelude.{ℕ, ◌-◌, ◌&&◌, nat_lt, min, if◌then◌else◌, Bool, true, false, List, [], ◌∷◌, ◌++◌, length, map, slice_index, ◌≡◌, None, Option, Some, option_map}
-use Rattle.std.specs.List.{filter_map, sum}
-use Rattle.std.specs.Option.{option_and}
-use Rattle.pie_event.specs.declared.cause.CauseName.{CauseName}
+use Rattle.std.specs.{List.filter_map, List.sum, Option.option_and}
+use Rattle.pie_event.specs.declared.{cause.CauseName.CauseName, command.Command.Command, command.Command.TheVariants.Arrive, command.Answer.Answer, command.Answer.TheVariants.Enqueued, command.Answer.TheVariants.Marked, command.Answer.TheVariants.DroppedEarly, command.Answer.TheVariants.DroppedBytes, command.Answer.TheVariants.DroppedPackets, command.Answer.TheVariants.Empty, command.Answer.TheVariants.Left, command.Answer.TheVariants.Updated, command.Answer.TheVariants.Done}
 use Rattle.pie_aqm.specs.History.{Place, greatest, last_or, places, up_to}
 use Rattle.pie_event.specs.Cause.{name_of, place_of_cause}
-use Rattle.pie_event.specs.declared.command.Command.{Command}
-use Rattle.pie_event.specs.declared.command.Command.TheVariants.{Arrive}
-use Rattle.pie_event.specs.declared.command.Answer.{Answer}
-use Rattle.pie_event.specs.declared.command.Answer.TheVariants.{Enqueued, Marked, DroppedEarly, DroppedBytes, DroppedPackets, Empty, Left, Updated, Done}
-use Rattle.pie_explain.specs.declared.explanation.Explained.{Explained}
-use Rattle.pie_explain.specs.declared.meter.Meter.{Meter}
-use Rattle.pie_explain.specs.declared.meter_input.Conditions.{Conditions}
-use Rattle.pie_explain.specs.declared.meter_input.MeterInput.{MeterInput}
-use Rattle.pie_explain.specs.declared.interval.Sums.{Sums}
-use Rattle.pie_explain.specs.Counts.{counts_of, kept}
+use Rattle.pie_explain.specs.declared.{explanation.Explained.Explained, meter.Meter.Meter, meter_input.Conditions.Conditions, meter_input.MeterInput.MeterInput, interval.Sums.Sums}
+use Rattle.pie_explain.specs.Aggregates.{counts_of, kept, bounds_of, peak_of, time_at, total_of}
 use Rattle.pie_explain.specs.Ranges.{ranges_of}
-use Rattle.pie_explain.specs.Aggregates.{bounds_of, peak_of, time_at, total_of}
 
 -- ---- the meter's input for one event
 

@@ -1,20 +1,16 @@
 //! Sums of the explained events by flow.
 ghost use Rattle.std.specs.Prelude.{◌≡◌, ◌++◌, ◌∷◌, [], ℕ, List, None, OnOk, Option, Some, true, if◌then◌else◌};
 ghost use Rattle.pie_explain.specs.declared.explanation.Explained.{Explained};
-ghost use Rattle.pie_explain.specs.Report.{Extends};
-ghost use Rattle.pie_explain.specs.ByFlow.{HoldsFlows};
-ghost use Rattle.pie_explain.specs.Flows.{HasFlows};
-ghost use Rattle.pie_explain.specs.FlowRecords.{flows_text};
-ghost use Rattle.pie_explain.specs.Interval.{Keeps, since};
-ghost use Rattle.pie_explain.specs.Aggregates.{span_of};
+ghost use Rattle.pie_explain.specs.{Report.Extends, FlowRecords.HoldsFlows, Flows.HasFlows, FlowRecords.flows_text, Interval.Keeps, Interval.since, Aggregates.span_of};
 
 use crate::aggregates::Span;
 use crate::flow::{Flow, flows_of, take};
 use crate::flow_words::{NAMES, push_flows};
 use crate::interval::{ends_interval, has_summary, interval_of, starts_interval};
+use crate::report::push_header;
 use crate::summary_words::Written;
+use crate::{Explained, Form, Report, time_of};
 use indexmap::IndexMap;
-use crate::{Explained, Form, Report, push_header, time_of};
 use pie_text::Page;
 use std::alloc::{AllocError, Global};
 
@@ -116,15 +112,13 @@ fn push_ended(page: &mut Page, by_flow: &ByFlow, ends: bool, span: &Span, flows:
 impl Report for ByFlow {
     type State = FlowInterval;
 
-    ghost use Rattle.std.specs.Prelude.{◌≡◌};
-    ghost use Rattle.pie_explain.specs.Report.{Says};
-    ghost use Rattle.pie_explain.specs.ByFlow.{flows_so_far, flows_whole, keeps_flows};
+    ghost use Rattle.pie_explain.specs.{Report.Says, FlowRecords.HasAllFlows, FlowRecords.HasFlowsSoFar, FlowRecords.keeps_flows};
 
     ghost shows = { keeps_flows };
 
-    ghost so_far = { λ it all. Says it.form.csv (λ text. text ≡ flows_so_far it all) };
+    ghost so_far = { λ it all. Says it.form.csv (HasFlowsSoFar it all) };
 
-    ghost whole = { λ it all. Says it.form.csv (λ text. text ≡ flows_whole it all) };
+    ghost whole = { λ it all. Says it.form.csv (HasAllFlows it all) };
 
     #[inline(always)]
     fn is_by_kind(&self) -> bool {

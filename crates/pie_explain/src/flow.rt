@@ -1,12 +1,11 @@
 //! The flows of the events that were shown, and those of them with the most bytes.
 ghost use Rattle.std.specs.Prelude.{◌≡◌, ◌≤◌, ◌++◌, ◌∷◌, [], List, IfOk, OnOk, Some, insert, length};
 ghost use Rattle.pie_explain.specs.declared.explanation.Explained.{Explained};
-ghost use Rattle.pie_explain.specs.FlowSums.{flow_in};
-ghost use Rattle.pie_explain.specs.Flows.{HasFlows, first_of, flows_of, is_among, placed, precedes, sums_beside};
+ghost use Rattle.pie_explain.specs.{FlowSums.flow_in, Flows.HasFlows, Flows.first_of, Flows.flows_of, Flows.is_among, Flows.placed, Flows.precedes, Flows.sums_beside};
 
+use crate::Explained;
 use crate::flow_sums::{FlowSums, flow_by};
 use indexmap::IndexMap;
-use crate::Explained;
 use std::alloc::{AllocError, Global};
 
 /// A flow: its number, and the sums of its events.

@@ -3,11 +3,11 @@ ghost use Rattle.std.specs.Prelude.{◌≡◌, ◌*◌, ◌/◌, ◌++◌, ◌�
 ghost use Rattle.pie_explain.specs.declared.explanation.Explained.{Explained};
 ghost use Rattle.pie_explain.specs.FlowSums.{added_up, flow_by, flow_sums, numbers_of};
 
+use crate::Explained;
 use crate::meter_input::{
     EARLY, LEFT, MARKED, MeterInput, NO_BYTES, NO_PACKETS, QUEUED, meter_input_of,
 };
 use pie_book::{Answer, Command};
-use crate::Explained;
 
 /// The numbers of a flow, or of several, each over all events so far, at most 2^64 - 1.
 #[derive(Clone, Copy, Default)]

@@ -1,7 +1,6 @@
 //! Sums by flow in words, and as CSV records.
 ghost use Rattle.std.specs.Prelude.{◌≡◌, ◌++◌, OnOk, string_bytes, true};
-ghost use Rattle.pie_explain.specs.FlowRecords.{each_record, flow_record, flows_text, mean_wait, name_field, others_record};
-ghost use Rattle.pie_explain.specs.SummaryRecord.{last_fields};
+ghost use Rattle.pie_explain.specs.{FlowRecords.each_record, FlowRecords.flow_record, FlowRecords.flows_text, FlowRecords.mean_wait, FlowRecords.name_field, FlowRecords.others_record, SummaryRecord.last_fields};
 
 use crate::aggregates::{Bounds, Span};
 use crate::flow::{Flow, first_of, sums_beside};
@@ -58,23 +57,6 @@ fn push_field(page: &mut String, name: Name) -> Written
     }
 }
 
-/// Writes the arrivals of a flow, its share of all bytes, and its share of the queue.
-fn push_amount(page: &mut String, name: Name, total: &FlowSums, sums: &FlowSums) -> Written {
-    let (arrivals, bytes) = (sums.arrivals, sums.bytes);
-    let of_bytes = Share {
-        count: bytes,
-        all: total.bytes,
-    };
-    let of_queue = Share {
-        count: sums.held,
-        all: total.held,
-    };
-    write!(
-        page,
-        "  {name}: {arrivals} arrivals, {bytes} bytes, {of_bytes} of all; {of_queue} of the queue\n"
-    )
-}
-
 /// Returns the mean waiting time of the packets that left, rounded down; 0 if none did.
 fn mean_wait(sums: &FlowSums) -> u64
     ensures { result ≡ mean_wait sums.now }
@@ -82,26 +64,29 @@ fn mean_wait(sums: &FlowSums) -> u64
     (sums.waited / u128::from(sums.left.max(1))).min(u128::from(u64::MAX)) as u64
 }
 
-/// Writes the waits of a flow's departed packets.
-fn push_wait(page: &mut String, sums: &FlowSums) -> Written {
+/// Writes a flow in words: its arrivals, its share of all bytes and of the queue, their verdicts, and the waits of its departed packets.
+fn push_words(page: &mut String, name: Name, total: &FlowSums, sums: &FlowSums) -> Written {
+    let (arrivals, bytes) = (sums.arrivals, sums.bytes);
+    let (count, all) = (bytes, total.bytes);
+    let of_bytes = Share { count, all };
+    let (count, all) = (sums.held, total.held);
+    let of_queue = Share { count, all };
+    let (queued, marked, early) = (sums.queued, sums.marked, sums.early);
+    let (no_bytes, no_packets) = (sums.no_bytes, sums.no_packets);
     let (left, carried) = (sums.left, sums.carried);
     let (greatest, mean) = (Millis(sums.greatest_wait), Millis(mean_wait(sums)));
     write!(
         page,
-        "    left {left}, with {carried} bytes; they waited at most {greatest}, on average {mean}\n"
-    )
-}
-
-/// Writes a flow in words.
-fn push_words(page: &mut String, name: Name, total: &FlowSums, sums: &FlowSums) -> Written {
-    let (queued, marked, early) = (sums.queued, sums.marked, sums.early);
-    let (no_bytes, no_packets) = (sums.no_bytes, sums.no_packets);
-    push_amount(page, name, total, sums)?;
+        "  {name}: {arrivals} arrivals, {bytes} bytes, {of_bytes} of all; {of_queue} of the queue\n"
+    )?;
     write!(
         page,
         "    queued {queued}, marked {marked}, dropped early {early}, without room in bytes {no_bytes}, in packets {no_packets}\n"
     )?;
-    push_wait(page, sums)
+    write!(
+        page,
+        "    left {left}, with {carried} bytes; they waited at most {greatest}, on average {mean}\n"
+    )
 }
 
 /// Writes the span of the flows' events, with wall-clock times or not, the number of flows, and the arrivals.

@@ -1,17 +1,15 @@
 //! The numbers of a summary, and of its current interval.
 ghost use Rattle.std.specs.Prelude.{◌≡◌, ◌<◌, ◌++◌, ◌∷◌, [], ℕ, List, IfOk, Option, None, Some};
 ghost use Rattle.pie_explain.specs.declared.explanation.Explained.{Explained};
-ghost use Rattle.pie_explain.specs.Interval.{Keeps, ends_interval, has_summary, interval_of, since, starts_interval};
-ghost use Rattle.pie_explain.specs.Aggregates.{time_at};
-ghost use Rattle.pie_explain.specs.Summary.{HoldsSums};
-ghost use Rattle.pie_explain.specs.Sums.{meter_input_of, reached};
+ghost use Rattle.pie_explain.specs.{Interval.Keeps, Interval.ends_interval, Interval.has_summary, Interval.interval_of, Interval.since, Interval.starts_interval, Aggregates.time_at, Summary.HoldsSums, Sums.meter_input_of, Sums.reached};
 
 use crate::aggregates::Bounds;
+use crate::explainer::increase;
 use crate::meter::Meter;
 use crate::meter_input::{MeterInput, meter_input_of};
 use crate::ranges::{RANGES, clear_counts, count_some};
+use crate::{Explained, time_of};
 use pie_book::{Answer, Command};
-use crate::{Explained, increase, time_of};
 use std::alloc::{AllocError, Global};
 
 /// Returns the number of the interval of a moment, counted from moment 0. Each interval lasts `every` nanoseconds,

@@ -1,41 +1,27 @@
 //! One line for each interval of the explained events, under a header.
-ghost use Rattle.std.specs.Prelude.{◌≡◌, ◌++◌, ◌∷◌, [], ℕ, List, OnOk};
+ghost use Rattle.std.specs.Prelude.{OnOk};
 ghost use Rattle.pie_explain.specs.Report.{Extends};
 
-use crate::interval::{Interval, has_summary, interval_of};
 use crate::meter::Meter;
 use crate::meter_input::{EARLY, LEFT, MARKED, NO_BYTES, NO_PACKETS, UPDATED};
-use crate::summary::{enter, push_ended};
 use crate::summary_words::Written;
-use crate::{Explained, Form, Report};
 use pie_text::Page;
 use pie_units::Utc;
-use std::alloc::AllocError;
 use std::fmt;
 use std::fmt::Display;
 
 /// The number of lines from one header to the next, if the header is repeated.
 const LINES: u64 = 40;
 
-/// One line for each interval that has events: its time, the arrivals, the marks, the early drops, the packets without
-/// room, the mean wait and the wait that 99 of 100 packets did not exceed, the delay of the last update, the probability
-/// after the last event, and the bytes of the packets that left. A line is written when its last event is known.
+/// The style of summaries as lines: one for each interval that has events, with its time, the arrivals, the marks, the early
+/// drops, the packets without room, the mean wait and the wait that 99 of 100 packets did not exceed, the delay of the last
+/// update, the probability after the last event, and the bytes of the packets that left.
 ///
-/// Times are in milliseconds, rounded down to microseconds, and probabilities in per cent (this project's own). A dash
-/// replaces a wait without a departure, and a delay without an update. Columns are right-aligned; a number that is longer
-/// than its column makes it wider.
-#[derive(Clone, Copy)]
-pub struct IntervalLines {
-    /// The length of an interval in nanoseconds, at least 1; the first begins at moment 0.
-    pub every: u64,
-    /// The time of a line is the wall-clock time of the interval's first event that has one. Without such an event, and
-    /// if this is false, the time is the start of the interval.
-    pub by_wall: bool,
-    /// The form of the lines.
-    pub style: LineStyle,
-}
-
-/// The form of lines on a terminal or in a file.
+/// Waits and delays are in milliseconds, rounded down to microseconds, and probabilities in per cent (this project's own).
+/// A dash replaces a wait without a departure, and a delay without an update. Columns are right-aligned; a number that is
+/// longer than its column makes it wider. The length of an interval decides the unit of its start, so that its column
+/// holds every moment of a text, up to 2^60 - 1 ns: seconds if the length is a whole number of seconds, otherwise
+/// milliseconds, with decimals unless the length is a whole number of milliseconds.
 #[derive(Clone, Copy)]
 pub struct LineStyle {
     /// True if the header, which is before the first line, is also before each 40th line after it.
@@ -43,6 +29,18 @@ pub struct LineStyle {
     /// True if the header is bold, and a number of packets without room red unless it is 0: by the control sequences of
     /// ECMA-48.
     pub colours: bool,
+}
+
+/// The lines of intervals.
+#[derive(Clone, Copy)]
+pub(crate) struct IntervalLines {
+    /// The length of an interval in nanoseconds, at least 1.
+    pub(crate) every: u64,
+    /// The time of a line is the wall-clock time of the interval's first event that has one. Without such an event, and
+    /// if this is false, the time is the start of the interval.
+    pub(crate) by_wall: bool,
+    /// Their style.
+    pub(crate) style: LineStyle,
 }
 
 /// A time in nanoseconds that `count` events have, as a cell.
@@ -75,10 +73,13 @@ impl Display for ShareCell {
 }
 
 impl IntervalLines {
-    /// Returns the form: words.
-    fn form(self) -> Form {
-        let (csv, by_wall) = (false, self.by_wall);
-        Form { csv, by_wall }
+    /// Returns the unit of the start of an interval in nanoseconds, and the header of its column.
+    fn start_column(self) -> (u64, &'static str) {
+        match (self.every % 1_000_000_000, self.every % 1_000_000) {
+            (0, _) => (1_000_000_000, "     time s"),
+            (_, 0) => (1_000_000, "      time ms"),
+            _ => (1, "          time ms"),
+        }
     }
 
     /// Writes the header, if a line after `lines` others has one.
@@ -86,10 +87,11 @@ impl IntervalLines {
         if lines > 0 && !(self.style.repeats && lines % LINES == 0) {
             return Ok(());
         }
+        let (_, start) = self.start_column();
         let time = if self.by_wall {
             "                           UTC"
         } else {
-            "    time ms"
+            start
         };
         let (begin, end) = if self.style.colours {
             ("\x1b[1m", "\x1b[0m")
@@ -105,11 +107,21 @@ impl IntervalLines {
     /// Writes the time of a line: the start of the interval, or if `by_wall` its first wall-clock time, if there is one.
     fn push_start(self, text: &mut String, meter: &Meter) -> Written {
         let start = meter.first - meter.first % self.every.max(1);
-        let (whole, rest, time) = (start / 1_000_000, start % 1_000_000 / 1000, Utc(meter.time));
-        match (self.by_wall, meter.timed) {
-            (false, _) => write!(text, "{whole:7}.{rest:03}"),
-            (true, 0) => write!(text, "{whole:26}.{rest:03}"),
-            (true, _) => write!(text, "{time}"),
+        let (seconds, millis, rest) = (
+            start / 1_000_000_000,
+            start / 1_000_000,
+            start % 1_000_000 / 1000,
+        );
+        let (unit, _) = self.start_column();
+        match (self.by_wall, meter.timed, unit) {
+            (true, 0, _) => write!(text, "{millis:26}.{rest:03}"),
+            (true, _, _) => {
+                let time = Utc(meter.time);
+                write!(text, "{time}")
+            }
+            (false, _, 1_000_000_000) => write!(text, "{seconds:11}"),
+            (false, _, 1_000_000) => write!(text, "{millis:13}"),
+            (false, _, _) => write!(text, "{millis:13}.{rest:03}"),
         }
     }
 
@@ -144,47 +156,5 @@ impl IntervalLines {
         self.push_counts(&mut text, meter)?;
         write!(text, " {mean} {most}  {delay} {prob} {bytes:9}\n")?;
         page.put(text)
-    }
-}
-
-impl Report for IntervalLines {
-    type State = Interval;
-
-    ghost use Rattle.std.specs.Prelude.{Some, ⊤};
-    ghost use Rattle.pie_explain.specs.Summary.{keeps};
-
-    ghost shows = { λ it. keeps (Some it.every) };
-
-    ghost so_far = { λ it all text. ⊤ };
-
-    ghost whole = { λ it all text. ⊤ };
-
-    #[inline(always)]
-    fn is_by_kind(&self) -> bool {
-        true
-    }
-
-    #[tactic(auto, using(crate::proofs::ReportFacts::ended), unfolding(pie_aqm::specs::History::last_or))]
-    fn begin(&self, page: &mut Page) -> Result<Interval, AllocError> {
-        Interval::empty(page.allocator())
-    }
-
-    #[inline(always)]
-    fn report_event(
-        &self,
-        interval: &mut Interval,
-        explained: &Explained,
-        page: &mut Page,
-    ) -> Written {
-        let number = interval_of(Some(self.every), explained.explanation.moment);
-        enter(page, self.form(), Some(self), interval, number)?;
-        interval.add(explained);
-        Ok(())
-    }
-
-    #[tactic(auto, using(crate::proofs::ReportFacts::said_ok))]
-    fn end(&self, interval: &Interval, page: &mut Page) -> Written {
-        let ends = has_summary(Some(self.every), interval.number);
-        push_ended(page, self.form(), Some(self), interval, ends)
     }
 }

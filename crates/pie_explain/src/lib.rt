@@ -15,12 +15,10 @@
 //! Summaries of a saved history: the number of arrivals by verdict and by cause, the waiting times, the numbers of the updates, and the changes of
 //! the controller's activity; of all events, or of each interval that has some.
 //!
-//! Three reports sum up the events that `explain` passes to them. The numbers of an interval are those of
-//! `sums_of`, which is defined on the whole list of its events (`HoldsSums`). Each event has the same cost, and only the
-//! numbers are kept. `SummariesOnly` writes them as CSV, exactly `records_whole`, or in words. `IntervalLines` writes one
-//! line for each interval. `Digest` also explains each packet that was lost or marked, between the summaries, so one pass
-//! over a history gives both: as CSV, `IsWholeDigest` with any words. `ByFlow` sums up each flow (`HoldsFlows`), as CSV
-//! exactly `flows_whole`, or in words.
+//! Two reports sum up the events that `explain` passes to them. The numbers of an interval are those of `sums_of`, which is defined on the whole
+//! list of its events (`HoldsSums`). Each event has the same cost, and only the numbers are kept. `Summaries` writes them in words, or as CSV, whose
+//! records are exact (`IsWholeDigest`), or as one line for each interval; between them it can also explain each packet that was lost or marked, so one
+//! pass over a history gives both. `ByFlow` sums up each flow (`HoldsFlows`), in words, or exactly as CSV (`HasAllFlows`).
 #![tactic(auto)]
 
 mod aggregates;
@@ -44,7 +42,6 @@ mod ranges;
 mod record;
 mod report;
 mod selection;
-mod summaries_only;
 mod summary;
 mod summary_record;
 mod summary_words;
@@ -55,16 +52,15 @@ mod units;
 pub use by_flow::ByFlow;
 pub use choice::EventChoice;
 pub use decided_event::{DecidedEvent, EventDecision, decide_event};
-pub use explainer::{explain, increase};
+pub use explainer::explain;
 pub use explanation::{Explained, Explanation, moment_of};
 pub use fault::ExplainFault;
 pub use form::Form;
-pub use interval_lines::{IntervalLines, LineStyle};
+pub use interval_lines::LineStyle;
 pub use live_interval::LiveInterval;
 pub use meter_input::{Conditions, MeterInput};
 pub use pie_event::Setter;
-pub use report::{EventRecords, Report, Words, push_header, push_words};
+pub use report::{EventRecords, Report, Words, push_words};
 pub use selection::{Selection, is_from, is_to, time_of};
-pub use summaries_only::SummariesOnly;
-pub use summary::Digest;
+pub use summary::{Digest, Summaries, SummariesOnly};
 pub use units::{Millis, PerCent, Share};

@@ -1,11 +1,7 @@
 //! The sums of the current interval, updated with each event, in memory of the owner.
 ghost use Rattle.std.specs.Prelude.{◌≡◌, ◌<◌, ◌++◌, ◌∷◌, [], ℕ, List, not, if◌then◌else◌};
 ghost use Rattle.std.specs.List.{cons_option};
-ghost use Rattle.pie_explain.specs.Selection.{time_of};
-ghost use Rattle.pie_explain.specs.LiveInterval.{Awaits, Holds, IsSet, clock_of, has_wall, length_of, meter_input_of, number_in};
-ghost use Rattle.pie_explain.specs.Interval.{at_last, starts_interval};
-ghost use Rattle.pie_explain.specs.Summary.{header, summary_text_of};
-ghost use Rattle.pie_explain.specs.Sums.{timed_by};
+ghost use Rattle.pie_explain.specs.{Selection.time_of, LiveInterval.Awaits, LiveInterval.Holds, LiveInterval.IsSet, LiveInterval.clock_of, LiveInterval.has_wall, LiveInterval.length_of, LiveInterval.meter_input_of, LiveInterval.number_in, Interval.at_last, Interval.starts_interval, Summary.header, Summary.summary_text_of, Sums.timed_by};
 ghost use Rattle.pie_explain.specs.declared.explanation.Explained.{Explained};
 
 use crate::meter::Meter;

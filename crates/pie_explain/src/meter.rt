@@ -1,17 +1,14 @@
 //! The numbers of an interval that is summed up event by event, in memory of its owner: those of a summary's record, and no others.
 ghost use Rattle.std.specs.Prelude.{◌≡◌, ◌+◌, ◌-◌, ◌^◌, ◌<◌, ◌++◌, ◌∷◌, [], ℕ, List, length, min, nat_lt, slice_index, slice_set, if◌then◌else◌};
 ghost use Rattle.std.specs.List.{cons_option};
-ghost use Rattle.pie_explain.specs.Counts.{kept};
+ghost use Rattle.pie_explain.specs.{Aggregates.kept, Aggregates.counted_some, Sums.awaiting, Sums.cause_place, Sums.excess_within, Sums.meter_of, Sums.timed_by, SummaryRecord.wait_99};
 ghost use Rattle.pie_explain.specs.declared.meter_input.MeterInput.{MeterInput};
-ghost use Rattle.pie_explain.specs.Aggregates.{counted_some};
-ghost use Rattle.pie_explain.specs.Sums.{awaiting, cause_place, excess_within, meter_of, timed_by};
-ghost use Rattle.pie_explain.specs.SummaryRecord.{wait_99};
 
 use crate::aggregates::{Bounds, Peak, Total, raise};
+use crate::explainer::increase;
 use crate::meter_input::{LEFT, MeterInput};
 use crate::ranges::{RANGES, end_within, first_up_to};
 use pie_event::CauseName;
-use crate::increase;
 
 /// The numbers of a record, each over all events of an interval. `answers` also gives the number of events and of
 /// departures.

@@ -2,14 +2,13 @@
 ghost use Rattle.std.specs.Prelude.{◌≡◌, ◌<◌, ℕ, Some, None, option_map};
 ghost use Rattle.pie_explain.specs.declared.explanation.Explained.{Explained};
 ghost use Rattle.pie_queue.specs.declared.packet.Packet.{Packet};
-ghost use Rattle.pie_event.specs.declared.command.Answer.TheVariants.{Done, Empty, Left, Updated};
+ghost use Rattle.pie_event.specs.declared.{command.Answer.TheVariants.Done, command.Answer.TheVariants.Empty, command.Answer.TheVariants.Left, command.Answer.TheVariants.Updated, command.Verdict.Verdict};
 ghost use Rattle.pie_event.specs.Cause.{name_of, answer_of};
-ghost use Rattle.pie_event.specs.declared.command.Verdict.{Verdict};
 ghost use Rattle.pie_explain.specs.Sums.{HasConditions, answer_place, cause_of, meter_input_by, meter_input_of, size_by, size_in, turned_at};
 
+use crate::Explained;
 use pie_book::{Answer, Cause, Command};
 use pie_event::CauseName;
-use crate::Explained;
 use pie_queue::{Ecn, Packet};
 
 // The places of the counts of answers.

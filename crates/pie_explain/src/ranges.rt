@@ -3,7 +3,7 @@ ghost use Rattle.std.specs.Prelude.{◌≡◌, ◌+◌, ◌-◌, ◌/◌, ◌*�
 ghost use Rattle.std.specs.List.{cons_option};
 ghost use Rattle.pie_explain.specs.Ranges.{end_within, first_up_to, range_end, range_of, range_within, ranges_of};
 
-use crate::increase;
+use crate::explainer::increase;
 
 /// The number of ranges: one for each number below 100, and 90 for each further digit of a number of 64 bits.
 pub const RANGES: usize = 1720;

@@ -1,26 +1,24 @@
-//! Summaries of the explained events, and between them the words for each packet that was lost or marked.
-ghost use Rattle.std.specs.Prelude.{◌≡◌, ◌++◌, [], ℕ, List, OnOk, Option, Some, true, if◌then◌else◌};
+//! Summaries of the explained events, and if requested between them the words for each packet that was lost or marked.
+ghost use Rattle.std.specs.Prelude.{◌≡◌, ◌&&◌, ◌++◌, [], ℕ, List, OnOk, Option, Some, true, if◌then◌else◌};
 ghost use Rattle.pie_explain.specs.declared.explanation.Explained.{Explained};
-ghost use Rattle.pie_explain.specs.Report.{Extends, Grows};
-ghost use Rattle.pie_explain.specs.Interval.{Keeps, ends_interval, since};
-ghost use Rattle.pie_explain.specs.SummaryRecord.{record_of};
-ghost use Rattle.pie_explain.specs.Summary.{HoldsSums, IsAbout, is_lost_or_marked, summary_text};
+ghost use Rattle.pie_explain.specs.{Report.Extends, Report.Grows, Interval.Keeps, Interval.ends_interval, Interval.since, SummaryRecord.record_of, Summary.HoldsSums, Summary.IsAbout, Summary.is_lost_or_marked, Summary.summary_text};
 
 use crate::interval::{Interval, Sums, ends_interval, has_summary, interval_of, starts_interval};
-use crate::interval_lines::IntervalLines;
+use crate::interval_lines::{IntervalLines, LineStyle};
 use crate::meter::Meter;
+use crate::report::push_header;
 use crate::summary_record::{NAMES, push_record};
 use crate::summary_words::{Written, push_words};
-use crate::{EventChoice, Explained, Form, Report, push_header};
+use crate::{EventChoice, Explained, Form, Report};
 use pie_text::{LongRow, Page};
 use std::alloc::AllocError;
 
 /// Summaries of the explained events: the number of arrivals by verdict and by cause, the waiting times, the numbers of the updates, and the changes
-/// of the controller's activity. There is one of all events, also if there is none, or one of each interval that has some; each is written when its
-/// last event is known. Each event that lost or marked a packet is explained in words between the summaries, in any form. A summary is written once
-/// its last event is known, before the words for the first event of the next interval.
+/// of the controller's activity. There is one of all events, also if there is none, or one of each interval that has some. A summary is written once
+/// its last event is known. If `PACKETS`, each event that lost or marked a packet is explained in words between the summaries, in any form: after
+/// the summary of the interval before. Otherwise the compiler omits the numbers of an event that no summary reads.
 #[derive(Clone, Copy)]
-pub struct Digest {
+pub struct Summaries<const PACKETS: bool> {
     /// In words, or as CSV: a header row, and one record for each summary. With wall-clock times a line of words
     /// has those of the first and the last event that has one, and a record has that of the first as its last
     /// field.
@@ -28,7 +26,15 @@ pub struct Digest {
     /// The length of an interval in nanoseconds, at least 1; the first begins at moment 0. Without a length all
     /// events are summed together.
     pub every: Option<u64>,
+    /// In words a line for each interval, of this style; `None` for summaries of several lines.
+    pub style: Option<LineStyle>,
 }
+
+/// Summaries without packets.
+pub type SummariesOnly = Summaries<false>;
+
+/// Summaries, and between them the lost and the marked packets.
+pub type Digest = Summaries<true>;
 
 /// Writes these numbers in words onto the page.
 #[inline(never)]
@@ -51,12 +57,13 @@ fn push_as_record(page: &mut Page, by_wall: bool, meter: &Meter, most: u64) -> W
     page.push(line.as_bytes())
 }
 
-/// Writes the summary of an interval onto `page` if the interval `ends`: in words as one of `lines`, if there are some.
+/// Writes the summary of an interval of length `every` onto `page` if the interval `ends`.
 #[tactic(auto, using(crate::proofs::ReportFacts::extended_by, crate::proofs::ReportFacts::unextended))]
-pub(crate) fn push_ended(
+fn push_ended(
     page: &mut Page,
     form: Form,
-    lines: Option<&IntervalLines>,
+    every: Option<u64>,
+    style: Option<LineStyle>,
     interval: &Interval,
     ends: bool,
 ) -> Written
@@ -69,10 +76,18 @@ pub(crate) fn push_ended(
     }
     let sums = &interval.sums;
     let most = sums.meter.wait_99(&interval.waits);
-    match (form.csv, lines) {
-        (true, _) => push_as_record(page, form.by_wall, &sums.meter, most),
-        (false, None) => push_in_words(page, form.by_wall, sums, most),
-        (false, Some(lines)) => lines.push_line(page, interval.ended, &sums.meter, most),
+    let (every, by_wall) = (every.unwrap_or(1), form.by_wall);
+    match (form.csv, style) {
+        (true, _) => push_as_record(page, by_wall, &sums.meter, most),
+        (false, None) => push_in_words(page, by_wall, sums, most),
+        (false, Some(style)) => {
+            let lines = IntervalLines {
+                every,
+                by_wall,
+                style,
+            };
+            lines.push_line(page, interval.ended, &sums.meter, most)
+        }
     }
 }
 
@@ -80,10 +95,11 @@ pub(crate) fn push_ended(
 /// `page`, if there is one.
 #[inline(always)]
 #[tactic(auto, using(crate::proofs::ReportFacts::unextended, crate::proofs::IntervalFacts::not_begun, crate::proofs::IntervalFacts::since_same, crate::proofs::IntervalFacts::under_way))]
-pub(crate) fn enter(
+fn enter(
     page: &mut Page,
     form: Form,
-    lines: Option<&IntervalLines>,
+    every: Option<u64>,
+    style: Option<LineStyle>,
     interval: &mut Interval,
     number: u64,
 ) -> Written
@@ -97,7 +113,7 @@ pub(crate) fn enter(
     if !starts_interval(interval.number, number) {
         return Ok(());
     }
-    begin_interval(page, form, lines, interval, number)
+    begin_interval(page, form, every, style, interval, number)
 }
 
 /// Begins the interval with this number, as `enter` does, if it is under way or not.
@@ -106,7 +122,8 @@ pub(crate) fn enter(
 fn begin_interval(
     page: &mut Page,
     form: Form,
-    lines: Option<&IntervalLines>,
+    every: Option<u64>,
+    style: Option<LineStyle>,
     interval: &mut Interval,
     number: u64,
 ) -> Written
@@ -118,50 +135,48 @@ fn begin_interval(
         → HoldsSums interval.new (since every (Some number) shown)) }
 {
     let ends = ends_interval(interval.number, number);
-    push_ended(page, form, lines, interval, ends)?;
+    push_ended(page, form, every, style, interval, ends)?;
     interval.begin(number);
     Ok(())
 }
 
-/// Returns true if the event lost or marked a packet.
-fn is_lost_or_marked(explained: &Explained) -> bool
-    ensures { result ≡ is_lost_or_marked explained.now }
+/// Returns true if `packets` are explained, and the event lost or marked one.
+#[inline(always)]
+fn is_about(packets: bool, explained: &Explained) -> bool
+    ensures { result ≡ (packets && is_lost_or_marked explained.now) }
 {
     let (number, event) = (explained.explanation.number, &explained.explanation.event);
-    EventChoice::Lost.chooses(number, event) || EventChoice::Marked.chooses(number, event)
+    packets
+        && (EventChoice::Lost.chooses(number, event) || EventChoice::Marked.chooses(number, event))
 }
 
-/// Writes the words for an event that lost or marked a packet.
+/// Writes the words for an event that lost or marked a packet, if `packets` are explained.
+#[inline(always)]
 #[tactic(auto, using(crate::proofs::IntervalFacts::none_about, crate::proofs::IntervalFacts::some_about))]
-fn push_event_words(page: &mut Page, digest: &Digest, explained: &Explained) -> Written
-    ensures { OnOk result (Grows (IsAbout explained.now) [] page.old page.new) }
+fn push_event_words(page: &mut Page, packets: bool, form: Form, explained: &Explained) -> Written
+    ensures { OnOk result (Grows (IsAbout packets explained.now) [] page.old page.new) }
 {
-    if is_lost_or_marked(explained) {
-        crate::push_words(
-            page,
-            digest.form.clock(explained.explanation.clock),
-            explained,
-        )
+    if is_about(packets, explained) {
+        crate::report::push_words(page, form.clock(explained.explanation.clock), explained)
     } else {
         Ok(())
     }
 }
 
-impl Report for Digest {
+impl<const PACKETS: bool> Report for Summaries<PACKETS> {
     type State = Interval;
 
-    ghost use Rattle.pie_explain.specs.Report.{Says};
-    ghost use Rattle.pie_explain.specs.Summary.{IsDigest, IsWholeDigest, keeps};
+    ghost use Rattle.pie_explain.specs.{Report.Says, Summary.IsDigest, Summary.IsWholeDigest, Summary.keeps};
 
     ghost shows = { λ it. keeps it.every };
 
-    ghost so_far = { λ it all. Says it.form.csv (IsDigest it.every it.form.by_wall all) };
+    ghost so_far = { λ it all. Says it.form.csv (IsDigest PACKETS it.every it.form.by_wall all) };
 
-    ghost whole = { λ it all. Says it.form.csv (IsWholeDigest it.every it.form.by_wall all) };
+    ghost whole = { λ it all. Says it.form.csv (IsWholeDigest PACKETS it.every it.form.by_wall all) };
 
     #[inline(always)]
     fn is_by_kind(&self) -> bool {
-        true
+        !PACKETS
     }
 
     #[tactic(auto, unfolding(pie_aqm::specs::History::last_or))]
@@ -171,17 +186,18 @@ impl Report for Digest {
         Ok(interval)
     }
 
+    #[inline(always)]
     fn report_event(&self, sums: &mut Interval, explained: &Explained, page: &mut Page) -> Written {
         let number = interval_of(self.every, explained.explanation.moment);
-        enter(page, self.form, None, sums, number)?;
-        push_event_words(page, self, explained)?;
+        enter(page, self.form, self.every, self.style, sums, number)?;
+        push_event_words(page, PACKETS, self.form, explained)?;
         sums.add(explained);
         Ok(())
     }
 
     fn end(&self, state: &Interval, page: &mut Page) -> Written {
         let ends = has_summary(self.every, state.number);
-        push_ended(page, self.form, None, state, ends)?;
+        push_ended(page, self.form, self.every, self.style, state, ends)?;
         Ok(())
     }
 }

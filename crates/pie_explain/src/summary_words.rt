@@ -3,8 +3,8 @@ use crate::aggregates::Bounds;
 use crate::interval::Sums;
 use crate::meter::Meter;
 use crate::meter_input::{EARLY, LEFT, MARKED, NO_BYTES, NO_PACKETS, QUEUED, UPDATED};
-use pie_aqm::CauseName;
 use crate::{Millis, PerCent, Share};
+use pie_aqm::CauseName;
 use pie_units::Utc;
 use std::alloc::AllocError;
 

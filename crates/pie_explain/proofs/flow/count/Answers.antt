@@ -1,8 +1,6 @@
-use Rattle.pie_explain.proofs.SummaryNames.{◌≡◌, ◌∙◌, [], ◌∷◌, ◌++◌, List, ℕ, None, Option, Some, ap, filter, is_of, flow_sums, refl, subst, sym}
-use Rattle.pie_explain.proofs.SummaryNames.{Explained, Flow, HasFlows}
+use Rattle.pie_explain.proofs.SummaryNames.{◌≡◌, ◌∙◌, [], ◌∷◌, ◌++◌, List, ℕ, None, Option, Some, ap, filter, is_of, flow_sums, refl, subst, sym, Explained, Flow, HasFlows}
 use Rattle.std.proofs.Common.{nat_eq}
-use Rattle.std.specs.Map.{keys_of, lookup}
-use Rattle.std.specs.Option.{IsSome}
+use Rattle.std.specs.{Map.keys_of, Map.lookup, Option.IsSome}
 use Rattle.indexmap.proofs.SetLemmas.{keys_insert_entry}
 use Rattle.pie_explain.proofs.FlowFacts.{flow-taken, key-known, no-row, row-known}
 use Rattle.pie_explain.proofs.flow.count.Goals as goal

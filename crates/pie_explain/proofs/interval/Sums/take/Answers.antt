@@ -1,8 +1,7 @@
 use Rattle.pie_explain.proofs.SummaryNames.{ap, sym, ◌∙◌, MeterInput, Sums, bounds_of, sums_of, time_at}
 use Rattle.std.specs.Option.{option_and}
 use Rattle.pie_explain.specs.Sums.{off_time, on_time}
-use Rattle.pie_explain.proofs.SpanFacts.{some-of-push}
-use Rattle.pie_explain.proofs.SumsFacts.{count-more, taken}
+use Rattle.pie_explain.proofs.{SpanFacts.some-of-push, SumsFacts.count-more, SumsFacts.taken}
 use Rattle.pie_explain.proofs.interval.Sums.take.Goals as goal
 
 pub returns : goal.returns

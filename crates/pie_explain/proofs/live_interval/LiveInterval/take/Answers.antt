@@ -1,7 +1,5 @@
-use Rattle.pie_explain.proofs.SummaryNames.{List, ◌∷◌, [], ◌++◌, ◌∙◌, ap, subst, sym, Some, time_of, Explained, LiveInterval, MeterInput, Holds, length_of}
-use Rattle.pie_explain.proofs.SummaryNames.{interval_at, since}
-use Rattle.pie_explain.proofs.LiveFacts.{clock-same, holds-taken}
-use Rattle.pie_explain.proofs.SumsFacts.{input-moment, input-times, taken, waits-push}
+use Rattle.pie_explain.proofs.SummaryNames.{List, ◌∷◌, [], ◌++◌, ◌∙◌, ap, subst, sym, Some, time_of, Explained, LiveInterval, MeterInput, Holds, length_of, interval_at, since}
+use Rattle.pie_explain.proofs.{LiveFacts.clock-same, LiveFacts.holds-taken, SumsFacts.input-moment, SumsFacts.input-times, SumsFacts.taken, SumsFacts.waits-push}
 use Rattle.pie_explain.proofs.live_interval.LiveInterval.take.Goals as goal
 
 pub returns-clause-holds : goal.returns-clause-holds

@@ -1,9 +1,6 @@
-use Rattle.pie_explain.proofs.SummaryNames.{◌≡◌, ◌-◌, ◌∷◌, [], ◌++◌, ◌∙◌, ap, map, sym, List, ℕ, filter_map, refl, slice_index, sum, unwrap_or, length}
-use Rattle.pie_explain.proofs.SummaryNames.{filter_map-append, max, greatest, last_or, places, Meter, kept, bounds_of, peak_of, total_of, late_at, meter_of}
+use Rattle.pie_explain.proofs.SummaryNames.{◌≡◌, ◌-◌, ◌∷◌, [], ◌++◌, ◌∙◌, ap, map, sym, List, ℕ, filter_map, refl, slice_index, sum, unwrap_or, length, filter_map-append, max, greatest, last_or, places, Meter, kept, bounds_of, peak_of, total_of, late_at, meter_of}
 use Rattle.pie_explain.specs.Sums.{cause_place, excess_within, moments_of}
-use Rattle.pie_explain.proofs.CountFacts.{counted-among, counted-push}
-use Rattle.pie_explain.proofs.SpanFacts.{count-some, each-of-push, greatest-some, since-push, some-of-push}
-use Rattle.pie_explain.proofs.SumsFacts.{last-push, place_of, places-push, sum-push}
+use Rattle.pie_explain.proofs.{CountFacts.counted-among, CountFacts.counted-push, SpanFacts.count-some, SpanFacts.each-of-push, SpanFacts.greatest-some, SpanFacts.since-push, SpanFacts.some-of-push, SumsFacts.last-push, SumsFacts.place_of, SumsFacts.places-push, SumsFacts.sum-push}
 use Rattle.pie_explain.proofs.meter.Meter.take.Goals as goal
 
 pub returns : goal.returns

@@ -27,8 +27,8 @@ sys.path.insert(0, f"{os.path.dirname(os.path.abspath(__file__))}/../shared")
 from checks import NAME, ROOT, lower_crates  # noqa: E402
 
 CITED = re.compile(r"\bRattle\.(\w+)\.proofs\b")
-LEFT = {"pie_aqm": 3, "pie_audit": 1, "pie_book": 3, "pie_cut": 6, "pie_excerpt": 2, "pie_explain": 2, "pie_guarantees": 5,
-        "pie_storm": 2, "pie_summary": 5, "pie_trace": 5}
+LEFT = {"pie_aqm": 3, "pie_audit": 1, "pie_book": 3, "pie_cut": 6, "pie_excerpt": 2, "pie_explain": 5, "pie_guarantees": 5,
+        "pie_storm": 2, "pie_trace": 5}
 
 PAGES = ("ARCHITECTURE.md", "PROMISES.md", "GUARANTEES.md", "PROVING.md")
 # of files whose names are on pages

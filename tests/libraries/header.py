@@ -420,7 +420,7 @@ def read_source(folder, pattern, but="tests"):
 
 def differences(root):
     header = Header((root / "include/pie.h").read_text())
-    text = "\n".join(read_source(root / f"crates/{it}/src", "*.rt") for it in ("pie_params", "pie_abi", "pie_c", "pie_summary"))
+    text = "\n".join(read_source(root / f"crates/{it}/src", "*.rt") for it in ("pie_params", "pie_abi", "pie_c", "pie_explain"))
     source = Rust(text, TYPES, r'pub extern "C" ')
     rust_text = read_source(root / "bindings/rust/src", "*.rs", "link")
     rust = Rust(rust_text, RUST_TYPES, r"(?<!pub )")

@@ -143,8 +143,8 @@ def in_words(n):
     return "".join(line + "\n" for line in lines)
 
 
-NAMES = "time ms arrived marks early tail mean ms 99th ms delay ms prob % bytes"
-WIDTHS = (11, 7, 5, 5, 5, 7, 7, 8, 7, 9)
+NAMES = "arrived marks early tail mean ms 99th ms delay ms prob % bytes"
+WIDTHS = (7, 5, 5, 5, 7, 7, 8, 7, 9)
 
 
 def thousandths(time, count=1):
@@ -152,15 +152,25 @@ def thousandths(time, count=1):
     return f"{time // 10**6}.{time % 10**6 // 10**3:03}" if count else "-"
 
 
+def start_column(every):
+    """Returns name, width and form of the starts of intervals of this length."""
+    if every % 10**9 == 0:
+        return "time s", 11, lambda start: str(start // 10**9)
+    if every % 10**6 == 0:
+        return "time ms", 13, lambda start: str(start // 10**6)
+    return "time ms", 17, thousandths
+
+
 def in_lines(summaries, every):
     """Returns the lines of intervals of this length, under a header."""
-    rows = [re.findall(r"\w+ ms|prob %|\w+", NAMES)] if summaries else []
+    name, wide, start = start_column(every)
+    rows = [[name, *re.findall(r"\w+ ms|prob %|\w+", NAMES)]] if summaries else []
     for n in summaries:
         first, tail = n["first_moment"], n["bytes"] + n["packets"]
         times = [thousandths(n["mean_wait"], n["left"]), thousandths(n["wait_99"], n["left"]), thousandths(n["last_delay"], n["updates"])]
         prob = f"{n['last_probability'] // 10**10}.{n['last_probability'] % 10**10 // 10**6:04}"
-        rows.append([thousandths(first - first % every), n["arrivals"], n["mark"], n["early"], tail, *times, prob, n["carried_bytes"]])
-    return "".join(" ".join(f"{cell:>{width}}" for cell, width in zip(row, WIDTHS)) + "\n" for row in rows)
+        rows.append([start(first - first % every), n["arrivals"], n["mark"], n["early"], tail, *times, prob, n["carried_bytes"]])
+    return "".join(" ".join(f"{cell:>{width}}" for cell, width in zip(row, (wide, *WIDTHS))) + "\n" for row in rows)
 
 
 def in_csv(summaries):
@@ -255,6 +265,18 @@ def many_intervals():
     expect("3,000 lines", pie(history, "--every=1ns"), (0, in_lines(each, 1), ""))
 
 
+def all_moments():
+    """Checks that the columns of lines are those of the header from moment 0 to the greatest moment of a text."""
+    moments = [0, 9_999_999_999_999, 10**13, 10**16, 10**17, 2**60 - 1]
+    history = "open2,1,rolling,0,4,16,1099511627776\n" + "".join(f"depart,1,{moment},empty\n" for moment in moments)
+    _, rows, _ = records("all moments", history)
+    with_targets(history, rows)
+    for every, width in ((1, 86), (1_500_000, 86), (10**6, 82), (10**8, 82), (10**9, 80), (3600 * 10**9, 80)):
+        got = pie(history, f"--every={every}")
+        expect(f"all moments by {every}", got, (0, in_lines(by_period(rows, every), every), ""))
+        expect(f"the widths of all moments by {every}", {len(line) for line in got[1].splitlines()}, {width})
+
+
 def on_terminal(history, words, **variables):
     """Returns the output of `pie explain` on a terminal, with these variables of the environment."""
     environment = {name: value for name, value in os.environ.items() if name != "NO_COLOR"} | variables
@@ -295,6 +317,7 @@ def main():
     of_nothing()
     lengths()
     many_intervals()
+    all_moments()
     lines_on_a_terminal()
     hold_each(hold, "they are summed up as they have to be")
 

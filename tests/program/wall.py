@@ -148,9 +148,11 @@ def summed(plain, rows, times):
 def in_utc(lines, walls):
     """Returns lines of intervals with these times in the first column, or with the start of the interval if a time is empty."""
     header, *others = lines
-    out = [header.replace("time ms", "UTC").rjust(len(header) + 19)]
+    unit, names = re.fullmatch(r" *time (m?s)(.*)", header).groups()
+    out = [f"{'UTC':>30}{names}"]
     for line, wall in zip(others, walls, strict=True):
         start, rest = re.fullmatch(r" *(\S+)(.*)", line).groups()
+        start += "000.000" if unit == "s" else "" if "." in start else ".000"
         out.append(f"{wall or start:>30}{rest}")
     return "".join(f"{line}\n" for line in out)
 

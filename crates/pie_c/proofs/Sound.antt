@@ -24,8 +24,8 @@ use Rattle.std.proofs.Common.{Option, is_none, zero, max, Ok}
 use Rattle.pie_event.specs.declared.opening.Profile.{Profile}
 use Rattle.pie_params.specs.declared.elements.Elements.{Elements}
 use Rattle.pie_aqm.specs.Steps.{IsWithin, changed, reset}
-use Rattle.pie_summary.specs.declared.meter_input.MeterInput.{MeterInput}
-use Rattle.pie_summary.specs.Sums.{answer_place, size_by, size_in}
+use Rattle.pie_explain.specs.declared.meter_input.MeterInput.{MeterInput}
+use Rattle.pie_explain.specs.Sums.{answer_place, size_by, size_in}
 use Rattle.std.specs.Bool.{Decides}
 use Rattle.pie_book.specs.Decision.{registers_after}
 use Rattle.std.specs.Prelude.{IsTrue, All, map}

@@ -39,9 +39,9 @@ unfoldable pub use Rattle.pie_record.specs.Text.{rows_text}
 pub use Rattle.pie_record.specs.Write.{event_row, written_rows}
 unfoldable pub use Rattle.pie_record.specs.Write.{opening_row}
 pub use Rattle.pie_record.specs.declared.clock.Clock.{Clock}
-pub use Rattle.pie_summary.specs.LiveInterval.{Holds, IsSet, HasConditions, clock_of, has_wall, length_of, meter_input_of}
-pub use Rattle.pie_summary.specs.declared.live_interval.LiveInterval.{LiveInterval}
-pub use Rattle.pie_summary.specs.declared.meter_input.Conditions.{Conditions}
+pub use Rattle.pie_explain.specs.LiveInterval.{Holds, IsSet, HasConditions, clock_of, has_wall, length_of, meter_input_of}
+pub use Rattle.pie_explain.specs.declared.live_interval.LiveInterval.{LiveInterval}
+pub use Rattle.pie_explain.specs.declared.meter_input.Conditions.{Conditions}
 use Rattle.std.specs.Prelude.{ℕ, ◌^◌, ◌%◌, Bool, not, ◌&&◌, ◌==◌, nat_lt, nat_le, Option, Some, None, if◌then◌else◌, Result, Ok, Err, ◌≡◌, ◌≤◌, true, max, List, [], ◌∷◌, ◌++◌}
 use Rattle.pie_rate.specs.declared.raw.RawCycle.{RawCycle}
 use Rattle.pie_aqm.specs.declared.raw.RawController.{RawController}

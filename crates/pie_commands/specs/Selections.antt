@@ -6,12 +6,12 @@ use Rattle.pie_explain.specs.declared.choice.EventChoice.{EventChoice}
 use Rattle.pie_explain.specs.declared.choice.EventChoice.TheVariants.{Number, Tag, Lost, Marked, All}
 use Rattle.pie_explain.specs.declared.form.Form.{Form}
 use Rattle.pie_explain.specs.declared.selection.Selection.{Selection}
-use Rattle.pie_summary.specs.declared.interval_lines.LineStyle.{LineStyle}
+use Rattle.pie_explain.specs.declared.interval_lines.LineStyle.{LineStyle}
 use Rattle.pie_units.specs.declared.utc.MomentFault.{MomentFault}
 use Rattle.pie_units.specs.declared.utc.When.{When}
 use Rattle.pie_commands.specs.Values.{bounds_of, flag_given, moment_given, number_given}
 use Rattle.pie_commands.specs.declared.explain.OutputKind.{OutputKind}
-use Rattle.pie_commands.specs.declared.explain.OutputKind.TheVariants.{Digest, Flows, Lines, Records, Sums, Words}
+use Rattle.pie_commands.specs.declared.explain.OutputKind.TheVariants.{Digest, Flows, Records, Sums, Words}
 
 -- ---- the events
 
@@ -95,17 +95,15 @@ each_kind form = if form.csv then Records (record { by_wall = form.by_wall }) el
 
 -- the kind of summaries: of each interval in words a line of this style, unless `full`
 abbrev pub sums_kind : Bool → LineStyle → Option ℕ → Form → OutputKind
-sums_kind full style None form = Sums (record { form = form; every = None })
-sums_kind full style (Some every) form =
-    if form.csv || full then Sums (record { form = form; every = Some every })
-    else Lines (record { every = every; by_wall = form.by_wall; style = style })
+sums_kind full style every form =
+    Sums (record { form = form; every = every; style = if is_some every && not (form.csv || full) then Some style else None })
 
 -- the kind of output about the chosen events: each event; sums by flow; or summaries, with or without a digest of
 -- lost and marked packets. Sums and summaries cover all events or each interval
 abbrev pub output_kind_by : Bool → Bool → Option ℕ → Bool → LineStyle → Option ℕ → Form → OutputKind
 output_kind_by true packets (Some most) full style every form =
     Flows (record { form = form; every = every; most = most })
-output_kind_by true true None full style every form = Digest (record { form = form; every = every })
+output_kind_by true true None full style every form = Digest (record { form = form; every = every; style = None })
 output_kind_by true false None full style every form = sums_kind full style every form
 output_kind_by false packets flows full style every form = each_kind form
 

@@ -3,8 +3,7 @@
 
 use crate::explain::explain_sums;
 use crate::json::JsonWriter;
-use pie_explain::{EventChoice, ExplainFault, Form, Selection};
-use pie_summary::SummariesOnly;
+use pie_explain::{EventChoice, ExplainFault, Form, Selection, SummariesOnly};
 use pie_trace::{Omitted, TraceFault};
 use std::alloc::{AllocError, Global};
 use std::io;
@@ -65,7 +64,11 @@ fn summary_of<W: Write>(
         csv: true,
         by_wall: false,
     };
-    let sums = SummariesOnly { form, every: None };
+    let sums = SummariesOnly {
+        form,
+        every: None,
+        style: None,
+    };
     let outcome = explain_sums(alloc, column.text, &mut written, selection, sums);
     let written = written.into_withheld();
     let why = match outcome {

@@ -9,12 +9,14 @@ use crate::files::{NamedFiles, open_text};
 use crate::json::JsonWriter;
 use crate::options::{bounds_of, file, flag, moment, number, parsed, report_two, text};
 use crate::progress::{ProgressReader, Screen, shows_progress, writes_to_terminal};
-use crate::reports::{OtherReport, as_digest, by_flow, in_lines, in_words};
+use crate::reports::{OtherReport, as_digest, by_flow, in_words};
 use crate::steps::{explain_steps, lacks_queue};
 use clap::ArgMatches;
-use pie_explain::{EventChoice, EventRecords, ExplainFault, Form, Selection, Words};
+use pie_explain::{
+    ByFlow, Digest, EventChoice, EventRecords, ExplainFault, Form, LineStyle, Selection,
+    SummariesOnly, Words,
+};
 use pie_linux_history::{StepsExplained, StepsFault, StepsFinding};
-use pie_summary::{ByFlow, Digest, IntervalLines, LineStyle, SummariesOnly};
 use pie_trace::TraceFault;
 use std::alloc::Global;
 use std::io::{Read, Write};
@@ -139,8 +141,6 @@ pub(crate) enum OutputKind {
     Words(Words),
     /// Summaries, of all events or of each interval.
     Sums(SummariesOnly),
-    /// A line for each interval.
-    Lines(IntervalLines),
     /// Summaries, and between them the words for lost and marked packets.
     Digest(Digest),
     /// Sums by flow, with rows for a limited number of flows.
@@ -151,21 +151,12 @@ pub(crate) enum OutputKind {
 fn sums_kind(full: bool, style: LineStyle, every: Option<u64>, form: Form) -> OutputKind
     ensures { result ≡ sums_kind full style every form }
 {
-    match every {
-        None => OutputKind::Sums(SummariesOnly { form, every: None }),
-        Some(every) => {
-            if form.csv || full {
-                let every = Some(every);
-                return OutputKind::Sums(SummariesOnly { form, every });
-            }
-            let by_wall = form.by_wall;
-            OutputKind::Lines(IntervalLines {
-                every,
-                by_wall,
-                style,
-            })
-        }
-    }
+    let style = if every.is_some() && !(form.csv || full) {
+        Some(style)
+    } else {
+        None
+    };
+    OutputKind::Sums(SummariesOnly { form, every, style })
 }
 
 /// Returns the kind of output that these options request: each event, or sums over the events. With `--json` it is in CSV,
@@ -181,7 +172,11 @@ fn output_kind_of(options: &ArgMatches<'_>, style: LineStyle) -> OutputKind
     let (every, form) = (every_of(options), Form { csv, by_wall });
     match (is_summary(options), packets, flows) {
         (true, _, Some(most)) => OutputKind::Flows(ByFlow { form, every, most }),
-        (true, true, None) => OutputKind::Digest(Digest { form, every }),
+        (true, true, None) => OutputKind::Digest(Digest {
+            form,
+            every,
+            style: None,
+        }),
         (true, false, None) => sums_kind(flag(options, "full"), style, every, form),
         (false, _, _) => {
             if csv {
@@ -205,7 +200,6 @@ fn explain_with<R: Read + Drop, W: Write>(
         OutputKind::Records(each) => pie_explain::explain(alloc, input, output, selection, each),
         OutputKind::Sums(sums) => explain_sums(alloc, input, output, selection, sums),
         OutputKind::Words(each) => explain_other(alloc, input, output, selection, in_words(each)),
-        OutputKind::Lines(lines) => explain_other(alloc, input, output, selection, in_lines(lines)),
         OutputKind::Digest(it) => explain_other(alloc, input, output, selection, as_digest(it)),
         OutputKind::Flows(flows) => explain_other(alloc, input, output, selection, by_flow(flows)),
     };

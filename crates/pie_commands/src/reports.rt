@@ -2,8 +2,7 @@
 ghost use Rattle.either.specs.Either.{IsLeftAnd, IsRightAnd, MatchEither};
 
 use either::{Either, Left, Right};
-use pie_explain::{Explained, Report, Words};
-use pie_summary::{ByFlow, Digest, IntervalLines};
+use pie_explain::{ByFlow, Digest, Explained, Report, Words};
 use pie_text::Page;
 use std::alloc::AllocError;
 
@@ -61,16 +60,11 @@ impl<A: Report, B: Report> Report for OneOf<A, B> {
 }
 
 /// A report that is read by people, or has a row for each flow. (Records and sums of many events have loops of their own.)
-pub(crate) type OtherReport = OneOf<OneOf<Words, IntervalLines>, OneOf<Digest, ByFlow>>;
+pub(crate) type OtherReport = OneOf<Words, OneOf<Digest, ByFlow>>;
 
 /// Returns the report of each event in words.
 pub(crate) fn in_words(words: Words) -> OtherReport {
-    OneOf(Left(OneOf(Left(words))))
-}
-
-/// Returns the report with a line for each interval.
-pub(crate) fn in_lines(lines: IntervalLines) -> OtherReport {
-    OneOf(Left(OneOf(Right(lines))))
+    OneOf(Left(words))
 }
 
 /// Returns the report of summaries with the words for lost and marked packets.

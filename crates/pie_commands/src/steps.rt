@@ -8,7 +8,7 @@ use crate::files::NamedFiles;
 use crate::json::JsonWriter;
 use crate::name::InLine;
 use crate::progress::Screen;
-use crate::reports::{as_digest, by_flow, in_lines};
+use crate::reports::{as_digest, by_flow};
 use pie_audit::Finding;
 use pie_explain::{EventChoice, ExplainFault, Selection};
 use pie_linux_history::{
@@ -53,14 +53,6 @@ pub(crate) fn explain_steps<R: Read + Drop, W: Write>(
         }
         OutputKind::Records(each) => report(alloc, reader, output, selection, queue, each),
         OutputKind::Sums(sums) => report(alloc, reader, output, selection, queue, sums),
-        OutputKind::Lines(lines) => report(
-            alloc,
-            reader,
-            output,
-            selection,
-            queue,
-            in_lines(lines),
-        ),
         OutputKind::Digest(it) => report(alloc, reader, output, selection, queue, as_digest(it)),
         OutputKind::Flows(flows) => report(alloc, reader, output, selection, queue, by_flow(flows)),
     };

@@ -4,36 +4,17 @@ use Rattle.std.specs.Option.{option_or}
 use Rattle.std.specs.Prelude.{ℕ, Bool, true, false, List, [], Option, Some, None, Result, Ok, Err, IfSome, cond, map, if◌then◌else◌, ◌≡◌, ◌+◌, ◌<◌, ◌∷◌, ◌++◌}
 use Rattle.pie_aqm.specs.Steps.{delay_in}
 use Rattle.pie_explain.proofs.Names.{along-push, append-nil, count-push, difference-push, nat_tests}
-use Rattle.pie_audit.specs.Replay.{AuditorView, difference_from, differs_from, finding_by, line_places, Origin, RepresentsAfter, at_core, at_opening, count_after, start_after, start_at, Replays, next_number, Start}
-use Rattle.pie_audit.specs.Beginnings.{ReplaysText}
-use Rattle.pie_audit.specs.Text.{BeginsAtCore, remaining_of, text_fault}
-use Rattle.pie_audit.specs.declared.auditor.Finding.TheVariants.{Differs}
-use Rattle.pie_book.specs.Core.{CoreView, Represents, answer_in, core_after, refusal_of, registers_of}
-use Rattle.pie_book.specs.Decision.{decision, refusal_by_rule, delay_after, registers_after, wait_of}
-use Rattle.pie_book.specs.Book.{refused_or, step_in}
+use Rattle.pie_audit.specs.{Replay.AuditorView, Replay.difference_from, Replay.differs_from, Replay.finding_by, Replay.line_places, Replay.Origin, Replay.RepresentsAfter, Replay.at_core, Replay.at_opening, Replay.count_after, Replay.start_after, Replay.start_at, Replay.Replays, Replay.next_number, Replay.Start, Beginnings.ReplaysText, Text.BeginsAtCore, Text.remaining_of, Text.text_fault}
+use Rattle.pie_audit.specs.declared.{auditor.Finding.TheVariants.Differs, replay.Replay.Replay}
+use Rattle.pie_book.specs.{Core.CoreView, Core.Represents, Core.answer_in, Core.core_after, Core.refusal_of, Core.registers_of, Decision.decision, Decision.refusal_by_rule, Decision.delay_after, Decision.registers_after, Decision.wait_of, Book.refused_or, Book.step_in}
 use Rattle.pie_event.specs.Event.{effect}
-use Rattle.pie_event.specs.declared.command.Answer.{Answer}
-use Rattle.pie_event.specs.declared.command.Event.{Event}
-use Rattle.pie_event.specs.declared.opening.Opening.{Opening}
-use Rattle.pie_event.specs.declared.refusal.Refusal.{Refusal}
-use Rattle.pie_event.specs.declared.registers.Registers.{Registers}
-use Rattle.pie_event.specs.declared.command.Setter.{Setter}
+use Rattle.pie_event.specs.declared.{command.Answer.Answer, command.Event.Event, opening.Opening.Opening, refusal.Refusal.Refusal, registers.Registers.Registers, command.Setter.Setter}
 use Rattle.pie_excerpt.specs.Beginning.{Beginning, beginning_of}
-use Rattle.pie_explain.specs.DecidedEvent.{DecidesAfter, DecidesEvent, HasReached, IsDecided, IsPast, last_decided, decision_at, decision_by, result_after, wait_if_decided, with_answer}
-use Rattle.pie_explain.specs.Explanation.{explanation, explanation_in, with_core}
-use Rattle.pie_explain.specs.declared.decided_event.DecidedEvent.{DecidedEvent}
-use Rattle.pie_explain.specs.declared.decided_event.EventDecision.{EventDecision}
-use Rattle.pie_explain.specs.declared.decided_event.EventDecision.TheVariants.{Answered}
-use Rattle.pie_explain.specs.declared.explanation.Explained.{Explained}
-use Rattle.pie_explain.specs.declared.explanation.Explanation.{Explanation}
-use Rattle.pie_record.specs.HistoryLines.{RemainingLines, event_count, is_event}
-use Rattle.pie_record.specs.Text.{Row}
-use Rattle.pie_record.specs.declared.clock.Clock.{Clock}
-use Rattle.pie_record.specs.declared.fault.TraceFault.{TraceFault}
-use Rattle.pie_audit.specs.declared.replay.Replay.{Replay}
+use Rattle.pie_explain.specs.{DecidedEvent.DecidesAfter, DecidedEvent.DecidesEvent, DecidedEvent.HasReached, DecidedEvent.IsDecided, DecidedEvent.IsPast, DecidedEvent.last_decided, DecidedEvent.decision_at, DecidedEvent.decision_by, DecidedEvent.result_after, DecidedEvent.wait_if_decided, DecidedEvent.with_answer, Explanation.explanation, Explanation.explanation_in, Explanation.with_core}
+use Rattle.pie_explain.specs.declared.{decided_event.DecidedEvent.DecidedEvent, decided_event.EventDecision.EventDecision, decided_event.EventDecision.TheVariants.Answered, explanation.Explained.Explained, explanation.Explanation.Explanation}
+use Rattle.pie_record.specs.{HistoryLines.RemainingLines, HistoryLines.event_count, HistoryLines.is_event, Text.Row}
+use Rattle.pie_record.specs.declared.{clock.Clock.Clock, fault.TraceFault.TraceFault, history_record.Line.Line, history_record.Line.TheVariants.Invalid, history_record.Line.TheVariants.Valid}
 use Rattle.pie_queue.specs.Queue.{bytes_of}
-use Rattle.pie_record.specs.declared.history_record.Line.{Line}
-use Rattle.pie_record.specs.declared.history_record.Line.TheVariants.{Invalid, Valid}
 
 -- the lines that were read after any others were decided again, the first difference among them does not have this number, and none of the decided
 -- events has it

@@ -1,7 +1,6 @@
 -- Definitions from lower crates that the files of this folder use.
 pub use Rattle.std.proofs.Common.{append_assoc, ◌-◌, ◌^◌, Bool, List, None, Option, Some, [], ap, false, refl, rules, sym, true, ℕ, ◌++◌, ◌+◌, ◌∙◌, ◌∷◌, ◌≡◌}
-pub use Rattle.std.proofs.lemmas.Bool.Decides.{nat_tests}
-pub use Rattle.std.proofs.lemmas.List.{append-nil}
+pub use Rattle.std.proofs.{lemmas.Bool.Decides.nat_tests, lemmas.List.append-nil}
 pub use Rattle.std.specs.Option.{is_some, option_or}
 pub use Rattle.std.specs.Prelude.{Ok, if◌then◌else◌, map, min, nat_le, ◌&&◌}
 pub use Rattle.pie_explain.specs.{AuditorView, AuditsFrom, Event, Line, Valid, Opening, Setter, Start, event_count, events_of, from_opening, moment_of, Origin, RepresentsAfter, at_core, at_opening, count_after, difference_from, ended_after, explanation_after, moment_after, core_along, moment_at, setter_in, with_after, with_core, HasExplained, IsExplaining, IsExplanationText, answer_since, traced, no_event, picks, setter_from_start, explanation_of, explanation_if}
@@ -9,6 +8,5 @@ unfoldable pub use Rattle.pie_explain.specs.{explanation, explanation_in, explan
 pub use Rattle.pie_explain.specs.Names.{Explanation, Selection}
 pub use Rattle.pie_record.specs.HistoryLines.{clock_in_line}
 pub use Rattle.pie_record.specs.declared.clock.Clock.{Clock}
-pub use Rattle.pie_audit.proofs.AuditorFacts.{along-push, count-push, difference-push, event_count-append, few-may, is-since, latest_clock-push, line_places-push, made-count, none-before, none_of, place_of}
-pub use Rattle.pie_audit.proofs.ProcessorFacts.{begun-fails, processed-failed, processed-fault, processed-text, processed-visited}
+pub use Rattle.pie_audit.proofs.{AuditorFacts.along-push, AuditorFacts.count-push, AuditorFacts.difference-push, AuditorFacts.event_count-append, AuditorFacts.few-may, AuditorFacts.is-since, AuditorFacts.latest_clock-push, AuditorFacts.line_places-push, AuditorFacts.made-count, AuditorFacts.none-before, AuditorFacts.none_of, AuditorFacts.place_of, ProcessorFacts.begun-fails, ProcessorFacts.processed-failed, ProcessorFacts.processed-fault, ProcessorFacts.processed-text, ProcessorFacts.processed-visited}
 pub use Rattle.pie_audit.specs.Text.{reads-more, reads-none}

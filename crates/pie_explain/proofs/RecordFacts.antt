@@ -1,13 +1,10 @@
 -- Facts about the output: records built from their fields, and reports.
-use Rattle.std.proofs.Common.{Bool, List, [], ap, append-nil, append_assoc, arith, codes, drop, length, length-append, refl, sym, ℕ, ◌++◌, ◌-◌, ◌∙◌, ◌∷◌, ◌≡◌}
+use Rattle.std.proofs.Common.{Bool, List, [], ap, append_assoc, arith, codes, drop, length, length-append, refl, sym, true, ℕ, ◌++◌, ◌-◌, ◌∙◌, ◌∷◌, ◌≡◌}
 use Rattle.pie_explain.specs.declared.explanation.Explained.{Explained}
-use Rattle.pie_explain.specs.Record.{active_field, explanation_text, most_fields}
+use Rattle.pie_explain.specs.{Record.active_field, Record.explanation_text, Record.most_fields, Record.IsRecords, Record.header, Report.Grows}
+use Rattle.pie_explain.proofs.ReportFacts.{reported}
 use Rattle.pie_text.specs.Plain.{onto}
 use Rattle.std.proofs.lemmas.List.{drop_at}
-use Rattle.std.specs.List.{flat_map}
-use Rattle.std.proofs.lemmas.List.Concat.{flat_map-append}
-use Rattle.pie_explain.specs.Output.{IsRecords, header, pages, explanation_texts}
-use Rattle.pie_explain.specs.Report.{Grows}
 
 -- ==== A record is put together
 
@@ -37,20 +34,7 @@ wall_line all wall old =
 
 -- ==== Records one by one, as a report
 
-records-push : (by_wall : Bool) (all : List Explained) (one : Explained)
-    → explanation_texts by_wall (all ++ one ∷ []) ≡ explanation_texts by_wall all ++ explanation_text by_wall one
-unfolding explanation_texts
-records-push by_wall all one = flat_map-append (explanation_text by_wall) all (one ∷ [])
-    ∙ ap (λ (text : List ℕ). flat_map (explanation_text by_wall) all ++ text) (append-nil (explanation_text by_wall one))
-
-pub pages_none : (by_wall : Bool) (page now : List ℕ) → now ≡ page ++ header by_wall → Grows (IsRecords by_wall []) [] page now
-unfolding explanation_texts
-pages_none by_wall page now is = record { more = header by_wall; grown = is; says = sym (append-nil (header by_wall)) }
-
-pub pages_reported : (by_wall : Bool) (all : List Explained) (one : Explained) (text old now : List ℕ) → text ≡ pages by_wall all
+pub record_reported : (by_wall : Bool) (all : List Explained) (one : Explained) (text old now : List ℕ) → IsRecords by_wall all text
     → now ≡ old ++ explanation_text by_wall one → Grows (IsRecords by_wall (all ++ one ∷ [])) text old now
-pages_reported by_wall all one text old now was is = record {
-  more = explanation_text by_wall one;
-  grown = is;
-  says = rw (records-push by_wall all one, was) (append_assoc (header by_wall) (explanation_texts by_wall all) (explanation_text by_wall one));
-}
+record_reported by_wall all one text old now was is =
+    reported true _ (header by_wall) all one (explanation_text by_wall one) (record { more = explanation_text by_wall one; grown = is }) (λ _. is) refl was

@@ -1,7 +1,10 @@
 -- Facts about the text of any report.
-use Rattle.std.proofs.Common.{Bool, List, [], append-nil, append_assoc, refl, sym, true, false, ℕ, ◌++◌, ◌≡◌}
+use Rattle.std.proofs.Common.{Bool, List, [], ap, append-nil, append_assoc, refl, sym, true, false, ℕ, ◌++◌, ◌∷◌, ◌≡◌}
 use Rattle.std.specs.Prelude.{⊤, Err, Ok, OnOk, Result, if◌then◌else◌}
-use Rattle.pie_explain.specs.Report.{Extends, Grows, Says}
+use Rattle.pie_aqm.proofs.Laws.{place_of, places-push}
+use Rattle.pie_aqm.specs.History.{Place, places}
+use Rattle.pie_explain.specs.Report.{Extends, Grows, HasParts, IsBegun, IsEnded, Says}
+use Rattle.pie_explain.specs.declared.explanation.Explained.{Explained}
 
 -- ---- a page
 
@@ -37,22 +40,39 @@ pub said_ok : {A E : Type 0} (result : Result A E) (text page now : List ℕ) �
 said_ok (Ok value) text page now extends = said text extends
 said_ok (Err why) text page now extends = tt
 
--- a report with a header, whose text is stated if it is exact
-pub begun : (exact : Bool) (is : List ℕ → Type 0) (page now header : List ℕ) → now ≡ page ++ (if exact then header else []) → is header
-    → Grows (Says exact is) [] page now
-begun true is page now header written says = record { more = header; grown = written; says = says }
-begun false is page now header written says = record { more = []; grown = written; says = tt }
+-- ---- a report whose text has a header, a part for each event, and a last part; its text is stated if it is `exact`
 
--- the known text, with a piece more
-pub grows : (exact : Bool) (known later text page now piece : List ℕ) → Extends page now → (exact ≡ true → now ≡ page ++ piece)
-    → later ≡ known ++ piece → Says exact (λ text. text ≡ known) text → Grows (Says exact (λ text. text ≡ later)) text page now
-grows true known later text page now piece extends written grown says =
-    record { more = piece; grown = written refl; says = rw (says, grown) refl }
-grows false known later text page now piece extends written grown says =
-    record { more = extends.more; grown = extends.grown; says = tt }
+pub begun : (exact : Bool) (at : Place Explained → List ℕ → Type 0) (page now header : List ℕ) → now ≡ page ++ (if exact then header else [])
+    → Grows (Says exact (IsBegun header at [])) [] page now
+unfolding places
+begun true at page now header written = record { more = header; grown = written; says = ([], sym (append-nil header), refl) }
+begun false at page now header written = record { more = []; grown = written; says = tt }
 
--- a text of which a relation holds if it is exact
-pub says-by : (exact : Bool) (is was : List ℕ → Type 0) (text page now : List ℕ) → Extends page now
-    → (exact ≡ true → was text → Grows is text page now) → Says exact was text → Grows (Says exact is) text page now
-says-by true is was text page now extends known says = let it = known refl says in record { more = it.more; grown = it.grown; says = it.says }
-says-by false is was text page now extends known says = record { more = extends.more; grown = extends.grown; says = tt }
+one-more : (at : Place Explained → List ℕ → Type 0) (before : List (Place Explained)) (one : Place Explained) (parts part : List ℕ)
+    → at one part → HasParts at before parts → HasParts at (before ++ one ∷ []) (parts ++ part)
+one-more at [] one parts part says has = (part, [], rw has (sym (append-nil part)), says, refl)
+one-more at (first ∷ before) one parts part says has =
+    (has.0, has.1 ++ part, rw has.2 (append_assoc has.0 has.1 part), has.3, one-more at before one has.1 part says has.4)
+
+-- one more event, with its part
+pub reported : (exact : Bool) (at : Place Explained → List ℕ → Type 0) (header : List ℕ) (all : List Explained) (one : Explained)
+    {text page now : List ℕ} (part : List ℕ) → Extends page now → (exact ≡ true → now ≡ page ++ part) → at (place_of all one) part
+    → Says exact (IsBegun header at all) text → Grows (Says exact (IsBegun header at (all ++ one ∷ []))) text page now
+reported true at header all one part extends written is says = record {
+  more = part;
+  grown = written refl;
+  says = (
+    says.0 ++ part,
+    rw says.1 (append_assoc header says.0 part),
+    rw (places-push all one) (one-more at (places all) (place_of all one) says.0 part is says.2),
+  );
+}
+reported false at header all one part extends written is says = record { more = extends.more; grown = extends.grown; says = tt }
+
+-- the last part
+pub concluded : (exact : Bool) (at : Place Explained → List ℕ → Type 0) (header last : List ℕ) (all : List Explained)
+    {text page now : List ℕ} (part : List ℕ) → Extends page now → (exact ≡ true → now ≡ page ++ part) → part ≡ last
+    → Says exact (IsBegun header at all) text → Grows (Says exact (IsEnded header at last all)) text page now
+concluded true at header last all {text} part extends written is says =
+    record { more = part; grown = written refl; says = (text, ap (λ (p : List ℕ). text ++ p) is, says) }
+concluded false at header last all part extends written is says = record { more = extends.more; grown = extends.grown; says = tt }

@@ -1,14 +1,10 @@
 -- The result of an explanation: as the audit's, or an error if no event was explained.
 use Rattle.std.specs.Prelude.{◌≡◌, ◌==◌, ◌≤◌, nat_le, ◌&&◌, ◌++◌, Ok, if◌then◌else◌}
 use Rattle.pie_explain.specs.Names.{ℕ, nat_lt, List, length, Bool, true, false, Option, Some, None, Result, Err, Appends, append_known, TraceFault, Line, Finding, AuditsFrom, AuditorView, count_after, Explained, Setter, Selection, is_whole, Start, Origin}
-use Rattle.pie_record.specs.Field.{is_io_or_memory}
-use Rattle.pie_audit.specs.declared.auditor.Finding.TheVariants.{Clean}
-use Rattle.pie_audit.specs.declared.replay.Replay.{Replay}
-use Rattle.pie_audit.specs.Replay.{Replays, finding_from}
-use Rattle.pie_explain.specs.declared.fault.ExplainFault.{ExplainFault}
-use Rattle.pie_explain.specs.declared.fault.ExplainFault.TheVariants.{Trace, Differs, Earlier, NoEvent, NoTag, NoneWithin}
-use Rattle.pie_explain.specs.declared.choice.EventChoice.{EventChoice}
-use Rattle.pie_explain.specs.declared.choice.EventChoice.TheVariants.{Number, Tag, Lost, Marked, All, After}
+use Rattle.pie_record.specs.{Field.is_io_or_memory, Text.Row}
+use Rattle.pie_audit.specs.declared.{auditor.Finding.TheVariants.Clean, replay.Replay.Replay}
+use Rattle.pie_audit.specs.{Replay.Replays, Replay.finding_from, Beginnings.TextProcessedBy}
+use Rattle.pie_explain.specs.declared.{fault.ExplainFault.ExplainFault, fault.ExplainFault.TheVariants.Trace, fault.ExplainFault.TheVariants.Differs, fault.ExplainFault.TheVariants.Earlier, fault.ExplainFault.TheVariants.NoEvent, fault.ExplainFault.TheVariants.NoTag, fault.ExplainFault.TheVariants.NoneWithin, choice.EventChoice.EventChoice, choice.EventChoice.TheVariants.Number, choice.EventChoice.TheVariants.Tag, choice.EventChoice.TheVariants.Lost, choice.EventChoice.TheVariants.Marked, choice.EventChoice.TheVariants.All, choice.EventChoice.TheVariants.After}
 use Rattle.pie_explain.specs.Explanations.{explanations_since}
 use Rattle.pie_audit.specs.declared.auditor.Finding.TheVariants as finding
 
@@ -89,3 +85,10 @@ IsExplanationText selection whole start origin lines text = whole (explanations_
 abbrev pub HasExplained : Selection → Start → Origin → List Line → Replay → ℕ → Type 0
 HasExplained selection start origin lines replay explained = (start.events ≡ replay.before) × AuditsFrom origin replay.auditor lines
     × (explained ≡ length (explanations_since start origin selection lines))
+
+-- the result is the first fault of the text's beginning. Otherwise result and explanations are those of the beginning's
+-- core for the lines, whatever numbers it has. If the text names the event that set the probability correctly, they are
+-- those of every history that the text continues, restricted to the events of the text
+abbrev pub ExplainsText : Selection → (List Explained → List ℕ → Type 0) → List Row → Result ℕ ExplainFault → Option (List ℕ) → Option (List ℕ) → Type 0
+ExplainsText selection whole rows result old now =
+    TextProcessedBy (λ why. Err (Trace why)) (answer_since selection) (IsExplanationText selection whole) rows result old now

@@ -2,14 +2,9 @@
 use Rattle.std.specs.Prelude.{ℕ, ◌==◌, nat_lt, Bool, true, false, Option, Some, None}
 use Rattle.std.specs.Option.{option_map_or}
 use Rattle.pie_queue.specs.declared.packet.Packet.{Packet}
-use Rattle.pie_event.specs.declared.command.Command.{Command}
-use Rattle.pie_event.specs.declared.command.Command.TheVariants.{Arrive}
-use Rattle.pie_event.specs.declared.command.Answer.{Answer}
-use Rattle.pie_event.specs.declared.command.Answer.TheVariants.{DroppedEarly, DroppedBytes, DroppedPackets, Left}
+use Rattle.pie_event.specs.declared.{command.Command.Command, command.Command.TheVariants.Arrive, command.Answer.Answer, command.Answer.TheVariants.DroppedEarly, command.Answer.TheVariants.DroppedBytes, command.Answer.TheVariants.DroppedPackets, command.Answer.TheVariants.Left, command.Event.Event}
 use Rattle.pie_event.specs.declared.command.Answer.TheVariants as answer
-use Rattle.pie_event.specs.declared.command.Event.{Event}
-use Rattle.pie_explain.specs.declared.choice.EventChoice.{EventChoice}
-use Rattle.pie_explain.specs.declared.choice.EventChoice.TheVariants.{Number, Tag, Lost, Marked, All, After}
+use Rattle.pie_explain.specs.declared.{choice.EventChoice.EventChoice, choice.EventChoice.TheVariants.Number, choice.EventChoice.TheVariants.Tag, choice.EventChoice.TheVariants.Lost, choice.EventChoice.TheVariants.Marked, choice.EventChoice.TheVariants.All, choice.EventChoice.TheVariants.After}
 
 -- the packet that left
 abbrev pub packet_left : Answer → Option Packet

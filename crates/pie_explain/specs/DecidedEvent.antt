@@ -1,32 +1,15 @@
 -- The decision of the rules at the place of an event, whatever a text records there.
 use Rattle.std.specs.Prelude.{ℕ, Bool, true, false, List, [], Option, Some, None, Result, Ok, Err, map, ◌≡◌, ◌+◌, ◌<◌, ◌∷◌, ◌++◌}
-use Rattle.pie_audit.specs.Replay.{AuditorView, difference_from, finding_from, events_of, Origin, at_core, at_opening, count_after, Replays, setter_in, Start, setter_from_start, start_after, start_at}
-use Rattle.pie_audit.specs.Beginnings.{BeginsBy}
-use Rattle.pie_audit.specs.Text.{BeginsAtCore, finding_at, text_fault, text_lines}
-use Rattle.pie_audit.specs.declared.auditor.Finding.{Finding}
-use Rattle.pie_audit.specs.declared.auditor.Finding.TheVariants.{Clean, Differs}
-use Rattle.pie_book.specs.Core.{CoreView, answer_in, core_along}
-use Rattle.pie_book.specs.Decision.{decision, refusal_by_rule, wait_of}
-use Rattle.pie_book.specs.Book.{refused_or, step_in}
+use Rattle.pie_audit.specs.{Replay.AuditorView, Replay.difference_from, Replay.finding_from, Replay.events_of, Replay.Origin, Replay.at_core, Replay.at_opening, Replay.count_after, Replay.Replays, Replay.setter_in, Replay.Start, Replay.setter_from_start, Replay.start_after, Replay.start_at, Beginnings.BeginsBy, Text.BeginsAtCore, Text.finding_at, Text.text_fault, Text.text_lines}
+use Rattle.pie_audit.specs.declared.{auditor.Finding.Finding, auditor.Finding.TheVariants.Clean, auditor.Finding.TheVariants.Differs}
+use Rattle.pie_book.specs.{Core.CoreView, Core.answer_in, Core.core_along, Decision.decision, Decision.refusal_by_rule, Decision.wait_of, Book.refused_or, Book.step_in}
 use Rattle.pie_event.specs.Event.{effect}
-use Rattle.pie_event.specs.declared.command.Answer.{Answer}
-use Rattle.pie_event.specs.declared.command.Command.{Command}
-use Rattle.pie_event.specs.declared.command.Event.{Event}
-use Rattle.pie_event.specs.declared.opening.Opening.{Opening}
-use Rattle.pie_event.specs.declared.refusal.Refusal.{Refusal}
-use Rattle.pie_event.specs.declared.command.Setter.{Setter}
+use Rattle.pie_event.specs.declared.{command.Answer.Answer, command.Command.Command, command.Event.Event, opening.Opening.Opening, refusal.Refusal.Refusal, command.Setter.Setter}
 use Rattle.pie_excerpt.specs.Beginning.{Beginning, beginning_of}
-use Rattle.pie_record.specs.Field.{is_io_or_memory}
-use Rattle.pie_record.specs.HistoryLines.{RemainingLines, is_event, latest_clock}
-use Rattle.pie_record.specs.Text.{Row}
-use Rattle.pie_record.specs.declared.clock.Clock.{Clock}
-use Rattle.pie_record.specs.declared.fault.TraceFault.{TraceFault}
-use Rattle.pie_record.specs.declared.history_record.Line.{Line}
-use Rattle.pie_record.specs.declared.history_record.Line.TheVariants.{Valid}
+use Rattle.pie_record.specs.{Field.is_io_or_memory, HistoryLines.RemainingLines, HistoryLines.is_event, HistoryLines.latest_clock, Text.Row}
+use Rattle.pie_record.specs.declared.{clock.Clock.Clock, fault.TraceFault.TraceFault, history_record.Line.Line, history_record.Line.TheVariants.Valid}
 use Rattle.pie_explain.specs.Explanation.{ended_after, explanation_after}
-use Rattle.pie_explain.specs.declared.decided_event.DecidedEvent.{DecidedEvent}
-use Rattle.pie_explain.specs.declared.decided_event.EventDecision.{EventDecision}
-use Rattle.pie_explain.specs.declared.decided_event.EventDecision.TheVariants.{Answered, OutOfRange, Refused}
+use Rattle.pie_explain.specs.declared.{decided_event.DecidedEvent.DecidedEvent, decided_event.EventDecision.EventDecision, decided_event.EventDecision.TheVariants.Answered, decided_event.EventDecision.TheVariants.OutOfRange, decided_event.EventDecision.TheVariants.Refused}
 
 -- the result of the rules for a command after these events: its refusal, otherwise its answer
 abbrev pub result_after : Origin → List Event → Command → Result Answer Refusal

@@ -2,17 +2,12 @@
 use Rattle.std.specs.Prelude.{ℕ, max, List, Option}
 use Rattle.pie_aqm.specs.Steps.{delay_in}
 use Rattle.pie_audit.specs.Replay.{Origin, at_core, at_opening}
-use Rattle.pie_book.specs.Core.{CoreView, cause_in, core_along, registers_of}
+use Rattle.pie_book.specs.{Core.CoreView, Core.cause_in, Core.core_along, Core.registers_of, History.effective_moment, History.waiting_after, Decision.delay_after, Decision.registers_after, Decision.count_of, Decision.wait_of, Decision.cause_after}
 use Rattle.pie_queue.specs.Queue.{bytes_of}
-use Rattle.pie_event.specs.declared.command.Event.{Event}
-use Rattle.pie_event.specs.declared.opening.Opening.{Opening}
+use Rattle.pie_event.specs.declared.{command.Event.Event, opening.Opening.Opening, command.Setter.Setter}
 use Rattle.pie_event.specs.Event.{effect_of, caller_moment, is_update}
-use Rattle.pie_book.specs.History.{effective_moment, waiting_after}
-use Rattle.pie_book.specs.Decision.{delay_after, registers_after, count_of, wait_of, cause_after}
 use Rattle.pie_record.specs.declared.clock.Clock.{Clock}
-use Rattle.pie_explain.specs.declared.explanation.Explained.{Explained}
-use Rattle.pie_explain.specs.declared.explanation.Explanation.{Explanation}
-use Rattle.pie_event.specs.declared.command.Setter.{Setter}
+use Rattle.pie_explain.specs.declared.{explanation.Explained.Explained, explanation.Explanation.Explanation}
 
 -- the effective moment of an event after a history
 abbrev pub moment_of : Opening → List Event → Event → ℕ

@@ -1,24 +1,18 @@
--- The CSV record of an explanation.
-use Rattle.std.specs.Prelude.{ℕ, Bool, true, false, List, [], ◌∷◌, ◌++◌, Option, Some, None, codes, option_map}
+-- The CSV record of an explanation, and the output of several.
+use Rattle.std.specs.Prelude.{ℕ, Bool, true, false, List, [], ◌∷◌, ◌++◌, Option, Some, None, codes, option_map, ◌≡◌, if◌then◌else◌}
 use Rattle.std.specs.Fmt.{decimal}
 use Rattle.pie_queue.specs.declared.packet.Packet.{Packet}
-use Rattle.pie_event.specs.declared.cause.Cause.{Cause}
-use Rattle.pie_event.specs.Cause.{name_of, word_of_cause}
-use Rattle.pie_event.specs.declared.command.Command.{Command}
-use Rattle.pie_event.specs.declared.command.Command.TheVariants.{Arrive, Depart, Update, Reset, SetParams}
-use Rattle.pie_event.specs.declared.command.Answer.{Answer}
-use Rattle.pie_event.specs.declared.command.Answer.TheVariants.{Enqueued, Marked, DroppedEarly, DroppedBytes, DroppedPackets, Empty, Left, Updated, Done}
-use Rattle.pie_event.specs.declared.registers.Registers.{Registers}
-use Rattle.pie_event.specs.Event.{caller_moment, setter_number}
+use Rattle.pie_event.specs.declared.{cause.Cause.Cause, command.Command.Command, command.Command.TheVariants.Arrive, command.Command.TheVariants.Depart, command.Command.TheVariants.Update, command.Command.TheVariants.Reset, command.Command.TheVariants.SetParams, command.Answer.Answer, command.Answer.TheVariants.Enqueued, command.Answer.TheVariants.Marked, command.Answer.TheVariants.DroppedEarly, command.Answer.TheVariants.DroppedBytes, command.Answer.TheVariants.DroppedPackets, command.Answer.TheVariants.Empty, command.Answer.TheVariants.Left, command.Answer.TheVariants.Updated, command.Answer.TheVariants.Done, registers.Registers.Registers}
+use Rattle.pie_event.specs.{Cause.name_of, Cause.word_of_cause, Event.caller_moment, Event.setter_number}
 use Rattle.pie_record.specs.declared.words.Kind.TheVariants as kind
-use Rattle.pie_record.specs.declared.words.AnswerKeyword.TheVariants as explanation_texts
+use Rattle.pie_record.specs.declared.words.AnswerKeyword.TheVariants as keyword
 use Rattle.pie_record.specs.Field.{ecn_word, word_of_kind, word_of_answer}
 use Rattle.pie_text.specs.Plain.{onto}
 use Rattle.pie_units.specs.Time.{utc_text}
-use Rattle.pie_explain.specs.declared.explanation.Explained.{Explained}
-use Rattle.pie_explain.specs.declared.explanation.Explanation.{Explanation}
+use Rattle.pie_explain.specs.declared.{explanation.Explained.Explained, explanation.Explanation.Explanation}
 use Rattle.pie_explain.specs.Selection.{time_of}
 use Rattle.pie_explain.specs.Choice.{packet_of}
+use Rattle.pie_explain.specs.Report.{IsBegun}
 
 -- ---- keywords
 
@@ -32,15 +26,15 @@ kind_word (SetParams moment params) = word_of_kind kind.Params
 
 -- the keyword of an answer, as in a history; the one for an update, for which a history has none, is this record's own
 abbrev pub verdict_word : Answer → List ℕ
-verdict_word Enqueued = word_of_answer explanation_texts.Enqueue
-verdict_word Marked = word_of_answer explanation_texts.Mark
-verdict_word DroppedEarly = word_of_answer explanation_texts.Early
-verdict_word DroppedBytes = word_of_answer explanation_texts.Bytes
-verdict_word DroppedPackets = word_of_answer explanation_texts.Packets
-verdict_word Empty = word_of_answer explanation_texts.Empty
-verdict_word (Left packet) = word_of_answer explanation_texts.Left
+verdict_word Enqueued = word_of_answer keyword.Enqueue
+verdict_word Marked = word_of_answer keyword.Mark
+verdict_word DroppedEarly = word_of_answer keyword.Early
+verdict_word DroppedBytes = word_of_answer keyword.Bytes
+verdict_word DroppedPackets = word_of_answer keyword.Packets
+verdict_word Empty = word_of_answer keyword.Empty
+verdict_word (Left packet) = word_of_answer keyword.Left
 verdict_word (Updated delay prob burst) = codes "updated"
-verdict_word Done = word_of_answer explanation_texts.Done
+verdict_word Done = word_of_answer keyword.Done
 
 -- the keyword of an arrival's cause; empty for another event
 abbrev pub cause_word : Option Cause → List ℕ
@@ -121,3 +115,21 @@ end_of true all = codes "," ++ wall_field (time_of all.explanation.clock all.exp
 -- the record of an explanation: none of its fields has a comma, a quote or a line's end in it
 unfoldable pub explanation_text : Bool → Explained → List ℕ
 explanation_text by_wall all = onto (most_fields all) (active_field all.after.active ++ end_of by_wall all)
+
+-- the names of the fields of a record
+abbrev pub field_names : List ℕ
+field_names =
+    codes "number,kind,caller,moment,effective_moment,tag,size,verdict,cause,bytes,packets,delay,probability,accumulated_probability,burst_allowance,"
+    ++ codes "ecn,word,waited,active,set_by,bytes_after,packets_after,delay_after,probability_after,accumulated_probability_after,"
+    ++ codes "burst_allowance_after,active_after"
+
+-- the header row of these names, with wall-clock times or without
+abbrev pub header_of : List ℕ → Bool → List ℕ
+header_of names by_wall = names ++ (if by_wall then codes ",wall\n" else codes "\n")
+
+unfoldable pub header : Bool → List ℕ
+header by_wall = header_of field_names by_wall
+
+-- a text is the header row, and the record of each of these events
+abbrev pub IsRecords : Bool → List Explained → List ℕ → Type 0
+IsRecords by_wall = IsBegun (header by_wall) (λ place text. text ≡ explanation_text by_wall place.event)

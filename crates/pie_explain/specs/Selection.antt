@@ -4,8 +4,7 @@ use Rattle.pie_event.specs.declared.command.Event.{Event}
 use Rattle.pie_record.specs.declared.clock.Clock.{Clock}
 use Rattle.pie_record.specs.Field.{unix_at}
 use Rattle.pie_explain.specs.declared.selection.Selection.{Selection}
-use Rattle.pie_units.specs.declared.utc.When.{When}
-use Rattle.pie_units.specs.declared.utc.When.TheVariants.{Moment, Unix}
+use Rattle.pie_units.specs.declared.{utc.When.When, utc.When.TheVariants.Moment, utc.When.TheVariants.Unix}
 use Rattle.pie_explain.specs.Choice.{chooses}
 
 -- the wall-clock time at a moment, by a clock record

@@ -1,13 +1,9 @@
 //! The decision of the rules on one event of a text, whatever the text records there.
 ghost use Rattle.std.specs.Prelude.{◌≡◌, ◌+◌, List, Option, IfOk, IfSome, true, false};
 ghost use Rattle.pie_book.specs.Core.{Represents, core_after};
-ghost use Rattle.pie_event.specs.declared.command.Event.{Event};
-ghost use Rattle.pie_event.specs.declared.opening.Opening.{Opening};
-ghost use Rattle.pie_record.specs.declared.fault.TraceFault.{TraceFault};
-ghost use Rattle.pie_record.specs.declared.history_record.Line.{Line};
-ghost use Rattle.pie_record.specs.HistoryLines.{is_event};
-ghost use Rattle.pie_record.specs.Text.{records_of};
-ghost use Rattle.pie_record.specs.declared.history_reader.ReaderState.TheVariants.{Going};
+ghost use Rattle.pie_event.specs.declared.{command.Event.Event, opening.Opening.Opening};
+ghost use Rattle.pie_record.specs.declared.{fault.TraceFault.TraceFault, history_record.Line.Line, history_reader.ReaderState.TheVariants.Going};
+ghost use Rattle.pie_record.specs.{HistoryLines.is_event, Text.records_of};
 ghost use Rattle.pie_audit.specs.Replay.{AuditsFrom, difference_from, Origin, RepresentsAfter, count_after, Replays, next_number, Start};
 ghost use Rattle.pie_explain.specs.DecidedEvent.{DecidesAfter, DecidesEvent, ReadsTo, decision_at, decision_by, result_after, wait_if_decided};
 

@@ -1,9 +1,7 @@
 //! The explanation of one event.
 ghost use Rattle.std.specs.Prelude.{◌≡◌, List};
-ghost use Rattle.pie_event.specs.declared.command.Event.{Event};
-ghost use Rattle.pie_event.specs.declared.opening.Opening.{Opening};
-ghost use Rattle.pie_book.specs.Core.{Represents, cause_in};
-ghost use Rattle.pie_book.specs.Decision.{cause_after, wait_of};
+ghost use Rattle.pie_event.specs.declared.{command.Event.Event, opening.Opening.Opening};
+ghost use Rattle.pie_book.specs.{Core.Represents, Decision.wait_of};
 ghost use Rattle.pie_event.specs.Event.{effect_of};
 ghost use Rattle.pie_explain.specs.Explanation.{moment_at, moment_of};
 
@@ -46,22 +44,6 @@ pub struct Explained {
     pub after: Registers,
     /// The queueing delay after it (RFC 8033, section 5.2).
     pub delay: u64,
-}
-
-/// Returns the cause that would decide the command now, if it is an arrival.
-#[inline(always)]
-fn cause_of(core: &Core, command: &Command) -> Option<Cause>
-    ensures after { (opening : Opening) (history : List Event) → Represents opening core.now history
-        → result ≡ cause_after opening history command.now }
-    ensures in_state { result ≡ cause_in core.now command.now }
-{
-    match command {
-        Command::Arrive { .. } => core.cause(command),
-        Command::Depart { .. }
-        | Command::Update { .. }
-        | Command::Reset { .. }
-        | Command::SetParams { .. } => None,
-    }
 }
 
 /// Returns the departing packet's time in the queue at the effective moment `now`, or 0 for any other event.
@@ -119,7 +101,7 @@ impl Explained {
             moment: now,
             before,
             delay: core.delay(),
-            cause: cause_of(core, &event.command),
+            cause: core.cause(&event.command),
             waited: waited(core, event, now),
             set_by,
             updates: core.stats().updates,

@@ -1,7 +1,6 @@
 //! The law of excerpts: their explanations are those of the whole history.
 ghost use Rattle.std.specs.Prelude.{◌≡◌, ◌++◌, map};
-ghost use Rattle.pie_explain.specs.{List, Option, length, true, false, Event, Opening, Line, Valid, TraceFault, Start, from_opening, at_opening};
-ghost use Rattle.pie_explain.specs.{IsAsAudited, answer_since, explanations, with_known_setter, explanations_since};
+ghost use Rattle.pie_explain.specs.{List, Option, length, true, false, Event, Opening, Line, Valid, TraceFault, Start, from_opening, at_opening, IsAsAudited, answer_since, explanations, with_known_setter, explanations_since};
 ghost use Rattle.pie_explain.specs.Names.{Selection};
 ghost use Rattle.pie_audit.specs.Text.{judged};
 

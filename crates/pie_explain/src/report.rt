@@ -1,8 +1,7 @@
 //! The interface of reports about explained events.
 ghost use Rattle.std.specs.Prelude.{◌≡◌, ◌++◌, ◌∷◌, [], ℕ, List, IfOk, OnOk, if◌then◌else◌};
 ghost use Rattle.pie_explain.specs.declared.explanation.Explained.{Explained};
-ghost use Rattle.pie_explain.specs.Output.{header_of};
-ghost use Rattle.pie_explain.specs.Report.{Extends, Grows};
+ghost use Rattle.pie_explain.specs.{Record.header_of, Report.Extends, Report.Grows};
 
 use crate::explanation::Explained;
 use crate::form::Form;
@@ -66,7 +65,7 @@ fn push_names(page: &mut Page, names: &str, end: &str) -> Written
 /// # Errors
 ///
 /// Returns `AllocError` if memory is short.
-pub fn push_header(page: &mut Page, names: &str, form: Form) -> Result<(), AllocError>
+pub(crate) fn push_header(page: &mut Page, names: &str, form: Form) -> Result<(), AllocError>
     ensures { OnOk result (page.new ≡ page.old ++ (if form.csv then header_of names.now form.by_wall else [])) }
 {
     match (form.csv, form.by_wall) {
@@ -112,7 +111,7 @@ impl Report for EventRecords {
     type State = RecordWriter;
 
     ghost use Rattle.std.specs.Prelude.{⊤};
-    ghost use Rattle.pie_explain.specs.Output.{IsRecords};
+    ghost use Rattle.pie_explain.specs.Record.{IsRecords};
 
     ghost shows = { λ it state all. ⊤ };
 
@@ -132,7 +131,7 @@ impl Report for EventRecords {
     }
 
     #[inline(always)]
-    #[tactic(auto, using(crate::proofs::RecordFacts::pages_reported), unfolding(crate::specs::Record::explanation_text))]
+    #[tactic(auto, using(crate::proofs::RecordFacts::record_reported), unfolding(crate::specs::Record::explanation_text))]
     fn report_event(
         &self,
         state: &mut RecordWriter,
@@ -161,7 +160,7 @@ impl Report for Words {
 
     #[inline(always)]
     fn is_by_kind(&self) -> bool {
-        true
+        false
     }
 
     #[tactic(auto, using(crate::proofs::ReportFacts::ended))]

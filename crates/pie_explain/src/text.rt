@@ -32,59 +32,49 @@ fn verdict_text(answer: Answer) -> &'static str {
     }
 }
 
-/// Writes the beginning of the first line of a packet's event.
-fn push_packet(page: &mut String, number: u64, packet: Packet) -> Written {
-    let (number, ecn) = (Digits(number), ecn_name(packet.ecn));
+/// Writes the packet of an event.
+fn push_packet(page: &mut String, packet: Packet) -> Written {
     let (tag, size) = (Digits(packet.tag), Digits(u64::from(packet.size)));
-    write!(page, "event {number}: packet {tag}, {size} bytes, {ecn}: ")
+    let ecn = ecn_name(packet.ecn);
+    write!(page, "packet {tag}, {size} bytes, {ecn}: ")
 }
 
-/// Writes the first line of an event without a packet, with `rest` after the number.
-fn push_event(page: &mut String, number: u64, rest: &str) -> Written {
-    write!(page, "event {number}{rest}")
-}
-
-/// Writes the first lines of an update.
-fn push_update(page: &mut String, number: u64, active: bool, answer: Answer) -> Written {
-    if !active {
-        return push_event(
-            page,
-            number,
-            ": an update\n  the controller is turned off: the update takes no delay, and makes no probability\n",
-        );
-    }
-    match answer {
-        Answer::Updated { delay, prob, burst } => {
+/// Writes an update, and its results if the controller was `active`.
+fn push_update(page: &mut String, active: bool, answer: Answer) -> Written {
+    match (active, answer) {
+        (false, _) => page.push_str(
+            "an update\n  the controller is turned off: the update takes no delay, and makes no probability\n",
+        ),
+        (true, Answer::Updated { delay, prob, burst }) => {
             let (delay, prob, burst) = (Millis(delay), PerCent(prob), Millis(burst));
             write!(
                 page,
-                "event {number}: an update\n  it took a delay of {delay}, and made the probability {prob}\n  and the burst allowance {burst}\n"
+                "an update\n  it took a delay of {delay}, and made the probability {prob}\n  and the burst allowance {burst}\n"
             )
         }
-        _ => push_event(page, number, ": an update\n"),
+        (true, _) => page.push_str("an update\n"),
     }
 }
 
 /// Writes the first lines: the event and its outcome.
 fn push_effect(page: &mut String, explanation: &Explanation) -> Written {
-    let (number, answer) = (explanation.number, explanation.event.answer);
-    match explanation.event.command {
-        Command::Arrive { packet, .. } => {
-            push_packet(page, number, packet)?;
+    let (number, answer) = (Digits(explanation.number), explanation.event.answer);
+    write!(page, "event {number}: ")?;
+    match (explanation.event.command, answer) {
+        (Command::Arrive { packet, .. }, _) => {
+            push_packet(page, packet)?;
             let verdict = verdict_text(answer);
             write!(page, "{verdict}\n")
         }
-        Command::Depart { .. } => match answer {
-            Answer::Left(packet) => {
-                let waited = Millis(explanation.waited);
-                push_packet(page, number, packet)?;
-                write!(page, "left\n  it had waited {waited}\n")
-            }
-            _ => push_event(page, number, ": no packet was there to leave\n"),
-        },
-        Command::Update { .. } => push_update(page, number, explanation.before.active, answer),
-        Command::Reset { .. } => push_event(page, number, ": a reset\n"),
-        Command::SetParams { .. } => push_event(page, number, ": new parameters\n"),
+        (Command::Depart { .. }, Answer::Left(packet)) => {
+            push_packet(page, packet)?;
+            let waited = Millis(explanation.waited);
+            write!(page, "left\n  it had waited {waited}\n")
+        }
+        (Command::Depart { .. }, _) => page.push_str("no packet was there to leave\n"),
+        (Command::Update { .. }, _) => push_update(page, explanation.before.active, answer),
+        (Command::Reset { .. }, _) => page.push_str("a reset\n"),
+        (Command::SetParams { .. }, _) => page.push_str("new parameters\n"),
     }
 }
 
@@ -132,32 +122,6 @@ fn push_sum(page: &mut String, prob: u64, accu: u64, counted: u64) -> Written {
     )
 }
 
-/// Writes the accumulated probability, or, if it is 0, the scaled probability alone.
-fn push_accumulated(page: &mut String, prob: u64, accu: u64, counted: u64) -> Written {
-    if accu == 0 {
-        return push_scaled(page, prob, counted);
-    }
-    push_sum(page, prob, accu, counted)?;
-    page.push_str("\n")
-}
-
-/// Returns the name of the number that the random word is compared with.
-fn counted_name(prob: u64, counted: u64) -> &'static str {
-    if counted == prob {
-        "the probability"
-    } else {
-        "the scaled probability"
-    }
-}
-
-/// Writes the reason why the arrival could not be picked: the probability is 0, or its scaled value is 0.
-fn push_never(page: &mut String, prob: u64) -> Written {
-    if prob == 0 {
-        return write!(page, "  the probability is 0\n");
-    }
-    push_scaled(page, prob, 0)
-}
-
 /// Writes the cause of an arrival at this probability.
 fn push_cause(page: &mut String, shown: u64, cause: Cause) -> Written {
     match cause {
@@ -191,15 +155,14 @@ fn push_cause(page: &mut String, shown: u64, cause: Cause) -> Written {
                 "  the queue is short: {bytes} bytes, at most two mean packets ({two_packets} bytes)\n"
             )
         }
-        Cause::NoProbability => push_never(page, shown),
+        Cause::NoProbability => {
+            if shown == 0 {
+                return page.push_str("  the probability is 0\n");
+            }
+            push_scaled(page, shown, 0)
+        }
         _ => push_considered(page, shown, cause),
     }
-}
-
-/// Writes the accumulated probability and `against`, the bound that it is compared with.
-fn push_against(page: &mut String, shown: u64, accu: u64, prob: u64, against: &str) -> Written {
-    push_sum(page, shown, accu, prob)?;
-    page.push_str(against)
 }
 
 /// Writes the accumulated probability, unless it is 0, and the comparison of the random word with the scaled
@@ -213,8 +176,18 @@ fn push_compared(
     outcome: &str,
     compares: &str,
 ) -> Written {
-    push_accumulated(page, shown, accu, prob)?;
-    let (name, word, prob) = (counted_name(shown, prob), Word(word), PerCent(prob));
+    if accu == 0 {
+        push_scaled(page, shown, prob)?;
+    } else {
+        push_sum(page, shown, accu, prob)?;
+        page.push_str("\n")?;
+    }
+    let name = if prob == shown {
+        "the probability"
+    } else {
+        "the scaled probability"
+    };
+    let (word, prob) = (Word(word), PerCent(prob));
     write!(
         page,
         "  {outcome}: its random word, {word}, {compares} {name}, {prob}\n"
@@ -225,10 +198,12 @@ fn push_compared(
 fn push_considered(page: &mut String, shown: u64, cause: Cause) -> Written {
     match cause {
         Cause::LittleAccumulated { accu, prob } => {
-            push_against(page, shown, accu, prob, ", below 85 %\n")
+            push_sum(page, shown, accu, prob)?;
+            page.push_str(", below 85 %\n")
         }
         Cause::PickedBySum { accu, prob, fate } => {
-            push_against(page, shown, accu, prob, ", at least 850 %\n")?;
+            push_sum(page, shown, accu, prob)?;
+            page.push_str(", at least 850 %\n")?;
             push_fate(page, fate)
         }
         Cause::PickedByWord {
@@ -247,42 +222,28 @@ fn push_considered(page: &mut String, shown: u64, cause: Cause) -> Written {
     }
 }
 
-/// Returns the moment before which no packet is marked or dropped early while the parameters are unchanged, with this
-/// burst allowance left. A reset or a calm update leaves at most `max_burst` of it.
-fn burst_end(before: &Registers, burst: u64) -> u64 {
-    let lasts = burst.min(before.params.max_burst().units());
-    before.last.saturating_add(lasts)
-}
-
-/// Writes this moment, unless it is not after the arrival at `now`.
-fn push_burst_end(
-    page: &mut String,
-    clock: Option<Clock>,
-    now: u64,
-    before: &Registers,
-    burst: u64,
-) -> Written {
-    let moment = burst_end(before, burst);
-    if now < moment {
-        let end = MomentWords { clock, moment };
-        return write!(
-            page,
-            "  with unchanged parameters nothing is marked or dropped early before {end}\n"
-        );
-    }
-    Ok(())
-}
-
-/// Writes the duration of the cause of an arrival at `now`, if a bound is known.
+/// Writes the duration of the cause of an arrival, if a bound is known. While the parameters are unchanged, a reset or a calm update leaves at most
+/// `max_burst` of the burst allowance.
 fn push_lasting(
     page: &mut String,
     clock: Option<Clock>,
-    now: u64,
-    before: &Registers,
+    explanation: &Explanation,
     cause: Cause,
 ) -> Written {
+    let before = &explanation.before;
     match cause {
-        Cause::BurstAllowed { burst } => push_burst_end(page, clock, now, before, burst),
+        Cause::BurstAllowed { burst } => {
+            let lasts = burst.min(before.params.max_burst().units());
+            let moment = before.last.saturating_add(lasts);
+            if moment <= explanation.moment {
+                return Ok(());
+            }
+            let end = MomentWords { clock, moment };
+            write!(
+                page,
+                "  with unchanged parameters nothing is marked or dropped early before {end}\n"
+            )
+        }
         Cause::LittleAccumulated { prob, .. } => {
             let many = 849_999_999_999 / prob.max(1) + 1;
             write!(
@@ -291,23 +252,6 @@ fn push_lasting(
             )
         }
         _ => Ok(()),
-    }
-}
-
-/// Writes the cause of an arrival at `now` and its duration. For any other event it writes nothing.
-fn push_reason(
-    page: &mut String,
-    clock: Option<Clock>,
-    now: u64,
-    before: &Registers,
-    cause: Option<Cause>,
-) -> Written {
-    match cause {
-        Some(cause) => {
-            push_cause(page, before.prob, cause)?;
-            push_lasting(page, clock, now, before, cause)
-        }
-        None => Ok(()),
     }
 }
 
@@ -322,18 +266,6 @@ fn push_setter(page: &mut String, set_by: Setter, before: &Registers) -> Written
         }
         Setter::Unknown => write!(page, "  probability {prob}, set before this text begins;"),
     }
-}
-
-/// Writes the moment of the last update, unless there was none.
-fn push_last(page: &mut String, clock: Option<Clock>, updates: u64, last: u64) -> Written {
-    if updates == 0 {
-        return write!(page, " no update so far;");
-    }
-    let last = MomentWords {
-        clock,
-        moment: last,
-    };
-    write!(page, " last update at {last};")
 }
 
 /// Returns a line if the event turned the controller on or off, otherwise the empty text.
@@ -355,20 +287,27 @@ fn push_before(page: &mut String, clock: Option<Clock>, explanation: &Explanatio
         "  before it: {packets} packets, {bytes} bytes, a delay of {delay}\n"
     )?;
     push_setter(page, explanation.set_by, before)?;
-    push_last(page, clock, explanation.updates, before.last)?;
+    let moment = before.last;
+    let last = MomentWords { clock, moment };
+    if explanation.updates == 0 {
+        page.push_str(" no update so far;")?;
+    } else {
+        write!(page, " last update at {last};")?;
+    }
     write!(page, " burst allowance {burst}\n")
 }
 
 /// Writes an explanation in words. With a `clock` its moments are written as wall-clock times.
 pub(crate) fn push_text(page: &mut String, clock: Option<Clock>, all: &Explained) -> Written {
     let explanation = &all.explanation;
-    let (event, was_active) = (&explanation.event, explanation.before.active);
-    let caller = event.caller;
-    let moment = explanation.moment;
+    let (caller, moment) = (explanation.event.caller, explanation.moment);
     let now = MomentWords { clock, moment };
     push_effect(page, explanation)?;
     write!(page, "  at {now}, by caller {caller}\n")?;
-    push_reason(page, clock, moment, &explanation.before, explanation.cause)?;
-    page.push_str(turned_text(was_active, all.after.active))?;
+    if let Some(cause) = explanation.cause {
+        push_cause(page, explanation.before.prob, cause)?;
+        push_lasting(page, clock, explanation, cause)?;
+    }
+    page.push_str(turned_text(explanation.before.active, all.after.active))?;
     push_before(page, clock, explanation)
 }

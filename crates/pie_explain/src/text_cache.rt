@@ -1,8 +1,7 @@
 //! The text of a controller's numbers, which often stay as they are from one event to the next: what did not change is not written a second time.
-ghost use Rattle.std.specs.Prelude.{◌≡◌, ◌≤◌, ◌-◌, [], drop, length};
+ghost use Rattle.std.specs.Prelude.{◌≡◌, ◌≤◌, ◌-◌, [], drop, length, true};
 ghost use Rattle.pie_explain.specs.Record.{register_fields, steady_fields};
 ghost use Rattle.pie_text.specs.Plain.{onto};
-ghost use Rattle.std.specs.Prelude.{true};
 
 use pie_book::Registers;
 use pie_text::RowBuffer;

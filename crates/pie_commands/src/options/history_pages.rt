@@ -114,14 +114,15 @@ A summary covers the events before the first fault and the first event that diff
 With --every there is one line for each interval with a selected event: with 100ms, one for the
 events before 100 ms, one for those from 100 ms to before 200 ms, and so on. A header comes first,
 and again after each 40 lines on a terminal. The columns are:
-- time: the start of the interval; with --wall the time in UTC of its first event with a known time;
+- time: the start of the interval, in seconds or milliseconds, as the header says; with --wall the
+  time in UTC of its first event with a known time;
 - arrived, marks, early, tail: arrivals, marked packets, packets dropped early, packets without room;
 - mean, 99th: the mean wait of the packets that departed, and the wait that 99 of 100 did not exceed;
 - delay, prob: the delay of the last update, and the probability after the last event;
 - bytes: the bytes of the packets that departed.
-Times are in milliseconds, rounded down to microseconds. A dash replaces a wait without a departure,
-and a delay without an update. With --full there is a summary of several lines for each interval.
-With --csv there is a header, and one record for each summary.
+Waits and delays are in milliseconds, rounded down to microseconds. A dash replaces a wait without a
+departure, and a delay without an update. With --full there is a summary of several lines for each
+interval. With --csv there is a header, and one record for each summary.
 
 With --flows N there is a summary of each of the N flows with the most bytes that arrived, and one
 of all other flows together, for the history or for each interval. It has the arrivals, their

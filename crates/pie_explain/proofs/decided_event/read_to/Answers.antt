@@ -3,8 +3,7 @@ use Rattle.pie_explain.proofs.Names.{reads-more}
 use Rattle.pie_audit.specs.Replay.{AuditsFrom, difference_from, Origin, count_after, next_number}
 use Rattle.pie_record.specs.HistoryLines.{is_event}
 use Rattle.pie_record.specs.declared.history_record.Line.{Line}
-use Rattle.pie_explain.proofs.DecidedFacts.{not-here, still-past}
-use Rattle.pie_explain.proofs.decided_event.read_to.Goals.{else-is_event-via-then-is_event+else-is_next, else-is_event-via-else-is_event}
+use Rattle.pie_explain.proofs.{DecidedFacts.not-here, DecidedFacts.still-past, decided_event.read_to.Goals.else-is_event-via-then-is_event+else-is_next, decided_event.read_to.Goals.else-is_event-via-else-is_event}
 use Rattle.pie_explain.proofs.decided_event.read_to.Goals as goal
 
 pub lines-preserved : goal.lines-preserved

@@ -1,5 +1,4 @@
-use Rattle.pie_explain.proofs.Names.{processed-failed, processed-fault, processed-visited}
-use Rattle.pie_explain.proofs.Names.{HasExplained, IsExplanationText, Line, List, answer_since, refl, sym, traced, ◌++◌, ◌∙◌}
+use Rattle.pie_explain.proofs.Names.{processed-failed, processed-fault, processed-visited, HasExplained, IsExplanationText, Line, List, answer_since, refl, sym, traced, ◌++◌, ◌∙◌}
 use Rattle.pie_explain.specs.Report.{Receives}
 use Rattle.pie_explain.proofs.explainer.Explainer.explain_from.Goals as goal
 

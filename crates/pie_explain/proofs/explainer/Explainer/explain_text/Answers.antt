@@ -1,6 +1,5 @@
 use Rattle.std.proofs.lemmas.Option.{IfSome_then}
-use Rattle.pie_explain.proofs.Names.{begun-fails, processed-text}
-use Rattle.pie_explain.proofs.Names.{refl}
+use Rattle.pie_explain.proofs.Names.{begun-fails, processed-text, refl}
 use Rattle.pie_explain.proofs.explainer.Explainer.explain_text.Goals as goal
 
 pub returns-in-Ok : goal.returns-in-Ok

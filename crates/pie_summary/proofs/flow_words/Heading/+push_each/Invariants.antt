@@ -1,5 +1,0 @@
-use Rattle.pie_summary.proofs.Names.{length}
-use Rattle.pie_summary.proofs.flow_words.Heading.+push_each.Given as goal
-
-abbrev pub decreases-push_each : goal.decreases-push_each
-decreases-push_each l = length l.flows.now

@@ -1,4 +1,0 @@
-use Rattle.pie_summary.proofs.ranges.+range_within.Given as goal
-
-abbrev pub decreases-range_within : goal.decreases-range_within
-decreases-range_within l = l.digits

@@ -59,9 +59,9 @@ PROGRAMS = {"pie"}
 WHOLE = {"pie_c", "pie_link_c", *PROGRAMS}
 PARTS = {"x86_64": WHOLE, "aarch64": WHOLE, "riscv64": WHOLE, "armv7": {"pie_c"}, "mipsel": {"pie_c"}}
 
-# functions that call themselves, and the greatest depth: a row of 512 bytes has room for 24 numbers (crates/pie_text/src/words.rt), and one of 1280 bytes
-# for 60 (crates/pie_text/src/long_row.rt); an interval has 9 answers (crates/pie_explain/src/summary_record.rt)
-ROUNDS = {"pie_text::words::put_numbers": 25, "pie_text::long_row::push_numbers": 61, "pie_explain::summary_record::together": 10}
+# functions that call themselves, and the greatest depth: a row of 512 bytes has room for 24 numbers (crates/pie_record/src/put_field.rt), and one of 1280 bytes
+# for 60 (crates/pie_record/src/long_row.rt); an interval has 9 answers (crates/pie_explain/src/summary_record.rt)
+ROUNDS = {"pie_record::put_field::put_numbers": 25, "pie_record::long_row::push_numbers": 61, "pie_explain::summary_record::together": 10}
 # (with plain names, as in the assembly for MIPS)
 ROUNDS |= {re.sub(r"\W", "_", name): rounds for name, rounds in ROUNDS.items()}
 

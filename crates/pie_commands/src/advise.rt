@@ -8,7 +8,7 @@ use crate::end::{End, end_failed, end_of_page, end_unable};
 use crate::options::{flag, parsed, text};
 use crate::params::overhead_in;
 use clap::ArgMatches;
-use pie_text::Page;
+use pie_record::Page;
 use pie_units::advising::{Range, Request, advice_for, opening_for_link, push_advice, range_in};
 use pie_units::{Quantity, rate_of};
 use std::io::Write;

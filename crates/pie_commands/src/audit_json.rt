@@ -6,7 +6,7 @@ use crate::json::write_string;
 use pie_audit::Finding;
 use pie_cut::Joint;
 use pie_linux_history::{StepDifference, StepsFinding};
-use pie_text::RowBuffer;
+use pie_record::RowBuffer;
 use std::alloc::Global;
 use std::io;
 use std::io::Write;

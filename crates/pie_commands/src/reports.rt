@@ -3,7 +3,7 @@ ghost use Rattle.either.specs.Either.{IsLeftAnd, IsRightAnd, MatchEither};
 
 use either::{Either, Left, Right};
 use pie_explain::{ByFlow, Digest, Explained, Report, Words};
-use pie_text::Page;
+use pie_record::Page;
 use std::alloc::AllocError;
 
 /// One of two reports.

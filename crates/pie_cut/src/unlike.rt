@@ -5,7 +5,7 @@ use crate::snapshot_equality::UnlikeRecord;
 use pie_book::{Core, CoreSnapshot, Opening};
 use pie_excerpt::{make_resume, put_queued};
 use pie_queue::Waiting;
-use pie_text::{LongRow, RowBuffer};
+use pie_record::{LongRow, RowBuffer};
 
 /// The first record of the end of a text that differs from the record of the next text's beginning, and that record
 /// (this project's own). The end is written as a beginning: a record `resume`, and a record `queued` for each packet.

@@ -11,7 +11,7 @@ pub use Rattle.pie_rate.specs.declared.{raw.RawCycle.RawCycle, raw.RawRate.RawRa
 pub use Rattle.pie_record.specs.{Command.counted, Command.flag, Field.IsOfInput, Field.IsWriteOrMemory, Field.fault_at, Field.is_io_or_memory, Field.and_then, Field.is_kind, Field.most_u128, Field.most_u64, Field.number_at, FirstRecord.checked_opening, ReadBack.AllSmall, ReadBack.LimitsFit, ReadBack.NineFit, Text.HasField, Text.Row, Text.records_of, Text.rows_setup, Text.text_of, Field.ecn_word, Field.mode_word, Write.chosen_row, Write.decay_row, Write.event_row, Write.nine_of}
 pub use Rattle.pie_record.specs.declared.version.{Version.Version, Version.TheVariants.Three}
 pub use Rattle.pie_record.specs.declared.{fault.RecordFault.RecordFault, fault.TraceFault.TraceFault, first_record.Draft.Draft}
-pub use Rattle.pie_text.specs.Plain.{are_plain, onto}
+pub use Rattle.pie_record.specs.Plain.{are_plain, onto}
 pub use Rattle.std.specs.{Fmt.decimal, Io.KnownBytes.Appends, Io.KnownBytes.append_known, Option.ok_or, Option.option_and_then}
 pub use Rattle.std.specs.Prelude.{All, Bool, Err, IfErr, IfOk, IfSome, List, None, Ok, OnOk, Option, Result, Some, [], codes, false, get_or, length, map, nat_le, option_map, suc, take, true, zero, ℕ, ⊤}
 unfoldable pub use Rattle.csv.specs.Records.{field_at}

@@ -3,7 +3,7 @@ use Rattle.std.proofs.Common.{Bool, List, [], ap, append_assoc, arith, codes, dr
 use Rattle.pie_explain.specs.declared.explanation.Explained.{Explained}
 use Rattle.pie_explain.specs.{Record.active_field, Record.explanation_text, Record.most_fields, Record.IsRecords, Record.header, Report.Grows}
 use Rattle.pie_explain.proofs.ReportFacts.{reported}
-use Rattle.pie_text.specs.Plain.{onto}
+use Rattle.pie_record.specs.Plain.{onto}
 use Rattle.std.proofs.lemmas.List.{drop_at}
 
 -- ==== A record is put together

@@ -7,7 +7,7 @@ use Rattle.pie_event.specs.{Cause.name_of, Cause.word_of_cause, Event.caller_mom
 use Rattle.pie_record.specs.declared.words.Kind.TheVariants as kind
 use Rattle.pie_record.specs.declared.words.AnswerKeyword.TheVariants as keyword
 use Rattle.pie_record.specs.Field.{ecn_word, word_of_kind, word_of_answer}
-use Rattle.pie_text.specs.Plain.{onto}
+use Rattle.pie_record.specs.Plain.{onto}
 use Rattle.pie_units.specs.Time.{utc_text}
 use Rattle.pie_explain.specs.declared.{explanation.Explained.Explained, explanation.Explanation.Explanation}
 use Rattle.pie_explain.specs.Selection.{time_of}

@@ -1,7 +1,7 @@
 -- A summary as a CSV record.
 use Rattle.std.specs.Prelude.{ℕ, ◌-◌, ◌/◌, ◌==◌, if◌then◌else◌, Bool, true, false, List, [], ◌∷◌, ◌++◌, map, slice_index, take, codes}
 use Rattle.std.specs.{Fmt.decimal, List.sum}
-use Rattle.pie_text.specs.Plain.{onto}
+use Rattle.pie_record.specs.Plain.{onto}
 use Rattle.pie_units.specs.Time.{utc_text}
 use Rattle.pie_explain.specs.declared.meter.Meter.{Meter}
 use Rattle.pie_explain.specs.Aggregates.{kept, mean_in, sum_in}

@@ -11,7 +11,7 @@ use crate::report::push_header;
 use crate::summary_words::Written;
 use crate::{Explained, Form, Report, time_of};
 use indexmap::IndexMap;
-use pie_text::Page;
+use pie_record::Page;
 use std::alloc::{AllocError, Global};
 
 /// Sums of the explained events by flow: the arrivals, their verdicts and the waiting times, for each of the flows with the most bytes, and for all

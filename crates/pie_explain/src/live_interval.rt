@@ -9,8 +9,7 @@ use crate::meter_input::MeterInput;
 use crate::ranges::{RANGES, clear_counts, count_some};
 use crate::summary_record::{NAMES, push_record};
 use crate::time_of;
-use pie_record::Clock;
-use pie_text::LongRow;
+use pie_record::{Clock, LongRow};
 
 /// The numbers of the last events, as far back as they are in the same interval, as `pie explain --every` sums them up.
 #[repr(C)]

@@ -7,8 +7,7 @@ use crate::explanation::Explained;
 use crate::form::Form;
 use crate::record::{NAMES, RecordWriter};
 use crate::text::{Written, push_text};
-use pie_record::Clock;
-use pie_text::Page;
+use pie_record::{Clock, Page};
 use std::alloc::AllocError;
 
 /// A report about explained events, one after another.

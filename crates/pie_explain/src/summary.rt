@@ -10,7 +10,7 @@ use crate::report::push_header;
 use crate::summary_record::{NAMES, push_record};
 use crate::summary_words::{Written, push_words};
 use crate::{EventChoice, Explained, Form, Report};
-use pie_text::{LongRow, Page};
+use pie_record::{LongRow, Page};
 use std::alloc::AllocError;
 
 /// Summaries of the explained events: the number of arrivals by verdict and by cause, the waiting times, the numbers of the updates, and the changes

@@ -1,10 +1,10 @@
 //! The text of a controller's numbers, which often stay as they are from one event to the next: what did not change is not written a second time.
 ghost use Rattle.std.specs.Prelude.{◌≡◌, ◌≤◌, ◌-◌, [], drop, length, true};
 ghost use Rattle.pie_explain.specs.Record.{register_fields, steady_fields};
-ghost use Rattle.pie_text.specs.Plain.{onto};
+ghost use Rattle.pie_record.specs.Plain.{onto};
 
 use pie_book::Registers;
-use pie_text::RowBuffer;
+use pie_record::RowBuffer;
 use std::marker::Model;
 
 /// The probabilities and the burst allowance that were put last, and the length of their text as fields of a row, each with a comma after it.
@@ -57,7 +57,7 @@ pub(crate) struct Held {
 impl Model for Held {
     ghost use Rattle.std.specs.Prelude.{ℕ, ◌≡◌, ◌≤◌, ◌∷◌, List, [], length, decimal};
     ghost use Rattle.pie_explain.specs.Record.{steady_fields};
-    ghost use Rattle.pie_text.specs.Plain.{onto};
+    ghost use Rattle.pie_record.specs.Plain.{onto};
 
     ghost Value = { List ℕ };
 

@@ -4,7 +4,7 @@
 use pie_book::{Answer, Command, Event, Opening};
 use pie_explain::{EventChoice, EventRecords, ExplainFault, Explained, Report, Selection, explain};
 use pie_params::{Elements, Params};
-use pie_text::Page;
+use pie_record::Page;
 use pie_trace::{TraceFault, migrate, run_trace, run_trace_within, write_history};
 use pie_units::{opening_for, write_opening};
 use std::alloc::{AllocError, Global};

@@ -15,8 +15,7 @@ use crate::queues::StepDifference;
 use crate::steps::{DecidedSteps, NextStep};
 use crate::text::StepsFinding;
 use pie_explain::{EventChoice, Explained, Report, Selection, is_from, is_to};
-use pie_record::TraceFault;
-use pie_text::Page;
+use pie_record::{Page, TraceFault};
 use std::alloc::{AllocError, Global};
 use std::io::{Read, Write};
 

@@ -4,3 +4,4 @@ pub mod InputFacts
 mod HistoryFacts
 pub mod ReadBack
 mod ExamplesLines
+pub mod TextFacts

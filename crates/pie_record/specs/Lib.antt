@@ -7,6 +7,7 @@ pub mod Command
 pub mod FirstRecord
 pub mod HistoryLines
 pub mod Write
+pub mod Plain
 pub mod ReadBack
 unfoldable pub use Names.*
 unfoldable pub use Field.*
@@ -16,4 +17,5 @@ unfoldable pub use Command.*
 unfoldable pub use FirstRecord.*
 unfoldable pub use HistoryLines.*
 unfoldable pub use Write.*
+unfoldable pub use Plain.*
 unfoldable pub use ReadBack.*

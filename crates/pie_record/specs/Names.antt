@@ -31,3 +31,8 @@ pub use Rattle.pie_params.specs.declared.elements.Size.TheVariants.{Scaled, Unsc
 pub use Rattle.pie_params.specs.declared.elements.Step.TheVariants.{Capped, Uncapped}
 pub use Rattle.pie_record.specs.declared.{clock.Clock.Clock, command.CommandFields.CommandFields, command.BadChange.BadChange, command.CommandKind.CommandKind, fault.RecordFault.RecordFault, fault.TraceFault.TraceFault, first_record.Draft.Draft, first_record.FirstKind.FirstKind, history_record.Line.Line, trace_record.Request.Request, version.Version.Version}
 pub use Rattle.pie_record.specs.declared.version.Version.TheVariants.{One, Three, Two}
+pub use Rattle.std.specs.Prelude.{◌*◌, ◌≢◌}
+pub use Rattle.csv.specs.Writing.{field_text, needs_byte}
+pub use Rattle.pie_event.specs.Cause.{answer_of}
+pub use Rattle.pie_event.specs.declared.{command.Verdict.Verdict}
+pub use Rattle.pie_record.specs.declared.history_record.Line.TheVariants.{Valid}

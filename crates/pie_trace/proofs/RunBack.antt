@@ -6,7 +6,7 @@ use Rattle.pie_event.specs.Event.{CommandFits, ParamsFit}
 use Rattle.pie_excerpt.specs.{Beginning.IsWellBegun, Beginning.Continues, Preamble.resume_of, Preamble.queued_row, declared.resume.Resume.Resume}
 use Rattle.pie_queue.specs.declared.packet.Waiting.{Waiting}
 use Rattle.pie_record.specs.{FirstRecord.opening_by, declared.history_record.Line.TheVariants.Note, declared.history_record.Line.TheVariants.Valid}
-use Rattle.pie_text.specs.Plain.{lost_row}
+use Rattle.pie_record.specs.Plain.{lost_row}
 use Rattle.pie_trace.proofs.RunFacts.{first-one, progress_after-request, whole-opened}
 use Rattle.pie_trace.specs.{answered, beginning_within, long_by, progress_resumed, end_of_run, fault_of_run, text_of_run, text_in, within_by, within_max}
 use Rattle.pie_record.specs.declared.fault.TraceFault.TheVariants as fault

@@ -3,7 +3,7 @@
 ghost use Rattle.pie_audit.specs.{Replay.CanBeMade, Text.text_lines};
 ghost use Rattle.pie_book.specs.Decision.{IsLegal};
 ghost use Rattle.pie_event.specs.Event.{CommandFits};
-ghost use Rattle.pie_text.specs.Plain.{lost_row};
+ghost use Rattle.pie_record.specs.Plain.{lost_row};
 ghost use Rattle.pie_trace.specs.{All, Clean, Event, HaveSameLines, IsFound, IsHistoryText, List, None, Ok, Opening, Beginning, Continues, Promises, Request, Row, Some, before_fault, end_of, fault_of, first_in_two, fold_reply, history_fault, history_lines, history_opening, history_text, history_version, length, migrated_text, migrated_version, opening_of, progress_after, progress_at_end, progress_resumed, records_of, replies, requests_of, end_of_run, fault_of_run, resumed_progress, text_of_run, beginning_within, run_lines, start, steps_of, text_finding, version_of, whole_begun, ℕ, [], beginning_of, events_of, rows_text, take, text_fault, declared.run.RunEnd.RunEnd};
 ghost use Rattle.pie_trace.specs.{Other.ReadLine, Other.first_point, Other.point_at_end, WhatIf.end_after, WhatIf.other_text};
 ghost use Rattle.pie_trace.specs.declared.{alteration.Alteration.Alteration, decider.Outcome.TheVariants.NoEvents};

@@ -46,7 +46,8 @@ pub use omitted::Omitted;
 pub use other_history::what_if;
 pub use other_params::OtherParams;
 pub use pie_book::Opening;
-pub use pie_record::{HistoryLines, Line, OpenFault, RecordFault, TraceFault, Version};
-pub use pie_text::write_history;
+pub use pie_record::{
+    HistoryLines, Line, OpenFault, RecordFault, TraceFault, Version, write_history,
+};
 pub use run::{RunEnd, run_trace, run_trace_within};
 pub use what_if_fault::WhatIfFault;

@@ -2,8 +2,7 @@
 ghost use Rattle.std.specs.Prelude.{◌≡◌, ◌<◌, ◌≤◌, ◌+◌, ◌++◌, ◌∷◌};
 ghost use Rattle.pie_trace.specs.{Appends, Err, IfErr, List, NoIoOrMemoryFailed, Ok, OnOk, Option, Result, Some, TraceFault, [], append_known, false, is_io_or_memory, ℕ};
 
-use pie_record::{Record, Records, TraceFault};
-use pie_text::Page;
+use pie_record::{Page, Record, Records, TraceFault};
 use std::io::{Read, Write};
 
 /// The steps of a pass over the records of a text, after its beginning.

@@ -12,7 +12,7 @@ use crate::layer::{Layer, size_on_link};
 use crate::number::{Quantity, UnitFault, read};
 use pie_event::{Choices, Limits, Mode, Opening, Profile};
 use pie_params::{Decay, Delay, Elements, Params, Picking, RawParams, Size, Step};
-use pie_text::{RowBuffer, put_opening};
+use pie_record::{RowBuffer, put_opening};
 use std::io::Write;
 use std::{fmt, io};
 use thiserror::Error;

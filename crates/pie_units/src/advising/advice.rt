@@ -16,7 +16,7 @@ use crate::{
 };
 use pie_event::Opening;
 use pie_params::{BadParam, Decay, Params, RawParams};
-use pie_text::{Page, RowBuffer, put_opening};
+use pie_record::{Page, RowBuffer, put_opening};
 use std::alloc::AllocError;
 
 /// Returns the options of `tc` for a link: the defaults of RFC 8033 and of `tc`, and the limits for the rate.

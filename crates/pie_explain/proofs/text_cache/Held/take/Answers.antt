@@ -1,6 +1,6 @@
 use Rattle.std.specs.Prelude.{[], ◌∷◌, decimal}
 use Rattle.pie_explain.specs.Record.{steady_fields}
-use Rattle.pie_text.specs.Plain.{onto}
+use Rattle.pie_record.specs.Plain.{onto}
 use Rattle.pie_explain.proofs.RecordFacts.{steady_last}
 use Rattle.pie_explain.proofs.text_cache.Held.take.Goals as goal
 

@@ -1,4 +1,0 @@
-pub mod Names
-pub mod Plain
-unfoldable pub use Names.*
-unfoldable pub use Plain.*

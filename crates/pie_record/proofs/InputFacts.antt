@@ -2,7 +2,7 @@
 -- The remaining bytes of a reader that has read bytes ahead.
 -- The progress of a scan: over a byte, and over a block of bytes that a mask marks.
 use Rattle.std.proofs.Common.{sym, ap, ◌∙◌, arith, get_or, subst, append_assoc, take, drop, drop-drop, take-append-drop, length-take, length-drop, take_all, take-take, get_or-take, length-take-le, suc, zero, ◌/◌, ⊎_elim}
-use Rattle.pie_record.specs.{◌≡◌, ◌<◌, ◌+◌, ◌++◌, ◌∷◌, ℕ, ◌==◌, List, [], length, refl, true, false, Bool, Some, Row, nat_lt, start_of, ◌-◌, ◌≤◌, commas, field_at, IsLine, None, split_line, with_byte, Option, Read, IsPlain, IsPlainLine, next_record, default_config, needs_quotes, rows_setup, fields_text, is_blank, text_of, records_left, HasField, HasTakenLine, IsFound, WasTaken, Keeps, Consumes, prepend_known, OnOk, TraceFault, Appends, append_known, IfSome, TakesRow, records_at, strip_bom, ReadsPlain, IsAtEnd, IsLowest, IsScanned, IsWithout, AreMarked}
+use Rattle.pie_record.specs.{◌≡◌, ◌<◌, ◌+◌, ◌++◌, ◌∷◌, ℕ, ◌==◌, List, [], length, refl, true, false, Bool, Some, Row, nat_lt, start_of, ◌-◌, ◌≤◌, commas, field_at, IsLine, None, split_line, with_byte, Option, Read, IsPlain, IsPlainLine, next_record, default_config, needs_quotes, rows_setup, fields_text, is_blank, text_of, records_left, HasField, HasTakenLine, IsFound, WasTaken, Keeps, Consumes, prepend_known, IfSome, TakesRow, records_at, strip_bom, ReadsPlain, IsAtEnd, IsLowest, IsScanned, IsWithout, AreMarked}
 use Rattle.std.proofs.lemmas.Bool.Decides.{nat_tests}
 use Rattle.std.specs.Prelude.{slice_range, slice_get, Result}
 use Rattle.csv.proofs.RecordFacts.{field-none}
@@ -17,7 +17,6 @@ use Rattle.std.proofs.Math.Seq.{take-append_seam, take-add, drop-cons}
 use Rattle.std.proofs.lemmas.List.Edits.{take-paste}
 use Rattle.std.proofs.lemmas.Option.{slice_get_within, get_or_from_slice_get}
 use Rattle.csv.proofs.ReadFacts.{prepend-nil}
-use Rattle.std.proofs.KnownBytes.{Appends-nil}
 pub use Rattle.pie_record.proofs.FieldFacts.{decimal-some, number-back, and_after, drop-has, back_ecn, back_u32, back_u64, has-all, kind-first, number-then, ok-same, numbers-back, packet-read, params-back, tested, word-has}
 pub use Rattle.pie_record.proofs.HistoryFacts.{line_in-flaw, line_in-line, line_in-long, lines_from-failed, lines_from-line, lines_from-none, event_count-cons, read-all, reads-one, last-push, latest_clock-made, latest_clock-none, latest_clock-push, records_left-written, records_of-first, records_of-written, rows_text-cons}
 pub use Rattle.pie_record.proofs.ReadBack.{same-before-three, LineFits, line-again, lines-fit, chosen-read, long-draft, field-reads}

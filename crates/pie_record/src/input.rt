@@ -181,7 +181,7 @@ impl<R: Read> Input<R> {
 impl<R: Read> Read for Input<R> {
     ghost remaining = { λ input. input };
 
-    #[tactic(auto, using(crate::proofs::InputFacts::read_through, crate::proofs::InputFacts::read_ahead))]
+    #[tactic(auto, using(crate::proofs::InputFacts::read_ahead))]
     fn read(&mut self, buf: &mut [u8]) -> io::Result<usize> {
         if self.at >= self.end {
             return self.reader.read(buf);

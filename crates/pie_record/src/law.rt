@@ -1,9 +1,7 @@
 //! The laws of records and texts: written records are read back, and a record that was read is written again.
 //! The functions do nothing: their contracts are the laws (this project's own).
-ghost use Rattle.std.specs.Prelude.{◌≡◌};
-ghost use Rattle.pie_record.specs.{Opening, Ok, first_bad, Draft, FirstKind, Checked, checked_opening, AnswersAreReadBack, IsRecordOf, Line, RequestsAreWrittenAgain, Row, TextsAreReadBack, line_rows, rows_unless_note};
-ghost use Rattle.std.specs.Prelude.{◌≢◌, ◌++◌, ◌∷◌};
-ghost use Rattle.pie_record.specs.{ℕ, List, IfOk, None, history_opening, later_fault, lost_row};
+ghost use Rattle.std.specs.Prelude.{◌≡◌, ◌≢◌, ◌++◌, ◌∷◌};
+ghost use Rattle.pie_record.specs.{Opening, Ok, first_bad, Draft, FirstKind, Checked, checked_opening, AnswersAreReadBack, IsRecordOf, Line, RequestsAreWrittenAgain, Row, TextsAreReadBack, line_rows, rows_unless_note, ℕ, List, IfOk, None, history_opening, later_fault, lost_row};
 
 /// The history record of a request is read back as it was written: the event with its answer, the wall-clock time, or a note.
 #[tactic(auto, using(crate::proofs::ReadBack::answered_back, crate::proofs::ReadBack::clock_reads, crate::proofs::ReadBack::folded_note, crate::proofs::ReadBack::refused_note, crate::proofs::ReadBack::shown_note, crate::proofs::ReadBack::tallied_note))]
@@ -29,7 +27,6 @@ pub fn texts_are_read_back()
 {}
 
 /// The opening of a text that could be read consists of the values of its fields. No book refuses it, and its parameters are in their ranges.
-#[tactic(auto, using(crate::proofs::ReadBack::checked))]
 pub fn openings_are_checked()
     ensures { (kind : FirstKind) (draft : Draft) (opening : Opening) → checked_opening kind (first_bad draft.params) draft ≡ Ok opening
         → Checked draft opening }

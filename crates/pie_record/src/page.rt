@@ -105,6 +105,7 @@ impl Page {
     /// # Errors
     ///
     /// `Memory`.
+    #[inline(always)]
     pub fn text(&mut self, text: &[u8]) -> Result<(), TraceFault>
         ensures added { OnOk result (self.new ≡ self.old ++ text.now) }
         ensures memory { IfErr result (λ why. why ≡ TraceFault.Memory) }
@@ -120,6 +121,7 @@ impl Page {
     /// # Errors
     ///
     /// `Memory`.
+    #[inline(always)]
     pub fn texts(&mut self, first: &[u8], second: &[u8]) -> Result<(), TraceFault>
         ensures added { OnOk result (self.new ≡ self.old ++ (first.now ++ second.now)) }
         ensures memory { IfErr result (λ why. why ≡ TraceFault.Memory) }

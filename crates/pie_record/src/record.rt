@@ -225,7 +225,6 @@ impl Record {
 
     /// Reads a line into the record.
     #[inline(always)]
-    #[tactic(auto, using(crate::proofs::InputFacts::plain_found, crate::proofs::InputFacts::empty_found, crate::proofs::InputFacts::some_fields))]
     pub(crate) fn read_line<R: Read>(
         &mut self,
         alloc: Global,

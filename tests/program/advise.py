@@ -213,7 +213,7 @@ def hold_lines(rng):
         more = [*([f"--overhead={overhead}"] if overhead else []), *(["--ecn"] if ecn else [])]
         trips, flows = f"{rng.randint(1, 300)}ms", str(rng.randint(1, 3000))
         text = advice(f"{rate}bit", trips, flows, *more)
-        limit = min(max(-(-rate // 40), 32 * 1514), 2 ** 30)
+        limit = min(max(-(-rate // 40), 25000), 2 ** 30)
         expect("the record", line(text, "pie run ") + "\n", run("params", "--rate", f"{rate}bit", *more)[1])
         stab, end = f" stab overhead {overhead}" if overhead else "", " ecn" if ecn else ""
         options = f"target 15000us tupdate 15000us alpha 2 beta 20{end}"

@@ -373,14 +373,14 @@ def compare_names(root):
 
 
 def compare_rates(header, table, page):
-    """Checks the table of limits in docs/PARAMETERS.md, and the rates in docs/LIBRARY.md at which a default is 15 ms. Header and table have the least
-    limit, as a number and as packets of 1514 bytes."""
+    """Checks the table of limits in docs/PARAMETERS.md, and the rates in docs/LIBRARY.md at which a default is 15 ms. Header and table have the same
+    least limit."""
     most = int(bound(header.comments["pie_params"]["limit_bytes"])[1])
-    leasts = [re.findall(r"at least (\d+) (?:bytes )?\((\d+) packets of 1514 bytes\)", one_line(re.sub(r"^ \* ?", "", it, flags=re.M))) for it in (header.text, table)]
-    if any(len(it) != 1 or int(it[0][0]) != int(it[0][1]) * 1514 for it in leasts) or leasts[0] != leasts[1]:
+    leasts = [re.findall(r"200 ms at (?:that|the) rate(?:\*\*)?, at least (\d+) (?:bytes )?and at most 2\^30", one_line(re.sub(r"^ \* ?", "", it, flags=re.M))) for it in (header.text, table)]
+    if any(len(it) != 1 for it in leasts) or leasts[0] != leasts[1]:
         yield f"include/pie.h, docs/PARAMETERS.md: the least limit is {leasts}"
         return
-    limit = int(leasts[0][0][0])
+    limit = int(leasts[0][0])
     units = {"kbit/s": 10**3, "Mbit/s": 10**6, "Gbit/s": 10**9}
     rows = re.findall(r"\| (\d+) ([kMG]bit/s) \| (\d+) \| (\d+) \| (\d+) ms \| (\d+) \|", table)
     if len(rows) < 8:

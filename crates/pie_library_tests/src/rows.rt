@@ -142,16 +142,16 @@ fn agree<D: Decides>(
 
 /// Returns the registers after a history of this many events, each with the answer in the history.
 fn decided<D: Decides + Drop>(alloc: Global, text: &[u8], events: u64) -> Option<Registers> {
-    match HistoryLines::open(alloc, text) {
-        Ok((mut lines, opening)) => {
-            let mut place = D::open(alloc, &opening)?;
-            if agree(alloc, &mut lines, &mut place, events) {
-                Some(place.registers())
-            } else {
-                None
-            }
-        }
-        Err(_) => None,
+    let (mut records, mut row) = (Records::new(alloc, text), Record::new(alloc));
+    if !matches!(records.next(&mut row), Ok(true)) {
+        return None;
+    }
+    let (mut lines, opening) = HistoryLines::opened(records, row).ok()?;
+    let mut place = D::open(alloc, &opening)?;
+    if agree(alloc, &mut lines, &mut place, events) {
+        Some(place.registers())
+    } else {
+        None
     }
 }
 

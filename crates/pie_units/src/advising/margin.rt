@@ -214,7 +214,7 @@ fn margin(above: u64, below: u64, factor: u64) -> i64 {
 
 /// Returns the margins at a round-trip time, in nanoseconds and with the target delay, and a window, in millionths of a
 /// packet: at most the exact ones, and at least those less 0.05 degrees and 0.05 decibels.
-pub fn margins_at(trip: u64, window: u64) -> Margins {
+pub(crate) fn margins_at(trip: u64, window: u64) -> Margins {
     let open = Loop { trip, window };
     let lag = open.lag(open.gain_crossing());
     let levels = open.levels(open.phase_crossing());
@@ -350,7 +350,7 @@ impl Search {
 }
 
 /// Returns the least margins over the round-trip times and numbers of flows of a link (this project's own).
-pub fn margins_over(request: &Request) -> RangeMargins {
+pub(crate) fn margins_over(request: &Request) -> RangeMargins {
     let (trips, flows, rate) = (request.trips, request.flows, request.rate);
     let (least, greatest) = (
         trips.least.saturating_add(TARGET),

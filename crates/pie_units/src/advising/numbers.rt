@@ -57,7 +57,7 @@ fn sixteenths(gain: u64) -> u128
 }
 
 /// Returns the parameters of an opening in the units of other queues.
-pub fn numbers_for(opening: &Opening) -> Numbers
+pub(crate) fn numbers_for(opening: &Opening) -> Numbers
     ensures { result ≡ numbers_for opening.now }
 {
     let params = opening.params.raw();
@@ -111,12 +111,12 @@ const LOGARITHM: [u64; 6] = [
 const TWO_OVER_LN_2: u64 = 2_885_390_082;
 
 /// Returns a 128-bit number, or the greatest 64-bit one if it is less.
-pub fn narrowed(value: u128) -> u64 {
+pub(crate) fn narrowed(value: u128) -> u64 {
     value.min(u128::from(u64::MAX)) as u64
 }
 
 /// Returns the product of two numbers, rounded down.
-pub fn product(left: u64, right: u64) -> u64 {
+pub(crate) fn product(left: u64, right: u64) -> u64 {
     narrowed(u128::from(left) * u128::from(right) / u128::from(ONE))
 }
 
@@ -136,7 +136,7 @@ fn short_arc_tangent(tangent: u64) -> u64 {
 }
 
 /// Returns the angle whose tangent is `opposite` / `adjacent`: 0 to a right angle, in billionths of a radian.
-pub fn angle(opposite: u64, adjacent: u64) -> u64 {
+pub(crate) fn angle(opposite: u64, adjacent: u64) -> u64 {
     if opposite <= adjacent {
         short_arc_tangent(quotient(opposite, adjacent))
     } else {
@@ -145,7 +145,7 @@ pub fn angle(opposite: u64, adjacent: u64) -> u64 {
 }
 
 /// Returns the sine of an angle of at most a right one, in billionths of a radian.
-pub fn sine(angle: u64) -> u64 {
+pub(crate) fn sine(angle: u64) -> u64 {
     let square = product(angle, angle);
     let mut sum = ONE;
     for divisor in SINE {
@@ -175,7 +175,7 @@ fn middle_logarithm(number: u128) -> u64 {
 }
 
 /// Returns the logarithm to base 2 of a whole number, in billionths. That of 0 is 0.
-pub fn logarithm(number: u128) -> u64 {
+pub(crate) fn logarithm(number: u128) -> u64 {
     if number < 1 << 64 {
         middle_logarithm(number)
     } else {

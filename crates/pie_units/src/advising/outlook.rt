@@ -124,7 +124,7 @@ fn cuts_the_limit(params: &RawParams) -> bool
 }
 
 /// Returns the expected behaviour of a queue with these parameters at a link.
-pub fn outlook_for(request: &Request, params: &RawParams) -> Outlook
+pub(crate) fn outlook_for(request: &Request, params: &RawParams) -> Outlook
     requires target { params.now.target ≤ 10 ^ 10 }
     requires mean { params.now.mean_pkt ≤ 65535 }
     ensures { IsOutlook request.now params.now result }
@@ -264,7 +264,7 @@ fn push_limit_warnings(page: &mut String, outlook: &Outlook) -> Written {
 }
 
 /// Writes the mean wait, the margins, and the warnings.
-pub fn push_expectation(page: &mut String, request: &Request, outlook: &Outlook) -> Written {
+pub(crate) fn push_expectation(page: &mut String, request: &Request, outlook: &Outlook) -> Written {
     push_wait(page, outlook)?;
     push_margins(page, request, outlook)?;
     push_decay(page, outlook)?;

@@ -112,7 +112,7 @@ fn push_mark(page: &mut String, numbers: &Numbers, ecn: bool) -> Written {
 }
 
 /// Writes each parameter with its reason.
-pub fn push_settings(
+pub(crate) fn push_settings(
     page: &mut String,
     request: &Request,
     opening: &Opening,
@@ -179,7 +179,7 @@ fn push_rte(page: &mut String, numbers: &Numbers) -> Written {
 }
 
 /// Writes the lines that configure the queue, and the name of the record that follows.
-pub fn push_lines(
+pub(crate) fn push_lines(
     page: &mut String,
     request: &Request,
     params: &RawParams,

@@ -4,13 +4,12 @@ use Rattle.pie_trace.proofs.Names.{All, All-append, All-cons, All-nil, AreLegal,
 use Rattle.pie_audit.specs.{Replay.event_in, Replay.events_of, Replay.EventsAreLines}
 use Rattle.pie_audit.specs.Text.{IsTextAfter, IsFound, text_fault, text_lines, fault_after, whole_finding}
 use Rattle.pie_event.specs.Event.{CommandFits, ParamsFit}
-use Rattle.pie_excerpt.specs.{Beginning.IsWellBegun, Beginning.Continues, Preamble.resume_of, Preamble.queued_row, declared.resume.Resume.Resume}
+use Rattle.pie_excerpt.specs.{Beginning.IsWellBegun, Beginning.Continues, Preamble.queued_row}
 use Rattle.pie_queue.specs.declared.packet.Waiting.{Waiting}
 use Rattle.pie_record.specs.{FirstRecord.opening_by, declared.history_record.Line.TheVariants.Note, declared.history_record.Line.TheVariants.Valid}
 use Rattle.pie_text.specs.Plain.{lost_row}
 use Rattle.pie_trace.proofs.RunFacts.{first-one, progress_after-request, whole-opened}
-use Rattle.pie_trace.specs.{answered, beginning_within, long_by, progress_resumed, end_of_run, fault_of_run, text_of_run, text_in, within_by, within_max}
-use Rattle.pie_record.specs.declared.fault.TraceFault.TheVariants as fault
+use Rattle.pie_trace.specs.{answered, beginning_within, progress_resumed, end_of_run, fault_of_run, text_of_run, text_in, within_max}
 use Rattle.pie_event.specs.declared.refusal.Refusal.TheVariants as refusal
 use Rattle.pie_record.specs.declared.trace_record.Request.TheVariants as request
 use Rattle.pie_record.specs.declared.history_record.Line.TheVariants as line

@@ -8,7 +8,7 @@ use Rattle.pie_record.specs.{HistoryLines.IsRecordOf, HistoryLines.clock_in_line
 use Rattle.pie_trace.proofs.{Names.latest_clock-made, Names.latest_clock-push, Names.line_in-line, Names.reads-one, RunFacts.Halts, RunFacts.RunsAs, RunFacts.comes-behind, RunFacts.legal-pop}
 use Rattle.pie_trace.specs.{Other.Point, Other.ReadLine, Other.answer_after, Other.answer_unless, Other.begins_with, Other.begun_with, Other.change, Other.change_before, Other.change_moment, Other.changed, Other.command_with, Other.count_at, Other.count_of, Other.counts_of, Other.decided, Other.events_at, Other.first_point, Other.is_arrive, Other.is_change, Other.is_depart, Other.is_reached, Other.is_reset, Other.is_update, Other.omitted_at, Other.params_at, Other.point_after, Other.reaches, Other.rows_at, Runs.HasOutcome, WhatIf.HasStarted, WhatIf.IsAt, WhatIf.end_after, WhatIf.end_at, WhatIf.end_by, WhatIf.rest_pass, WhatIf.whole_pass, declared.alteration.Alteration.Alteration, declared.decider.Decider.Decider, declared.decider.Outcome.Outcome, declared.other_history.Start.Start}
 use Rattle.std.proofs.{Common.Bool, Common.List, Common.[], Common.ap, Common.append_assoc, Common.arith, Common.cond, Common.false, Common.map, Common.refl, Common.subst, Common.sym, Common.take, Common.true, Common.ℕ, Common.◌++◌, Common.◌+◌, Common.◌-◌, Common.◌^◌, Common.◌∙◌, Common.◌∷◌, Common.◌≡◌, Common.◌≤◌, KnownBytes.Appends-nil, lemmas.Bool.Decides.nat_tests, lemmas.List.Concat.flat_map-append, lemmas.List.Elements.All-head, lemmas.List.Elements.All-nil, lemmas.List.Elements.All-tail, lemmas.List.Sums.sum_by-append, lemmas.List.append-nil, lemmas.List.map-append}
-use Rattle.std.specs.{Io.KnownBytes.Appends, Option.option_or, Prelude.All, Prelude.Err, Prelude.None, Prelude.Ok, Prelude.Option, Prelude.Result, Prelude.Some, Prelude.if◌then◌else◌, Prelude.min, Prelude.not, Prelude.⊤, Prelude.◌&&◌, Prelude.◌||◌}
+use Rattle.std.specs.{Io.KnownBytes.Appends, Option.option_or, Prelude.All, Prelude.Err, Prelude.None, Prelude.Ok, Prelude.Option, Prelude.Result, Prelude.Some, Prelude.if◌then◌else◌, Prelude.min, Prelude.⊤, Prelude.◌||◌}
 unfoldable use Rattle.pie_audit.specs.{Replay.difference_from, Replay.events_of, Text.text_fault, Text.text_lines}
 unfoldable use Rattle.pie_book.specs.{Decision.registers_after}
 unfoldable use Rattle.pie_excerpt.specs.{Beginning.beginning_of}

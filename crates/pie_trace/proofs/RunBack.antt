@@ -1,15 +1,15 @@
 -- The history text of a trace is read back: its opening, the events of its run, and notes.
+use Rattle.std.proofs.Common.{rules}
 use Rattle.pie_trace.proofs.Names.{All, All-append, All-cons, All-nil, AreLegal, AreLinesOf, Apply, BadParams, Begins, Bool, CanBeMade, Clean, Clock, Command, Draft, Err, Event, Finding, FirstKind, RecordFault, Fold, FoldRefusal, IsHistoryText, IsLegal, Line, List, Mode, None, Ok, Opening, Option, Progress, Promises, Refusal, Reply, Represents, Request, Result, Row, RunEnd, Show, Some, Tally, TextsAreReadBack, TraceFault, Version, [], after, and_then, ap, append-nil, append_assoc, arith, before_fault, code_of, decision, drop, end_left, end_of, event_of, false, fault_from, fault_of, field_at, filter_map-append, first_bad, first_fault, first_fields, first_kind, flat_map-append, fold_outcome, fold_reply, tail_length_with_one, history_row, history_rows, history_text, if◌then◌else◌, is_refused_full, kind-first, kind_word, length, length-append, line_in-line, line_of, line_of_reply, lines_from, lines_left, lines_of_replies, lost-later, map, nat_lt, nat_tests, opening_of, opening_read, opening_refusal, or_full, progress_after, progress_at_end, record_fault, recorded, records_of, refl, refusal_by_rule, refused, refused_or, registers_after, replies, reply, reply_to_command, reply_to_fold, request_of, requests_of, beginning_of, opened_at, Beginning, resumed_progress, rows_left, rows_text, rows_without_fault, run_lines, start, steps_of, subst, sym, take, take-append-drop, text_finding, text_left, true, version_of, ℕ, ◌++◌, ◌+◌, ◌-◌, ◌<◌, ◌==◌, ◌^◌, ◌∙◌, ◌∷◌, ◌≡◌, ◌≢◌, ◌≤◌}
 use Rattle.pie_audit.specs.{Replay.event_in, Replay.events_of, Replay.EventsAreLines}
 use Rattle.pie_audit.specs.Text.{IsTextAfter, IsFound, text_fault, text_lines, fault_after, whole_finding}
 use Rattle.pie_event.specs.Event.{CommandFits, ParamsFit}
-use Rattle.pie_excerpt.specs.{Beginning.IsWellBegun, Beginning.Continues, Preamble.resume_of, Preamble.queued_row, declared.resume.Resume.Resume}
+use Rattle.pie_excerpt.specs.{Beginning.IsWellBegun, Beginning.Continues, Preamble.queued_row}
 use Rattle.pie_queue.specs.declared.packet.Waiting.{Waiting}
 use Rattle.pie_record.specs.{FirstRecord.opening_by, declared.history_record.Line.TheVariants.Note, declared.history_record.Line.TheVariants.Valid}
 use Rattle.pie_record.specs.Plain.{lost_row}
 use Rattle.pie_trace.proofs.RunFacts.{first-one, progress_after-request, whole-opened}
-use Rattle.pie_trace.specs.{answered, beginning_within, long_by, progress_resumed, end_of_run, fault_of_run, text_of_run, text_in, within_by, within_max}
-use Rattle.pie_record.specs.declared.fault.TraceFault.TheVariants as fault
+use Rattle.pie_trace.specs.{answered, beginning_within, progress_resumed, end_of_run, fault_of_run, text_of_run, text_in, within_max}
 use Rattle.pie_event.specs.declared.refusal.Refusal.TheVariants as refusal
 use Rattle.pie_record.specs.declared.trace_record.Request.TheVariants as request
 use Rattle.pie_record.specs.declared.history_record.Line.TheVariants as line
@@ -422,15 +422,7 @@ record Within (max_records : ℕ) (rows : List Row) (b : Beginning) : Type 0 whe
   few : b.records_read ≤ max_records
 
 behind : (max_records : ℕ) (rows : List Row) (b : Beginning) → beginning_within max_records rows ≡ Ok b → and_then (beginning_of rows) (within_max max_records) ≡ Ok b
-behind max_records [] b e = cc
-behind max_records (row ∷ rows) b e = by (max_records == 0) (long_by max_records (resume_of row)) e
-  where
-    by : (none : Bool) (long : Option Resume)
-        → (if none then Err fault.TooLong else within_by max_records long (row ∷ rows) rows) ≡ Ok b
-        → and_then (beginning_of (row ∷ rows)) (within_max max_records) ≡ Ok b
-    by true long e = cc
-    by false (Some r) e = cc
-    by false None e = e
+behind a0 a1 a2 a3 = search rules
 
 within : (max_records : ℕ) (rows : List Row) (b : Beginning) → beginning_within max_records rows ≡ Ok b → Within max_records rows b
 within max_records rows b e = grind (arith, nat_tests, behind)

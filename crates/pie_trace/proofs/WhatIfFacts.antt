@@ -1,4 +1,5 @@
 -- Facts about the other history: the text of events, one command, the pass over a text, and the laws.
+use Rattle.std.proofs.Common.{rules}
 use Rattle.pie_audit.specs.{Replay.AuditorView, Replay.AuditsFrom, Replay.Begins, Replay.CanBeMade, Replay.Origin, Replay.RepresentsAfter, Replay.at_core, Replay.at_opening}
 use Rattle.pie_book.specs.{Book.event_of, Book.refused_or, Core.CoreView, Core.Represents, Core.answer_in, Core.refusal_of, Core.registers_of, Decision.IsLegal, Decision.IsLegalAt, Decision.decision, Decision.refusal_by_rule}
 use Rattle.pie_event.specs.{Event.caller_moment, declared.command.Answer.Answer, declared.command.Command.Command, declared.command.Command.TheVariants.SetParams, declared.command.Event.Event, declared.opening.Opening.Opening, declared.refusal.Refusal.Refusal, declared.registers.Registers.Registers}
@@ -7,7 +8,7 @@ use Rattle.pie_record.specs.{HistoryLines.IsRecordOf, HistoryLines.clock_in_line
 use Rattle.pie_trace.proofs.{Names.latest_clock-made, Names.latest_clock-push, Names.line_in-line, Names.reads-one, RunFacts.Halts, RunFacts.RunsAs, RunFacts.comes-behind, RunFacts.legal-pop}
 use Rattle.pie_trace.specs.{Other.Point, Other.ReadLine, Other.answer_after, Other.answer_unless, Other.begins_with, Other.begun_with, Other.change, Other.change_before, Other.change_moment, Other.changed, Other.command_with, Other.count_at, Other.count_of, Other.counts_of, Other.decided, Other.events_at, Other.first_point, Other.is_arrive, Other.is_change, Other.is_depart, Other.is_reached, Other.is_reset, Other.is_update, Other.omitted_at, Other.params_at, Other.point_after, Other.reaches, Other.rows_at, Runs.HasOutcome, WhatIf.HasStarted, WhatIf.IsAt, WhatIf.end_after, WhatIf.end_at, WhatIf.end_by, WhatIf.rest_pass, WhatIf.whole_pass, declared.alteration.Alteration.Alteration, declared.decider.Decider.Decider, declared.decider.Outcome.Outcome, declared.other_history.Start.Start}
 use Rattle.std.proofs.{Common.Bool, Common.List, Common.[], Common.ap, Common.append_assoc, Common.arith, Common.cond, Common.false, Common.map, Common.refl, Common.subst, Common.sym, Common.take, Common.true, Common.ℕ, Common.◌++◌, Common.◌+◌, Common.◌-◌, Common.◌^◌, Common.◌∙◌, Common.◌∷◌, Common.◌≡◌, Common.◌≤◌, KnownBytes.Appends-nil, lemmas.Bool.Decides.nat_tests, lemmas.List.Concat.flat_map-append, lemmas.List.Elements.All-head, lemmas.List.Elements.All-nil, lemmas.List.Elements.All-tail, lemmas.List.Sums.sum_by-append, lemmas.List.append-nil, lemmas.List.map-append}
-use Rattle.std.specs.{Io.KnownBytes.Appends, Option.option_or, Prelude.All, Prelude.Err, Prelude.None, Prelude.Ok, Prelude.Option, Prelude.Result, Prelude.Some, Prelude.if◌then◌else◌, Prelude.min, Prelude.not, Prelude.⊤, Prelude.◌&&◌, Prelude.◌||◌}
+use Rattle.std.specs.{Io.KnownBytes.Appends, Option.option_or, Prelude.All, Prelude.Err, Prelude.None, Prelude.Ok, Prelude.Option, Prelude.Result, Prelude.Some, Prelude.if◌then◌else◌, Prelude.min, Prelude.⊤, Prelude.◌||◌}
 unfoldable use Rattle.pie_audit.specs.{Replay.difference_from, Replay.events_of, Text.text_fault, Text.text_lines}
 unfoldable use Rattle.pie_book.specs.{Decision.registers_after}
 unfoldable use Rattle.pie_excerpt.specs.{Beginning.beginning_of}
@@ -41,18 +42,14 @@ texts-both first later = ap rows_text (map-append event_row first later) ∙ row
 -- the texts of events were added, and then those of others
 pub added-both : (first later : List Event) (rows between now : List ℕ) → between ≡ rows ++ texts first → now ≡ between ++ texts later
     → now ≡ rows ++ texts (first ++ later)
-added-both first later rows between now one other =
-    other ∙ ap (λ (t : List ℕ). t ++ texts later) one ∙ append_assoc rows (texts first) (texts later)
-    ∙ ap (λ (t : List ℕ). rows ++ t) (sym (texts-both first later))
+added-both first later rows between now one other = search (rules, append_assoc, texts-both)
 
 -- ==== The numbers of omitted commands with one more
 
 -- the number of one kind with one more event
 pub count-more : (is : Command → Bool) (events : List Event) (event : Event)
     → count_of is (events ++ event ∷ []) ≡ min (count_of is events + cond (is event.command) 1 0) (2 ^ 64 - 1)
-count-more is events event =
-    let both = sum_by-append (λ (e : Event). cond (is e.command) 1 0) events (event ∷ []) in
-    grind (arith, nat_tests, both)
+count-more is events event = search (rules, sum_by-append)
 
 -- one more number, at most 2^64 - 1
 abbrev pub more_if : Bool → ℕ → ℕ
@@ -91,25 +88,20 @@ pub answer-is : (origin : Origin) (core : CoreView) (events : List Event) (comma
     → result ≡ refused_or (refusal_by_rule opening history command) (decision opening history command))
     → result ≡ refused_or (refusal_of core command) (answer_in core command) → RepresentsAfter origin core events
     → answer_of_result result ≡ answer_after origin events command
-answer-is (at_opening opening) core events command result decides is shows = by-refusal _ _ result (decides opening events shows)
-answer-is (at_core opening first set_by) core events command result decides is stands = rw (← stands) (by-refusal _ _ result is)
+answer-is a0 a1 a2 a3 a4 a5 a6 a7 = search (rules, by-refusal)
 
 -- the parameters of a core
 pub params-is : (origin : Origin) (core : CoreView) (events : List Event) (registers : Registers)
     → ((opening : Opening) (history : List Event) → Represents opening core history → registers ≡ registers_after opening history)
     → registers ≡ registers_of core → RepresentsAfter origin core events → registers.params ≡ params_at origin events
-params-is (at_opening opening) core events registers looks reads shows = ap (λ (r : Registers). r.params) (looks opening events shows)
-params-is (at_core opening first set_by) core events registers looks reads stands =
-    ap (λ (r : Registers). r.params) reads ∙ ap (λ (c : CoreView). c.controller.params) stands
+params-is a0 a1 a2 a3 a4 a5 a6 = search rules
 
 -- the number of events of a core
 pub count-is : (origin : Origin) (core : CoreView) (events : List Event) (registers : Registers)
     → ((opening : Opening) (history : List Event) → Represents opening core history → registers ≡ registers_after opening history)
     → registers ≡ registers_of core → RepresentsAfter origin core events → registers.count ≡ count_at origin events
 unfolding registers_after
-count-is (at_opening opening) core events registers looks reads shows = ap (λ (r : Registers). r.count) (looks opening events shows)
-count-is (at_core opening first set_by) core events registers looks reads stands =
-    ap (λ (r : Registers). r.count) reads ∙ ap (λ (c : CoreView). c.count) stands
+count-is a0 a1 a2 a3 a4 a5 a6 = search rules
 
 -- no clock record comes before a text
 pub clock-none : (origin : Origin) (core : CoreView) (lines : List Line) → Begins origin core lines → latest_clock lines ≡ None
@@ -129,22 +121,7 @@ pub quiet : (alteration : Alteration) (decider : Decider) (point : Point) (line 
     → IsAt decider point → AuditsFrom point.origin auditor (point.lines ++ line ∷ [])
     → IsAt (record { auditor = auditor; core = decider.core; begun = decider.begun; before = decider.before; omitted = decider.omitted; clock = option_or (clock_in_line line) decider.clock })
     (point_after alteration point line)
-quiet alteration decider point line auditor none kept other at audits = record {
-  audits = audits;
-  represents = rw (none, append-nil point.events) at.represents;
-  begun = at.begun ∙ rw (other (latest_clock point.lines)) (sym (or-false point.begun));
-  before = at.before ∙ rw (other (latest_clock point.lines)) (sym (if-none point.begun point.before));
-  omitted = at.omitted ∙ rw (kept, append-nil point.omitted) refl;
-  clock = clock-with point.lines line decider.clock at.clock;
-}
-  where
-    or-false : (b : Bool) → (b || false) ≡ b
-    or-false true = refl
-    or-false false = refl
-
-    if-none : (b : Bool) (n : ℕ) → (if not b && false then count_at point.origin point.events else n) ≡ n
-    if-none true n = refl
-    if-none false n = refl
+quiet alteration decider point line auditor none kept other at audits = search (rules, append-nil, clock-with)
 
 -- ==== The pass over a text, one record after another
 
@@ -226,12 +203,7 @@ OneMore = (opening : Opening) (history : List Event) (caller : ℕ) (command : C
 module _ (one : OneMore) (alteration : Alteration) (opening : Opening) where
   decided-legal : (events : List Event) (caller : ℕ) (command : Command) → IsLegal opening events
       → IsLegal opening (events ++ decided (at_opening opening) events caller command)
-  decided-legal events caller command legal = by (refusal_by_rule opening events command) refl
-    where
-      by : (refusal : Option Refusal) → refusal_by_rule opening events command ≡ refusal
-          → IsLegal opening (events ++ decided (at_opening opening) events caller command)
-      by None e = rw e (one opening events caller command legal e)
-      by (Some why) e = rw e (rw (append-nil events) legal)
+  decided-legal events caller command legal = search (rules, append-nil)
 
   change-legal : (events : List Event) (begins : Bool) (moment : ℕ) → IsLegal opening events
       → IsLegal opening (events ++ (if begins then change alteration (at_opening opening) events moment else []))
@@ -314,21 +286,13 @@ AreKept origin before [] = ⊤
 AreKept origin before (read ∷ later) = KeepsLine origin before read.line read.row × AreKept origin (before ++ event_list read.line) later
 
 or-first : (a b : Bool) → (a || b) ≡ false → a ≡ false
-or-first true b e = e
-or-first false b e = refl
+or-first a0 a1 a2 = search rules
 
 module _ (alteration : Alteration) where
   line-kept : (point : Point) (line : Line) (row : Row) → point.begun ≡ false → begun_with alteration point line ≡ false
       → KeepsLine point.origin point.events line row
       → (events_at alteration point line ≡ event_list line) × (rows_at alteration point line row ≡ row ∷ [])
-  line-kept point (Valid event) row begun still keeps =
-      let no : reaches alteration point (Valid event) ≡ false = rw begun at still in
-      let none : change_before alteration point (Valid event) ≡ [] = rw (begun, no) refl in
-      let is : events_at alteration point (Valid event) ≡ event ∷ [] = rw (none, append-nil point.events, still) keeps.0 in
-      (is, ap (map event_row) is ∙ ap (λ (r : Row). let rows : List Row = r ∷ [] in rows) (sym keeps.1))
-  line-kept point (Invalid badly) row begun still keeps = absurd keeps
-  line-kept point Note row begun still keeps = (refl, rw begun refl)
-  line-kept point (variant.Clock clock) row begun still keeps = (refl, refl)
+  line-kept a0 a1 a2 a3 a4 a5 = search (rules, append-nil)
 
   -- no event was reached, if none is at the end
   not-begun : (point : Point) (reads : List ReadLine) → (point_at_end alteration point reads).begun ≡ false → point.begun ≡ false
@@ -398,12 +362,7 @@ module _ (again : WrittenAgain) (opening : Opening) (version : Version) where
 
 -- an end without an event of the moment
 not-reached : (difference : Option ℕ) (point : Point) → end_by difference point ≡ outcome.NoEvents → point.begun ≡ false
-not-reached difference point is = by difference point.begun is
-  where
-    by : (d : Option ℕ) (b : Bool) → end_by d (record point { begun = b }) ≡ outcome.NoEvents → b ≡ false
-    by d false e = refl
-    by (Some event) true e = cc
-    by None true e = cc
+not-reached difference point is = search rules
 
 module _ (again : WrittenAgain) (alteration : Alteration) where
   pub text-again : (rows : List Row) (begun : Beginning) (opening : Opening) (past : List Event)

@@ -89,6 +89,7 @@ abbrev pub text_at : Version → ℕ → Opening → ℕ → RunState → List R
 text_at version max_records opening number (looking_back progress) rows = text_left version max_records opening number progress rows
 text_at version max_records opening number (running it) rows = text_in_state version max_records opening number it rows
 
+-- the result of a run that was in this state before these records
 abbrev pub end_after : Version → Opening → RunState → ℕ → List Row → RunEnd
 end_after version opening (looking_back progress) refusals rows = end_left version opening progress refusals rows
 end_after version opening (running it) refusals rows = end_from_state version opening it refusals rows

@@ -1,4 +1,4 @@
-use Rattle.pie_trace.proofs.Names.{Err, Ok, Row, List, Took, [], arith, ◌+◌, ◌≡◌, ◌≤◌}
+use Rattle.pie_trace.proofs.Names.{Err, Ok, Took, [], arith, ◌+◌, ◌≡◌, ◌≤◌}
 use Rattle.pie_trace.proofs.RunFacts.{ill-processed, write-io}
 use Rattle.pie_trace.proofs.steps.take_all.Goals as goal
 

@@ -10,8 +10,9 @@ use crate::name::InLine;
 use pie_audit::Finding;
 use pie_explain::{EventChoice, ExplainFault, Selection};
 use pie_linux_history::{
-    StepPieces, StepsCounts, StepsExplained, StepsFault, StepsFinding, report,
+    PacketWords, StepPieces, StepsCounts, StepsExplained, StepsFault, StepsFinding, report,
 };
+use pie_summary::{Digest, SummariesOnly};
 use std::alloc::Global;
 use std::io::{Read, Write};
 
@@ -47,13 +48,16 @@ pub(crate) fn explain_steps<R: Read + Drop, W: Write>(
 ) -> Result<StepsExplained, StepsFault> {
     let outcome = match kind {
         OutputKind::Words(_) => {
-            pie_linux_history::explain(alloc, reader, output, selection, queue)
+            pie_linux_history::explain(alloc, reader, output, selection, queue, PacketWords)
         }
-        OutputKind::Records(each) => report(alloc, reader, output, selection, queue, each),
-        OutputKind::Sums(sums) => report(alloc, reader, output, selection, queue, sums),
-        OutputKind::Lines(lines) => report(alloc, reader, output, selection, queue, lines),
-        OutputKind::Digest(digest) => report(alloc, reader, output, selection, queue, digest),
-        OutputKind::Flows(flows) => report(alloc, reader, output, selection, queue, flows),
+        OutputKind::Records(each) => report(alloc, reader, output, selection, queue, each, false),
+        OutputKind::Sums(sums) => report(alloc, reader, output, selection, queue, sums, false),
+        OutputKind::Lines(lines) => report(alloc, reader, output, selection, queue, lines, false),
+        OutputKind::Digest(Digest { form, every }) => {
+            let sums = SummariesOnly { form, every };
+            report(alloc, reader, output, selection, queue, sums, true)
+        }
+        OutputKind::Flows(flows) => report(alloc, reader, output, selection, queue, flows, false),
     };
     match outcome {
         Err(StepsFault::Trace(why)) => Err(StepsFault::Trace(output.fault_of(why))),

@@ -268,12 +268,6 @@ for part in (f"{wanted['events']} events, from ", f"  {wanted['arrivals']} arriv
              f"  {wanted['left']} packets left, with {wanted['carried_bytes']} bytes; they waited at most "):
     check(part in words, "--summary in words lacks", part, words)
 check(run("--every=1s", "--full")[1].count(" events, from ") == len(table("--every=1s")), "--every --full")
-digest = run("--digest")[1]
-lost = [event for event in ALL if choices["--lost"](event) or choices["--marked"](event)]
-check(digest.endswith(words) and digest.count("\nevent ") + digest.startswith("event ") == len(lost), "--digest", len(lost), digest.count("event "))
-for event in lost:
-    check(f"event {event['number']}: packet {event['tag']}, {event['size']} bytes, " in digest, "--digest lacks event", event["number"])
-
 # ---- packets in words
 
 
@@ -288,6 +282,27 @@ def number_of(block):
 
 
 every = blocks("--all")
+lost = [event for event in ALL if choices["--lost"](event) or choices["--marked"](event)]
+words_of = {event["number"]: block for event in lost for block in every if number_of(block) == event["number"]}
+digest = run("--digest")[1]
+check(digest.endswith(run("--summary")[1]) and digest.count("\nevent ") + digest.startswith("event ") == len(lost) == len(words_of), "--digest", len(lost), digest.count("event "))
+for event in lost:
+    check(words_of[event["number"]] in digest, "--digest lacks event", event["number"])
+    check(" caller " not in words_of[event["number"]], "caller in words", words_of[event["number"]])
+
+# one event in each form: the same queue, bytes, verdict and cause
+VERDICT_WORDS = {"mark": "MARKED", "early": "DROPPED early", "packets": "DROPPED over the limit", "enqueue": "queued"}
+for event in lost[:5] + lost[-5:]:
+    number = str(event["number"])
+    words = run("--event", number)[1]
+    check(words == words_of[event["number"]] and words.startswith(f"event {number}: queue ") and f", {event['size']} bytes: {VERDICT_WORDS[event['verdict']]}\n" in words,
+          "--event in words", words)
+    choice = "--marked" if event["verdict"] == "mark" else "--lost"
+    check(words in run(choice)[1] and words in run("--digest", choice, "--every=1s", "--full")[1] and words in run("--digest")[1], choice, "lacks", words)
+    record, object = table("--event", number)[0], json.loads(run("--event", number, "--json")[1])
+    check((record["verdict"], record["cause"], record["size"]) == (event["verdict"], event["cause"], str(event["size"])), "--csv of event", number, record)
+    check({name: "" if field is None else str(field) for name, field in object.items()} == record, "--json of event", number, object)
+
 moments = {event["number"]: event["effective_moment"] for event in ALL}
 check(blocks("--all", f"--from={middle[0]}", f"--to={middle[1]}") == [block for block in every if middle[0] <= moments[number_of(block)] <= middle[1]], "--from and --to in words")
 tagged = {event["number"] for event in ALL if event["kind"] == "arrive" and event["tag"] == 17 << 32}

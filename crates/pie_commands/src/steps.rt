@@ -12,8 +12,9 @@ use crate::reports::{as_digest, by_flow};
 use pie_audit::Finding;
 use pie_explain::{EventChoice, ExplainFault, Selection};
 use pie_linux_history::{
-    StepPieces, StepsCounts, StepsExplained, StepsFault, StepsFinding, report,
+    PacketWords, StepPieces, StepsCounts, StepsExplained, StepsFault, StepsFinding, report,
 };
+use pie_explain::{Digest, SummariesOnly};
 use std::alloc::Global;
 use std::io::{Read, Write};
 
@@ -49,12 +50,15 @@ pub(crate) fn explain_steps<R: Read + Drop, W: Write>(
 ) -> Result<StepsExplained, StepsFault> {
     let outcome = match kind {
         OutputKind::Words(_) => {
-            pie_linux_history::explain(alloc, reader, output, selection, queue)
+            pie_linux_history::explain(alloc, reader, output, selection, queue, PacketWords)
         }
-        OutputKind::Records(each) => report(alloc, reader, output, selection, queue, each),
-        OutputKind::Sums(sums) => report(alloc, reader, output, selection, queue, sums),
-        OutputKind::Digest(it) => report(alloc, reader, output, selection, queue, as_digest(it)),
-        OutputKind::Flows(flows) => report(alloc, reader, output, selection, queue, by_flow(flows)),
+        OutputKind::Records(each) => report(alloc, reader, output, selection, queue, each, false),
+        OutputKind::Sums(sums) => report(alloc, reader, output, selection, queue, sums, false),
+        OutputKind::Digest(Digest { form, every, style }) => {
+            let sums = SummariesOnly { form, every, style };
+            report(alloc, reader, output, selection, queue, sums, true)
+        }
+        OutputKind::Flows(flows) => report(alloc, reader, output, selection, queue, flows, false),
     };
     match outcome {
         Err(StepsFault::Trace(why)) => Err(StepsFault::Trace(output.fault_of(why))),

@@ -11,7 +11,7 @@ use Rattle.pie_linux_history.specs.declared.known.Known.{Known}
 use Rattle.pie_linux_history.specs.declared.step.QueueName.{QueueName}
 use Rattle.pie_linux_history.specs.declared.step.Step.{Step}
 use Rattle.pie_linux_history.specs.Known.{IsPlaceOf, Represents, looked_up, tracked}
-use Rattle.pie_linux_history.specs.LookBack.{Entry, Followed, Lost, Took, begun, follow, followed, is_opening, name_of, since_last, steps_of}
+use Rattle.pie_linux_history.specs.LookBack.{Entry, Followed, Lost, Skipped, Took, begun, follow, followed, is_opening, name_of, since_last, steps_of}
 use Rattle.pie_linux_history.specs.Queue.{Stepped, last_after, next_step}
 use Rattle.pie_linux_history.specs.Views.{QueueView}
 use Rattle.pie_linux_history.proofs.LookBackFacts.{followed-begun, followed-lost, followed-other, followed-step}
@@ -202,6 +202,10 @@ looked-lost (known ∷ rest) name other = lost-one known rest name other (bytes_
 pub represents-none : (queues : List Known) → queues ≡ [] → Represents queues []
 unfolding looked_up followed steps_of since_last
 represents-none queues none = rw none (record { by_name = λ name. refl })
+
+-- a row of another queue
+pub represents-skipped : (queues : List Known) (entries : List Entry) → Represents queues entries → Represents queues (entries ++ Skipped ∷ [])
+represents-skipped queues entries was = record { by_name = λ name. was.by_name name ∙ sym (followed-other name entries Skipped refl) }
 
 lost-name : (name : List ℕ) (entries : List Entry) (queue : QueueName) (count : ℕ) (found : Option Followed) (is : Bool) → bytes_eq (name_of queue) name ≡ is
     → found ≡ followed name entries → (if is then None else found) ≡ followed name (entries ++ Lost queue count ∷ [])

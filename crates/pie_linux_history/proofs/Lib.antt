@@ -6,3 +6,4 @@ pub mod KnownFacts
 pub mod RowFacts
 pub mod AuditFacts
 pub mod ReportFacts
+pub mod CutFacts

@@ -12,7 +12,7 @@ use Rattle.pie_linux_history.specs.declared.explained.Input.TheVariants as input
 use Rattle.pie_linux_history.specs.declared.queues.StepsCounts.{StepsCounts}
 use Rattle.pie_linux_history.specs.declared.step.QueueName.{QueueName}
 use Rattle.pie_linux_history.specs.declared.step.Step.{Step}
-use Rattle.pie_linux_history.specs.LookBack.{Entry, Lost, Took, begins, begun, counts_of, follow, followed, followed_by, is_lack, is_of, is_opening, lack_count, lack_counted, lack_in, lost_steps, step_count, name_of, opening_of, since_last, step_of, steps_of}
+use Rattle.pie_linux_history.specs.LookBack.{Entry, Lost, Skipped, Took, begins, begun, counts_of, follow, followed, followed_by, is_lack, is_of, is_opening, lack_count, lack_counted, lack_in, later_of, latest, lost_steps, step_count, name_of, opening_of, since_last, step_of, steps_of}
 
 -- an element with one more after it
 abbrev more : {A : Type 0} → A → A × List A → A × List A
@@ -71,6 +71,7 @@ step-after : (name : List ℕ) (found : Option (Entry × List Entry)) (queue : Q
     → followed_by name (opening_of (option_map (more (Took queue step)) found)) ≡ option_map (λ was. follow was step) (followed_by name (opening_of found))
 step-after name None queue step = refl
 step-after name (Some (Lost lost count, later)) queue step = refl
+step-after name (Some (Skipped, later)) queue step = refl
 step-after name (Some (Took its first, later)) queue step =
     rw (filter_map-append step_of later (Took queue step ∷ []), fold-append follow (begun name first) (filter_map step_of later) (step ∷ [])) refl
 
@@ -80,6 +81,15 @@ unfolding followed steps_of
 followed-step name entries queue step is later =
     rw (rows-same name entries (Took queue step) is, since-other begins (filter (is_of name) entries) (Took queue step) later)
     (step-after name (since_last begins (filter (is_of name) entries)) queue step)
+
+-- the moment
+pub latest-none : 0 ≡ latest []
+unfolding latest
+latest-none = refl
+
+pub latest-more : (entries : List Entry) (one : Entry) → latest (entries ++ one ∷ []) ≡ later_of (latest entries) one
+unfolding latest
+latest-more entries one = fold-append later_of 0 entries (one ∷ [])
 
 -- ---- inputs that rows lack
 

@@ -1,14 +1,31 @@
--- A report that receives one more step.
-use Rattle.std.specs.Prelude.{ℕ, ◌≡◌, ◌++◌, ◌∷◌, [], List, Option, Some, None, Result, Ok, Err, OnOk}
+-- A report that receives one more row.
+use Rattle.std.specs.Prelude.{ℕ, Bool, false, true, ◌<◌, ◌≤◌, get_or, take, ◌+◌, ◌-◌, ◌^◌, ◌≡◌, ◌++◌, ◌∷◌, [], ⊤, List, Option, Some, None, IsOk, OnOk, Result, Ok, Err, length, map, min, option_map}
 use Rattle.std.specs.List.{cons_option, filter_map}
 use Rattle.std.specs.Io.KnownBytes.{Appends, append_known}
-use Rattle.std.proofs.Common.{ap, append-nil, append_assoc, refl, ◌∙◌}
+use Rattle.std.proofs.Common.{ap, append-nil, append_assoc, arith, length-append, refl, subst, sym, ◌∙◌}
+use Rattle.std.proofs.lemmas.List.{map-append, take_all, take_more}
 use Rattle.std.proofs.lemmas.List.Elements.{filter_map-append}
+use Rattle.pie_record.specs.Text.{Row}
 use Rattle.pie_explain.specs.Report.{Grows}
 use Rattle.pie_explain.specs.declared.explanation.Explained.{Explained}
 use Rattle.pie_explain.specs.declared.selection.Selection.{Selection}
 use Rattle.pie_linux_history.specs.declared.decided.DecidedStep.{DecidedStep}
-use Rattle.pie_linux_history.specs.Reports.{Reports, ReportsSome, WritesReport, all_selected, selected}
+use Rattle.pie_linux_history.specs.declared.decided.StepNumbers.{StepNumbers}
+use Rattle.pie_linux_history.specs.declared.decided.Taken.{Taken}
+use Rattle.pie_linux_history.specs.declared.explained.DecidedPacket.{DecidedPacket}
+use Rattle.pie_linux_history.specs.declared.explained.ExplainedPacket.{ExplainedPacket}
+use Rattle.pie_linux_history.specs.declared.fault.StepsFault.{StepsFault}
+use Rattle.pie_linux_history.specs.declared.queues.Queues.{Queues}
+use Rattle.pie_linux_history.specs.declared.step.QueueName.{QueueName}
+use Rattle.pie_linux_history.specs.declared.step.Step.{Step}
+use Rattle.pie_linux_history.specs.declared.text.StepsFinding.{StepsFinding}
+use Rattle.pie_linux_history.specs.Audit.{Ends, Outcome}
+use Rattle.pie_linux_history.specs.Decided.{decided_by, decided_in, decided_of, dropped_in, for_each, plain, step_in, with_numbers}
+use Rattle.pie_linux_history.specs.Known.{HasRead, Leaves}
+use Rattle.pie_linux_history.specs.LookBack.{Entry}
+use Rattle.pie_linux_history.specs.Reports.{ExplainsIf, IsReport, IsTexts, IsWoven, ReportsEvents, ReportsPackets, ReportsThese, SaysEvents, Writes, all_selected, explained_packet, number_of, packet_if, packets_by, packets_in, packets_of, selected, selects, woven_of, woven_with}
+
+-- ---- text
 
 -- more bytes were added to the page
 appends-more : (before out : Option (List ℕ)) (page later text more : List ℕ) → Appends before (append_known out page) text → later ≡ page ++ more
@@ -17,60 +34,9 @@ appends-more None out page later text more h e = tt
 appends-more (Some xs) None page later text more h e = absurd h
 appends-more (Some xs) (Some ys) page later text more h e = rw (e, ← append_assoc ys page more, h, append_assoc xs text more) refl
 
--- the selected steps with one more step
-selected-push : (selection : Selection) (steps : List DecidedStep) (one : DecidedStep) (found : Option Explained) → selected selection one ≡ found
-    → all_selected selection (steps ++ one ∷ []) ≡ all_selected selection steps ++ cons_option found []
-unfolding all_selected
-selected-push selection steps one found is =
-    filter_map-append (selected selection) steps (one ∷ []) ∙ ap (λ (o : Option Explained). filter_map (selected selection) steps ++ cons_option o []) is
-
--- a step that is not selected changes nothing
-pub reports-same : {shows : List Explained → Type 0} {so_far : List Explained → List ℕ → Type 0} {selection : Selection} {before now : Option (List ℕ)}
-    (steps : List DecidedStep) (one : DecidedStep) → selected selection one ≡ None → Reports shows so_far selection steps before now
-    → Reports shows so_far selection (steps ++ one ∷ []) before now
-reports-same {selection} steps one none was =
-    let same = selected-push selection steps one None none ∙ append-nil (all_selected selection steps) in
-    record { shown = rw same was.shown; text = was.text; says = rw same was.says; written = was.written }
-
--- a selected step
-pub reports-more : {shows shows_then : List Explained → Type 0} {so_far : List Explained → List ℕ → Type 0} {selection : Selection} {before : Option (List ℕ)}
-    {page page_then : List ℕ} {full : Explained} (steps : List DecidedStep) (one : DecidedStep) (out : Option (List ℕ)) → selected selection one ≡ Some full
-    → (was : Reports shows so_far selection steps before (append_known out page))
-    → shows_then (all_selected selection steps ++ full ∷ [])
-    × Grows (so_far (all_selected selection steps ++ full ∷ [])) was.text page page_then
-    → Reports shows_then so_far selection (steps ++ one ∷ []) before (append_known out page_then)
-reports-more {so_far} {selection} {before} {page} {page_then} {full} steps one out some was grows =
-    let more : all_selected selection (steps ++ one ∷ []) ≡ all_selected selection steps ++ full ∷ [] = selected-push selection steps one (Some full) some in
-    record {
-      shown = rw more grows.0;
-      text = was.text ++ grows.1.more;
-      says = rw more grows.1.says;
-      written = appends-more before out page page_then was.text grows.1.more was.written grows.1.grown;
-    }
-
 appends-page : (known : Option (List ℕ)) (page : List ℕ) → Appends known (append_known known page) page
 appends-page None page = tt
 appends-page (Some xs) page = refl
-
--- no step was received yet, and the text before the first one is on the page
-pub reports-begun : {shows : List Explained → Type 0} {so_far : List Explained → List ℕ → Type 0} {selection : Selection} {page : List ℕ} (known : Option (List ℕ))
-    → shows [] → Grows (so_far []) [] [] page → ReportsSome shows so_far selection known (append_known known page)
-unfolding all_selected
-reports-begun known shown begun =
-    ([], record { shown = shown; text = begun.more; says = begun.says; written = rw begun.grown (appends-page known begun.more) })
-
--- the report ended
-pub reports-ended : {shows : List Explained → Type 0} {so_far : List Explained → List ℕ → Type 0} {selection : Selection} {before : Option (List ℕ)}
-    {page page_then : List ℕ} (whole : List Explained → List ℕ → Type 0) (out : Option (List ℕ))
-    (some : ReportsSome shows so_far selection before (append_known out page))
-    → Grows (whole (all_selected selection some.0)) some.1.text page page_then
-    → WritesReport whole selection before (append_known out page_then)
-reports-ended {so_far} {selection} {before} {page} {page_then} whole out some grows = (
-  some.0,
-  some.1.text ++ grows.more,
-  grows.says,
-  appends-more before out page page_then some.1.text grows.more some.1.written grows.grown,
-)
 
 -- the page was written out: the output has the same bytes
 appends-kept : (before out later : Option (List ℕ)) (text : List ℕ) → Appends before out text → Appends out later [] → Appends before later text
@@ -79,14 +45,394 @@ appends-kept (Some xs) None later text h moved = absurd h
 appends-kept (Some xs) (Some ys) None text h moved = absurd moved
 appends-kept (Some xs) (Some ys) (Some zs) text h moved = rw (moved, append-nil ys, h) refl
 
-pub reports-kept : {shows : List Explained → Type 0} {so_far : List Explained → List ℕ → Type 0} {selection : Selection} {before out later : Option (List ℕ)}
-    → ReportsSome shows so_far selection before out → Appends out later [] → ReportsSome shows so_far selection before later
-reports-kept {before} {out} {later} some moved = (
-  some.0,
-  record { shown = some.1.shown; text = some.1.text; says = some.1.says; written = appends-kept before out later some.1.text some.1.written moved },
+appends-page-out : (before out now : Option (List ℕ)) (page text : List ℕ) → Appends before (append_known out page) text → Appends out now page → Appends before now text
+appends-page-out None out now page text h moved = tt
+appends-page-out (Some xs) None now page text h moved = absurd h
+appends-page-out (Some xs) (Some ys) None page text h moved = absurd moved
+appends-page-out (Some xs) (Some ys) (Some zs) page text h moved = rw (moved, h) refl
+
+pub writes-more : {had has : List ℕ → Type 0} (before out : Option (List ℕ)) (page page_then : List ℕ) → (was : Writes had before (append_known out page))
+    → Grows has was.text page page_then → Writes has before (append_known out page_then)
+writes-more before out page page_then was grows = record {
+  text = was.text ++ grows.more;
+  says_it = grows.says;
+  written = appends-more before out page page_then was.text grows.more was.written grows.grown;
+}
+
+pub writes-kept : {has : List ℕ → Type 0} (before out later : Option (List ℕ)) → Writes has before out → Appends out later [] → Writes has before later
+writes-kept before out later was moved =
+    record { text = was.text; says_it = was.says_it; written = appends-kept before out later was.text was.written moved }
+
+pub writes-out : {has : List ℕ → Type 0} (before out now : Option (List ℕ)) (page : List ℕ) → Writes has before (append_known out page) → Appends out now page → Writes has before now
+writes-out before out now page was moved =
+    record { text = was.text; says_it = was.says_it; written = appends-page-out before out now page was.text was.written moved }
+
+pub writes-first : {has : List ℕ → Type 0} (known : Option (List ℕ)) (page : List ℕ) → Grows has [] [] page → Writes has known (append_known known page)
+writes-first known page grows = record { text = grows.more; says_it = grows.says; written = rw grows.grown (appends-page known grows.more) }
+
+pub grows-same : {has : List ℕ → Type 0} (text page : List ℕ) → has text → Grows has text page page
+grows-same {has} text page is =
+    record { more = []; grown = sym (append-nil page); says = subst has (sym (append-nil text)) is }
+
+pub grows_none : (text page : List ℕ) → Grows (λ (all : List ℕ). ⊤) text page page
+grows_none text page = grows-same text page tt
+
+pub grows-then : {had has : List ℕ → Type 0} (text page mid now : List ℕ) → (first : Grows had text page mid) → Grows has (text ++ first.more) mid now
+    → Grows has text page now
+grows-then {had} {has} text page mid now first second = record {
+  more = first.more ++ second.more;
+  grown = second.grown ∙ rw first.grown (append_assoc page first.more second.more);
+  says = subst has (append_assoc text first.more second.more) second.says;
+}
+
+-- ---- rows
+
+for-each-more : {A : Type 0} (one : List Entry → Entry → List A) (before rest : List Entry) (entry : Entry)
+    → for_each one before (rest ++ entry ∷ []) ≡ for_each one before rest ++ one (before ++ rest) entry
+unfolding for_each
+for-each-more one before [] entry = rw (append-nil before, append-nil (one before entry)) refl
+for-each-more one before (first ∷ rest) entry =
+    rw (for-each-more one (before ++ first ∷ []) rest entry, append_assoc before (first ∷ []) rest)
+    (sym (append_assoc (one before first) (for_each one (before ++ first ∷ []) rest) (one (before ++ first ∷ rest) entry)))
+
+decided-none : decided_of [] ≡ []
+unfolding for_each
+decided-none = refl
+
+-- the decided step of the last row
+pub decided-is : (queues : Queues) (entries : List Entry) (entry : Entry) → HasRead queues (entries ++ entry ∷ []) → Leaves queues entries entry
+    → decided_by queues.counts.events queues.moment queues.last queues.taken ≡ decided_in entries entry
+unfolding decided_in
+decided-is queues entries entry read leaves = rw (read.counts_are, read.moment_is, leaves.last_is, leaves.taken_is) refl
+
+plain-with : (event moment : ℕ) (last : QueueName × Step) (arrival : Option DecidedPacket) (before after : Option StepNumbers)
+    → option_map plain (with_numbers event moment last arrival before after) ≡ with_numbers event moment last arrival before after
+plain-with event moment last arrival None after = refl
+plain-with event moment last arrival (Some before) None = refl
+plain-with event moment last arrival (Some before) (Some after) = refl
+
+plain-by : (event moment : ℕ) (last : Option (QueueName × Step)) (taken : Option Taken)
+    → option_map plain (decided_by event moment last taken) ≡ decided_by event moment last taken
+plain-by event moment None taken = refl
+plain-by event moment (Some last) None = refl
+plain-by event moment (Some last) (Some taken) = plain-with event moment last taken.decision.arrival taken.before taken.after
+
+plain-in : (entries : List Entry) (entry : Entry) → option_map plain (decided_in entries entry) ≡ decided_in entries entry
+unfolding decided_in
+plain-in entries entry = plain-by _ _ _ _
+
+pub full-is : (queues : Queues) (entries : List Entry) (entry : Entry) (full decided : Option DecidedStep) → option_map plain full ≡ option_map plain decided
+    → decided ≡ decided_by queues.counts.events queues.moment queues.last queues.taken → HasRead queues (entries ++ entry ∷ []) → Leaves queues entries entry
+    → option_map plain full ≡ decided_in entries entry
+full-is queues entries entry full decided same is read leaves =
+    same ∙ ap (option_map plain) (is ∙ decided-is queues entries entry read leaves) ∙ plain-in entries entry
+
+-- ---- events
+
+-- the selected steps with one more step
+selected-push : (selection : Selection) (steps : List DecidedStep) (one : DecidedStep) (found : Option Explained) → selected selection one ≡ found
+    → all_selected selection (steps ++ one ∷ []) ≡ all_selected selection steps ++ cons_option found []
+unfolding all_selected
+selected-push selection steps one found is =
+    filter_map-append (selected selection) steps (one ∷ []) ∙ ap (λ (o : Option Explained). filter_map (selected selection) steps ++ cons_option o []) is
+
+steps-more : (entries : List Entry) (entry : Entry) (steps : List DecidedStep) (full : Option DecidedStep) → map plain steps ≡ decided_of entries
+    → option_map plain full ≡ decided_in entries entry → map plain (steps ++ cons_option full []) ≡ decided_of (entries ++ entry ∷ [])
+steps-more entries entry steps None are is = rw (append-nil steps, for-each-more step_in [] entries entry, ← is, append-nil (decided_of entries)) are
+steps-more entries entry steps (Some one) are is =
+    rw (map-append, for-each-more step_in [] entries entry, ← is, are) refl
+
+-- the packets that are explained after their events
+woven-plain : (is : ExplainedPacket → List ℕ → Type 0) (packets : List ExplainedPacket) (text_plain text more : List ℕ) → IsWoven is packets text_plain text
+    → IsWoven is packets (text_plain ++ more) (text ++ more)
+unfolding IsWoven
+woven-plain is [] text_plain text more was = rw was refl
+woven-plain is (one ∷ rest) text_plain text more was = (
+  was.0,
+  was.1,
+  was.2 ++ more,
+  was.3 ++ more,
+  was.4,
+  woven-plain is rest was.2 was.3 more was.5,
+  rw was.6 (append_assoc was.0 was.2 more),
+  rw (was.7, append_assoc was.0 (was.1 ++ was.3) more, append_assoc was.1 was.3 more) refl,
 )
+
+woven-packet : (is : ExplainedPacket → List ℕ → Type 0) (packets : List ExplainedPacket) (one : ExplainedPacket) (text_plain text words : List ℕ) → IsWoven is packets text_plain text
+    → is one words → IsWoven is (packets ++ one ∷ []) text_plain (text ++ words)
+unfolding IsWoven
+woven-packet is [] one text_plain text words was says =
+    (text_plain, words, [], [], says, refl, sym (append-nil text_plain), rw (was, append-nil words) refl)
+woven-packet is (first ∷ rest) one text_plain text words was says = (
+  was.0,
+  was.1,
+  was.2,
+  was.3 ++ words,
+  was.4,
+  woven-packet is rest one was.2 was.3 words was.5 says,
+  was.6,
+  rw (was.7, append_assoc was.0 (was.1 ++ was.3) words, append_assoc was.1 was.3 words) refl,
+)
+
+woven-none : (is_with : Bool) (selection : Selection) (one : DecidedStep) → selected selection one ≡ None → woven_with is_with selection one ≡ None
+woven-none false selection one none = refl
+woven-none true selection one none = rw none refl
+
+woven-push : (is_with : Bool) (selection : Selection) (steps : List DecidedStep) (one : DecidedStep) (found : Option ExplainedPacket) → woven_with is_with selection one ≡ found
+    → woven_of is_with selection (steps ++ one ∷ []) ≡ woven_of is_with selection steps ++ cons_option found []
+unfolding woven_of
+woven-push is_with selection steps one found is =
+    filter_map-append (woven_with is_with selection) steps (one ∷ [])
+    ∙ ap (λ (o : Option ExplainedPacket). filter_map (woven_with is_with selection) steps ++ cons_option o []) is
+
+-- no step, a step that is not selected, and a selected step
+pub events-none : {shows : List Explained → Type 0} {so_far : List Explained → List ℕ → Type 0} {is : ExplainedPacket → List ℕ → Type 0} {is_with : Bool} {selection : Selection} {count : ℕ} {text : List ℕ}
+    (entries : List Entry) (entry : Entry) (page : List ℕ) → (let none : Option DecidedStep = None in none) ≡ decided_in entries entry
+    → ReportsEvents shows so_far is is_with selection count entries text
+    → Grows (ReportsEvents shows so_far is is_with selection count (entries ++ entry ∷ [])) text page page
+events-none {text} entries entry page none was = grows-same text page (record {
+  steps = was.steps;
+  are = rw append-nil at (steps-more entries entry was.steps None was.are none);
+  shown = was.shown;
+  text_is = was.text_is;
+  counted = was.counted;
+})
+
+pub events-same : {shows : List Explained → Type 0} {so_far : List Explained → List ℕ → Type 0} {is : ExplainedPacket → List ℕ → Type 0} {is_with : Bool} {selection : Selection} {count : ℕ} {text : List ℕ}
+    (entries : List Entry) (entry : Entry) (page : List ℕ) (one : DecidedStep) → option_map plain (Some one) ≡ decided_in entries entry
+    → selected selection one ≡ None → ReportsEvents shows so_far is is_with selection count entries text
+    → Grows (ReportsEvents shows so_far is is_with selection count (entries ++ entry ∷ [])) text page page
+events-same {is_with} {selection} {text} entries entry page one it none was =
+    let same : all_selected selection (was.steps ++ one ∷ []) ≡ all_selected selection was.steps =
+    selected-push selection was.steps one None none ∙ append-nil (all_selected selection was.steps) in
+    let woven : woven_of is_with selection (was.steps ++ one ∷ []) ≡ woven_of is_with selection was.steps =
+    woven-push is_with selection was.steps one None (woven-none is_with selection one none) ∙ append-nil (woven_of is_with selection was.steps) in
+    grows-same text page (record {
+      steps = was.steps ++ one ∷ [];
+      are = steps-more entries entry was.steps (Some one) was.are it;
+      shown = rw same was.shown;
+      text_is = record { plain = was.text_is.plain; says_it = rw same was.text_is.says_it; woven = rw woven was.text_is.woven };
+      counted = rw same was.counted;
+    })
+
+number-more : {A : Type 0} (all : List A) (one : A) (count : ℕ) → count ≡ number_of all → min (count + 1) (2 ^ 64 - 1) ≡ number_of (all ++ one ∷ [])
+number-more all one count is = rw (length-append, is) (omega arith)
+
+-- the text of a selected step, and of its packet
+text-more : {says : List Explained → List ℕ → Type 0} {is : ExplainedPacket → List ℕ → Type 0} {is_with : Bool} {selection : Selection} {text : List ℕ}
+    (steps : List DecidedStep) (page mid now : List ℕ) (one : DecidedStep) (full : Explained) (found : Option ExplainedPacket) → selected selection one ≡ Some full
+    → woven_with is_with selection one ≡ found → (was : SaysEvents says is is_with selection steps text)
+    → Grows (says (all_selected selection steps ++ full ∷ [])) was.plain page mid → ExplainsIf is found mid now
+    → Grows (SaysEvents says is is_with selection (steps ++ one ∷ [])) text page now
+text-more {is} {is_with} {selection} {text} steps page mid now one full None some woven was grows explains =
+    let more : all_selected selection (steps ++ one ∷ []) ≡ all_selected selection steps ++ full ∷ [] = selected-push selection steps one (Some full) some in
+    let packets : woven_of is_with selection (steps ++ one ∷ []) ≡ woven_of is_with selection steps =
+    woven-push is_with selection steps one None woven ∙ append-nil (woven_of is_with selection steps) in
+    record {
+      more = grows.more;
+      grown = explains ∙ grows.grown;
+      says = record {
+        plain = was.plain ++ grows.more;
+        says_it = rw more grows.says;
+        woven = rw packets (woven-plain is (woven_of is_with selection steps) was.plain text grows.more was.woven);
+      };
+    }
+text-more {is} {is_with} {selection} {text} steps page mid now one full (Some packet) some woven was grows explains =
+    let more : all_selected selection (steps ++ one ∷ []) ≡ all_selected selection steps ++ full ∷ [] = selected-push selection steps one (Some full) some in
+    let packets : woven_of is_with selection (steps ++ one ∷ []) ≡ woven_of is_with selection steps ++ packet ∷ [] =
+    woven-push is_with selection steps one (Some packet) woven in
+    record {
+      more = grows.more ++ explains.more;
+      grown = explains.grown ∙ rw grows.grown (append_assoc page grows.more explains.more);
+      says = record {
+        plain = was.plain ++ grows.more;
+        says_it = rw more grows.says;
+        woven = rw (packets, ← append_assoc text grows.more explains.more)
+            (woven-packet is (woven_of is_with selection steps) packet (was.plain ++ grows.more) (text ++ grows.more) explains.more
+            (woven-plain is (woven_of is_with selection steps) was.plain text grows.more was.woven) explains.says);
+      };
+    }
+
+pub events-more : {shows shows_then : List Explained → Type 0} {so_far : List Explained → List ℕ → Type 0} {is : ExplainedPacket → List ℕ → Type 0} {is_with : Bool} {selection : Selection} {count : ℕ} {text : List ℕ}
+    (entries : List Entry) (entry : Entry) (page mid now : List ℕ) (one : DecidedStep) (full : Explained) → option_map plain (Some one) ≡ decided_in entries entry
+    → selected selection one ≡ Some full → (was : ReportsEvents shows so_far is is_with selection count entries text)
+    → shows_then (all_selected selection was.steps ++ full ∷ [])
+    × Grows (so_far (all_selected selection was.steps ++ full ∷ [])) was.text_is.plain page mid
+    → ExplainsIf is (woven_with is_with selection one) mid now
+    → Grows (ReportsEvents shows_then so_far is is_with selection (min (count + 1) (2 ^ 64 - 1)) (entries ++ entry ∷ [])) text page now
+events-more {is_with} {selection} {count} {text} entries entry page mid now one full it some was grows explains =
+    let more : all_selected selection (was.steps ++ one ∷ []) ≡ all_selected selection was.steps ++ full ∷ [] = selected-push selection was.steps one (Some full) some in
+    let grown = text-more was.steps page mid now one full (woven_with is_with selection one) some refl was.text_is grows.1 explains in
+    record {
+      more = grown.more;
+      grown = grown.grown;
+      says = record {
+        steps = was.steps ++ one ∷ [];
+        are = steps-more entries entry was.steps (Some one) was.are it;
+        shown = rw more grows.0;
+        text_is = grown.says;
+        counted = rw more (number-more (all_selected selection was.steps) full count was.counted);
+      };
+    }
+
+pub events-begun : {shows : List Explained → Type 0} {so_far : List Explained → List ℕ → Type 0} {is : ExplainedPacket → List ℕ → Type 0} {is_with : Bool} {selection : Selection} (page : List ℕ)
+    → shows [] → Grows (so_far []) [] [] page → Grows (ReportsEvents shows so_far is is_with selection 0 []) [] [] page
+unfolding all_selected woven_of IsWoven
+events-begun page shown begun = record {
+  more = begun.more;
+  grown = begun.grown;
+  says = record {
+    steps = [];
+    are = sym decided-none;
+    shown = shown;
+    text_is = record { plain = begun.more; says_it = begun.says; woven = refl };
+    counted = refl;
+  };
+}
+
+-- a result has what follows from it
+ok-has : {A E : Type 0} {S : Type 0} (result : Result A E) → IsOk result → OnOk result S → S
+ok-has (Ok value) ok has = has
+ok-has (Err why) ok has = cc
+
+pub events-ended : {shows : List Explained → Type 0} {so_far : List Explained → List ℕ → Type 0} {whole : List Explained → List ℕ → Type 0} {is_with : Bool} {selection : Selection} {count : ℕ}
+    {E : Type 0} {A : Type 0} (entries : List Entry) (before out now : Option (List ℕ)) (page page_then : List ℕ) (ended : Result A E)
+    → ((all : List Explained) (text : List ℕ) → shows all → so_far all text → OnOk ended (Grows (whole all) text page page_then)) → IsOk ended
+    → Appends out now page_then
+    → Writes (ReportsEvents shows so_far (λ packet words. ⊤) is_with selection count entries) before (append_known out page)
+    → Writes (IsReport whole is_with selection count entries) before now
+events-ended {is_with} {selection} entries before out now page page_then ended ends ok moved was =
+    let it = was.says_it in
+    let grows = ok-has ended ok (ends (all_selected selection it.steps) it.text_is.plain it.shown it.text_is.says_it) in
+    writes-out before out now page_then (writes-more before out page page_then was (record {
+      more = grows.more;
+      grown = grows.grown;
+      says = record {
+        steps = it.steps;
+        are = it.are;
+        shown = tt;
+        text_is = record {
+          plain = it.text_is.plain ++ grows.more;
+          says_it = grows.says;
+          woven = woven-plain (λ packet words. ⊤) (woven_of is_with selection it.steps) it.text_is.plain was.text grows.more it.text_is.woven;
+        };
+        counted = it.counted;
+      };
+    })) moved
 
 -- a result has what follows from what it has
 pub on-ok : {A E : Type 0} {S T : Type 0} (result : Result A E) → (S → T) → OnOk result S → OnOk result T
 on-ok (Ok value) follows has = follows has
 on-ok (Err why) follows has = tt
+
+pub ends-with : {had has : List Entry → Type 0} {outcome : List Row → Outcome} {rows : Option (List Row)} {result : Result StepsFinding StepsFault}
+    → ((entries : List Entry) → had entries → has entries) → Ends had outcome rows result → Ends has outcome rows result
+ends-with follows ends = record { entries = ends.entries; has_them = follows ends.entries ends.has_them; same = ends.same }
+
+-- ---- packets
+
+texts-more : {A : Type 0} (is : A → List ℕ → Type 0) (all : List A) (one : A) (text more : List ℕ) → IsTexts is all text → is one more
+    → IsTexts is (all ++ one ∷ []) (text ++ more)
+unfolding IsTexts
+texts-more is [] one text more were says = (more, [], says, refl, rw (were, append-nil more) refl)
+texts-more is (first ∷ rest) one text more were says =
+    (were.0, were.1 ++ more, were.2, texts-more is rest one were.1 more were.3 says, rw (were.4, append_assoc were.0 were.1 more) refl)
+
+pub packets-none : {is : ExplainedPacket → List ℕ → Type 0} (count : ℕ) → count ≡ 0 → (selection : Selection) → ReportsPackets is selection count [] []
+unfolding IsTexts for_each
+packets-none count none selection = record { says = refl; counted = none }
+
+-- one packet
+pub packet-same : {is : ExplainedPacket → List ℕ → Type 0} {count : ℕ} (all : List ExplainedPacket) (text page : List ℕ) (found : Option ExplainedPacket)
+    → found ≡ None → ReportsThese is all count text → Grows (ReportsThese is (all ++ cons_option found []) count) text page page
+packet-same {is} {count} all text page found none was = rw (none, append-nil all) (grows-same text page was)
+
+pub packet-more : {is : ExplainedPacket → List ℕ → Type 0} {count : ℕ} (all : List ExplainedPacket) (text page now : List ℕ) (found : Option ExplainedPacket) (one : ExplainedPacket)
+    → found ≡ Some one → Grows (is one) [] page now → ReportsThese is all count text
+    → Grows (ReportsThese is (all ++ cons_option found []) (min (count + 1) (2 ^ 64 - 1))) text page now
+packet-more {is} {count} all text page now found one some grows was = rw some (record {
+  more = grows.more;
+  grown = grows.grown;
+  says = record { says = texts-more is all one text grows.more was.says grows.says; counted = number-more all one count was.counted };
+})
+
+-- the packets of a row
+pub row-none : {is : ExplainedPacket → List ℕ → Type 0} {count : ℕ} (selection : Selection) (entries : List Entry) (entry : Entry) (text page : List ℕ)
+    → decided_in entries entry ≡ None → ReportsPackets is selection count entries text
+    → Grows (ReportsPackets is selection count (entries ++ entry ∷ [])) text page page
+row-none selection entries entry text page none was =
+    grows-same text page (rw (for-each-more (packets_in selection) [] entries entry, none, append-nil (packets_of selection entries)) was)
+
+row-by : (selection : Selection) (entries : List Entry) (entry : Entry) (one : DecidedStep) (dropped : List DecidedPacket) → decided_in entries entry ≡ Some one
+    → dropped_in entries entry ≡ dropped
+    → packets_of selection (entries ++ entry ∷ [])
+    ≡ (packets_of selection entries ++ filter_map (packet_if selection one) dropped) ++ filter_map (packet_if selection one) (cons_option one.arrival [])
+row-by selection entries entry one dropped some are =
+    rw (for-each-more (packets_in selection) [] entries entry, some, are, filter_map-append)
+    (sym (append_assoc (packets_of selection entries) (filter_map (packet_if selection one) dropped) (filter_map (packet_if selection one) (cons_option one.arrival []))))
+
+pub packet-some : (selection : Selection) (one : DecidedStep) (packet : DecidedPacket) → selects selection one packet ≡ true
+    → packet_if selection one packet ≡ Some (explained_packet one packet)
+packet-some selection one packet is = rw is refl
+
+pub packet-none : (selection : Selection) (one : DecidedStep) (packet : DecidedPacket) → selects selection one packet ≡ false → packet_if selection one packet ≡ None
+packet-none selection one packet is = rw is refl
+
+-- the first ones of the packets that a step dropped
+pub lost-first : {is : ExplainedPacket → List ℕ → Type 0} {count : ℕ} (f : DecidedPacket → Option ExplainedPacket) (all : List ExplainedPacket) (lost : List DecidedPacket) (text page : List ℕ)
+    → ReportsThese is all count text → Grows (ReportsThese is (all ++ filter_map f (take 0 lost)) count) text page page
+lost-first f all lost text page was = rw (append-nil all) (grows-same text page was)
+
+pub lost-next : {is : ExplainedPacket → List ℕ → Type 0} {count later : ℕ} (f : DecidedPacket → Option ExplainedPacket) (all : List ExplainedPacket) (lost : List DecidedPacket) (place : ℕ)
+    (default one : DecidedPacket) (text page mid now : List ℕ) → place < length lost → one ≡ get_or lost place default
+    → (first : Grows (ReportsThese is (all ++ filter_map f (take place lost)) count) text page mid)
+    → Grows (ReportsThese is ((all ++ filter_map f (take place lost)) ++ cons_option (f one) []) later) (text ++ first.more) mid now
+    → Grows (ReportsThese is (all ++ filter_map f (take (place + 1) lost)) later) text page now
+lost-next f all lost place default one text page mid now within is first second =
+    let split : take (place + 1) lost ≡ take place lost ++ one ∷ [] =
+    take_more lost place default within ∙ ap (λ (x : DecidedPacket). take place lost ++ x ∷ []) (sym is) in
+    let joined : (all ++ filter_map f (take place lost)) ++ cons_option (f one) [] ≡ all ++ filter_map f (take (place + 1) lost) =
+    append_assoc all (filter_map f (take place lost)) (cons_option (f one) [])
+    ∙ ap (λ (x : List ExplainedPacket). all ++ x) (sym (filter_map-append f (take place lost) (one ∷ [])) ∙ ap (filter_map f) (sym split)) in
+    grows-then text page mid now first (rw joined at second)
+
+pub lost-all : {is : ExplainedPacket → List ℕ → Type 0} {count : ℕ} (f : DecidedPacket → Option ExplainedPacket) (all : List ExplainedPacket) (lost : List DecidedPacket) (place : ℕ) (text page now : List ℕ)
+    → length lost ≤ place → Grows (ReportsThese is (all ++ filter_map f (take place lost)) count) text page now
+    → Grows (ReportsThese is (all ++ filter_map f lost) count) text page now
+lost-all f all lost place text page now over was = rw (take_all place lost over) at was
+
+-- all packets of a row
+pub row-packets : {is : ExplainedPacket → List ℕ → Type 0} {count later : ℕ} (selection : Selection) (entries : List Entry) (entry : Entry) (one : DecidedStep) (dropped : List DecidedPacket)
+    (text page mid now : List ℕ) → decided_in entries entry ≡ Some one → dropped_in entries entry ≡ dropped
+    → (first : Grows (ReportsThese is (packets_of selection entries ++ filter_map (packet_if selection one) dropped) count) text page mid)
+    → Grows (ReportsThese is ((packets_of selection entries ++ filter_map (packet_if selection one) dropped)
+    ++ filter_map (packet_if selection one) (cons_option one.arrival [])) later) (text ++ first.more) mid now
+    → Grows (ReportsPackets is selection later (entries ++ entry ∷ [])) text page now
+row-packets {is} {count} {later} selection entries entry one dropped text page mid now some are first second =
+    subst (λ (packets : List ExplainedPacket). Grows (ReportsThese is packets later) text page now) (sym (row-by selection entries entry one dropped some are))
+    (grows-then text page mid now first second)
+
+pub row-lost : {is : ExplainedPacket → List ℕ → Type 0} {count : ℕ} (selection : Selection) (entries : List Entry) (entry : Entry) (one : DecidedStep) (dropped : List DecidedPacket)
+    (text page now : List ℕ) → decided_in entries entry ≡ Some one → dropped_in entries entry ≡ dropped → one.arrival ≡ None
+    → Grows (ReportsThese is (packets_of selection entries ++ filter_map (packet_if selection one) dropped) count) text page now
+    → Grows (ReportsPackets is selection count (entries ++ entry ∷ [])) text page now
+row-lost {is} {count} selection entries entry one dropped text page now some are none first =
+    let before = packets_of selection entries ++ filter_map (packet_if selection one) dropped in
+    let same : before ++ filter_map (packet_if selection one) (cons_option one.arrival []) ≡ before =
+    ap (λ (arrival : Option DecidedPacket). before ++ filter_map (packet_if selection one) (cons_option arrival [])) none ∙ append-nil before in
+    row-packets selection entries entry one dropped text page now now some are first
+    (subst (λ (packets : List ExplainedPacket). Grows (ReportsThese is packets count) (text ++ first.more) now now) (sym same)
+    (grows-same (text ++ first.more) now first.says))
+
+pub row-arrival : {is : ExplainedPacket → List ℕ → Type 0} {count later : ℕ} (selection : Selection) (entries : List Entry) (entry : Entry) (one : DecidedStep) (dropped : List DecidedPacket)
+    (packet : DecidedPacket) (text page mid now : List ℕ) → decided_in entries entry ≡ Some one → dropped_in entries entry ≡ dropped → one.arrival ≡ Some packet
+    → (first : Grows (ReportsThese is (packets_of selection entries ++ filter_map (packet_if selection one) dropped) count) text page mid)
+    → Grows (ReportsThese is ((packets_of selection entries ++ filter_map (packet_if selection one) dropped) ++ cons_option (packet_if selection one packet) []) later)
+    (text ++ first.more) mid now
+    → Grows (ReportsPackets is selection later (entries ++ entry ∷ [])) text page now
+row-arrival {is} {count} {later} selection entries entry one dropped packet text page mid now some are arrives first second =
+    let before = packets_of selection entries ++ filter_map (packet_if selection one) dropped in
+    let same : before ++ filter_map (packet_if selection one) (cons_option one.arrival []) ≡ before ++ cons_option (packet_if selection one packet) [] =
+    ap (λ (arrival : Option DecidedPacket). before ++ filter_map (packet_if selection one) (cons_option arrival [])) arrives in
+    row-packets selection entries entry one dropped text page mid now some are first
+    (subst (λ (packets : List ExplainedPacket). Grows (ReportsThese is packets later) (text ++ first.more) mid now) (sym same) second)

@@ -1,7 +1,8 @@
--- The audit of a text: its rows are read in order up to the first fault or the first step that differs. specs/LookBack.antt defines the queue of each step.
-use Rattle.std.specs.Prelude.{ℕ, ◌+◌, ◌%◌, ◌^◌, ◌≡◌, ◌++◌, ◌∷◌, if◌then◌else◌, List, [], Bool, false, Option, Some, None, Result, Ok, Err}
+-- The rows of a text that are decided, in order up to the first fault or the first step that differs, and the finding.
+-- specs/LookBack.antt defines the queue of each step.
+use Rattle.std.specs.Prelude.{ℕ, ◌+◌, ◌%◌, ◌^◌, ◌≡◌, ◌++◌, ◌∷◌, if◌then◌else◌, List, [], Bool, false, Option, Some, None, IfSome, Result, Ok, Err}
 use Rattle.pie_record.specs.Text.{Row}
-use Rattle.pie_record.specs.Field.{and_then, fault_at, is_io_or_memory}
+use Rattle.pie_record.specs.Field.{fault_at, is_io_or_memory}
 use Rattle.pie_record.specs.declared.fault.RecordFault.{RecordFault}
 use Rattle.pie_record.specs.declared.fault.TraceFault.TheVariants as fault
 use Rattle.pie_linux_history.specs.declared.columns.Columns.{Columns}
@@ -47,30 +48,57 @@ abbrev pub with_entry : List Entry → Result Entry RecordFault → List Entry
 with_entry entries (Err what) = entries
 with_entry entries (Ok entry) = entries ++ entry ∷ []
 
--- the first fault or difference, or the finding of later rows
-abbrev pub first_of_both : Result (Option StepDifference) StepsFault → Result StepsFinding StepsFault → Result StepsFinding StepsFault
-first_of_both (Ok None) later = later
-first_of_both (Ok (Some found)) later = Ok (Differs found)
-first_of_both (Err why) later = Err why
+-- the decided rows up to the first fault or difference, and it; otherwise those of later rows
+abbrev pub Outcome : Type 0
+Outcome = List Entry × Result StepsFinding StepsFault
 
--- the finding of rows after others: the first fault or the first difference, and otherwise the counts
-unfoldable pub finding_after : Columns → List Entry → List Row → Result StepsFinding StepsFault
-finding_after columns entries [] = Ok (Clean (counts_of entries))
-finding_after columns entries (row ∷ rows) =
-    first_of_both (verdict entries (next (counts_of entries).events) (entry_in columns row))
-    (finding_after columns (with_entry entries (entry_in columns row)) rows)
+abbrev pub first_of_both : List Entry → Result (Option StepDifference) StepsFault → Outcome → Outcome
+first_of_both entries (Ok None) later = later
+first_of_both entries (Ok (Some found)) later = (entries, Ok (Differs found))
+first_of_both entries (Err why) later = (entries, Err why)
 
--- the finding of a text of these records, whose first one names the columns
+-- the rows that are decided after others without a fault or a difference, and the finding: the first fault or the first difference, and otherwise the
+-- counts. With a chosen queue the rows of other queues are skipped
+unfoldable pub outcome_after : Option (List ℕ) → Columns → List Entry → List Row → Outcome
+outcome_after chosen columns entries [] = (entries, Ok (Clean (counts_of entries)))
+outcome_after chosen columns entries (row ∷ rows) =
+    first_of_both entries (verdict entries (next (counts_of entries).events) (entry_in chosen columns row))
+    (outcome_after chosen columns (with_entry entries (entry_in chosen columns row)) rows)
+
+abbrev pub outcome_by : Option (List ℕ) → Result Columns StepsFault → List Row → Outcome
+outcome_by chosen (Err why) rows = ([], Err why)
+outcome_by chosen (Ok columns) rows = outcome_after chosen columns [] rows
+
+-- the outcome of a text of these records, whose first one names the columns
+abbrev pub outcome_of : Option (List ℕ) → List Row → Outcome
+outcome_of chosen [] = ([], Err (Trace fault.NoOpen))
+outcome_of chosen (names ∷ rows) = outcome_by chosen (columns_of names) rows
+
+-- the finding of an audit
 abbrev pub finding_of : List Row → Result StepsFinding StepsFault
-finding_of [] = Err (Trace fault.NoOpen)
-finding_of (names ∷ rows) = and_then (columns_of names) (λ columns. finding_after columns [] rows)
+finding_of rows = (outcome_of None rows).1
 
 -- the reader, the writer or memory failed
+abbrev pub is_failure : StepsFault → Bool
+is_failure (Trace why) = is_io_or_memory why
+is_failure _ = false
+
 abbrev pub has_failed : {A : Type 0} → Result A StepsFault → Bool
-has_failed (Err (Trace why)) = is_io_or_memory why
+has_failed (Err why) = is_failure why
 has_failed _ = false
 
 -- the columns were read from the first row; the rows that remain
 abbrev pub ReadsColumns : List Row → Result Columns StepsFault → Option (List Row) → Type 0
 ReadsColumns [] result later = result ≡ Err (Trace fault.NoOpen)
 ReadsColumns (names ∷ rows) result later = (result ≡ columns_of names) × (later ≡ Some rows)
+
+-- the first row of a text named these columns
+abbrev pub Begins : Option (List ℕ) → Option (List Row) → Columns → Option (List Row) → Type 0
+Begins chosen all columns later =
+    IfSome all (λ rows. (rest : List Row) × (later ≡ Some rest) × (outcome_of chosen rows ≡ outcome_after chosen columns [] rest))
+
+-- rows were decided after others with this result: exactly those of the outcome, if the rows are known
+pub record Ends (has : List Entry → Type 0) (outcome : List Row → Outcome) (rows : Option (List Row)) (result : Result StepsFinding StepsFault) : Type 0 where
+  pub entries : List Entry
+  pub has_them : has entries
+  pub same : IfSome rows (λ all. outcome all ≡ (entries, result))

@@ -1,19 +1,16 @@
 -- The queues of an audit represent the rows so far: by each name they have the queue that a look-back over the rows finds.
-use Rattle.std.specs.Prelude.{ℕ, ◌≡◌, ◌++◌, ◌∷◌, if◌then◌else◌, List, [], true, false, Option, Some, None, IfOk, Result, Ok, Err, suc, zero}
+use Rattle.std.specs.Prelude.{ℕ, ◌≡◌, ◌++◌, ◌∷◌, if◌then◌else◌, List, [], true, false, Option, Some, None, IfOk, IfSome, Result, Ok, Err, suc, zero}
 use Rattle.std.specs.Str.{bytes_eq}
-use Rattle.pie_record.specs.Text.{Row}
+use Rattle.pie_record.specs.Text.{Row, TakesRow}
 use Rattle.pie_record.specs.declared.fault.RecordFault.{RecordFault}
 use Rattle.pie_linux_history.specs.declared.columns.Columns.{Columns}
-use Rattle.pie_linux_history.specs.declared.explained.DecidedPacket.{DecidedPacket}
-use Rattle.pie_linux_history.specs.declared.explained.Decision.{Decision}
 use Rattle.pie_linux_history.specs.declared.fault.StepsFault.{StepsFault}
 use Rattle.pie_linux_history.specs.declared.known.Known.{Known}
 use Rattle.pie_linux_history.specs.declared.queues.Queues.{Queues}
 use Rattle.pie_linux_history.specs.declared.queues.StepDifference.{StepDifference}
-use Rattle.pie_linux_history.specs.declared.step.QueueName.{QueueName}
-use Rattle.pie_linux_history.specs.declared.step.Step.{Step}
 use Rattle.pie_linux_history.specs.Audit.{next, verdict}
-use Rattle.pie_linux_history.specs.LookBack.{Entry, Followed, Took, counts_of, decision_by, dropped_by_step, entry_in, followed, is_opening, name_of}
+use Rattle.pie_linux_history.specs.Decided.{dropped_in, last_in, taken_in}
+use Rattle.pie_linux_history.specs.LookBack.{Entry, Followed, counts_of, entry_in, followed, latest, name_of}
 
 abbrev pub tracked : Known → Followed
 tracked known = record { last = known.last; queue = known.queue }
@@ -33,36 +30,18 @@ IsPlaceOf name (known ∷ rest) (suc place) = (bytes_eq (name_of known.name) nam
 pub record Represents (queues : List Known) (entries : List Entry) : Type 0 where
   pub by_name : (name : List ℕ) → looked_up name queues ≡ followed name entries
 
--- the step of a row, its packet if it is an arrival, and the packets that it dropped
-abbrev pub last_in : Entry → Option (QueueName × Step)
-last_in (Took queue step) = Some (queue, step)
-last_in _ = None
-
-abbrev pub arrival_by : Option Decision → Option DecidedPacket
-arrival_by None = None
-arrival_by (Some decision) = decision.arrival
-
-abbrev pub arrival_in : List Entry → Entry → Option DecidedPacket
-arrival_in entries (Took queue step) =
-    if is_opening step.kind then None else arrival_by (decision_by step (followed (name_of queue) entries))
-arrival_in entries _ = None
-
-abbrev pub dropped_in : List Entry → Entry → List DecidedPacket
-dropped_in entries (Took queue step) =
-    if is_opening step.kind then [] else dropped_by_step step (followed (name_of queue) entries)
-dropped_in entries _ = []
-
 -- the queues, the step and its packets after a row
 pub record Leaves (queues : Queues) (entries : List Entry) (entry : Entry) : Type 0 where
   pub represents : Represents queues.known.all.items (entries ++ entry ∷ [])
   pub last_is : queues.last ≡ last_in entry
-  pub arrival_is : queues.arrival ≡ arrival_in entries entry
+  pub taken_is : queues.taken ≡ taken_in entries entry
   pub lost_are : queues.lost.items ≡ dropped_in entries entry
 
 -- the queues and the counts represent the rows so far
 pub record HasRead (queues : Queues) (entries : List Entry) : Type 0 where
   pub represents : Represents queues.known.all.items entries
   pub counts_are : queues.counts ≡ counts_of entries
+  pub moment_is : queues.moment ≡ latest entries
 
 -- a row was taken after others, with this result
 pub record Takes (queues : Queues) (entries : List Entry) (entry : Result Entry RecordFault) (result : Result (Option StepDifference) StepsFault) : Type 0 where
@@ -70,15 +49,13 @@ pub record Takes (queues : Queues) (entries : List Entry) (entry : Result Entry 
   pub read : IfOk entry (λ one. HasRead queues (entries ++ one ∷ []))
   pub leaves : IfOk entry (λ one. Leaves queues entries one)
 
--- the next row was taken, if there is one; the rows that it left
-pub record TookNext (columns : Columns) (entries : List Entry) (rows : List Row) (taken : Result (Option StepDifference) StepsFault) (later : Option (List Row)) (queues : Queues) : Type 0 where
+-- the next row was taken: the first of those that remain, if they are known
+pub record TookNext (chosen : Option (List ℕ)) (columns : Columns) (entries : List Entry) (rows : Option (List Row)) (taken : Result (Option StepDifference) StepsFault) (later : Option (List Row)) (queues : Queues) : Type 0 where
   pub row : Row
-  pub rest : List Row
-  pub first : rows ≡ row ∷ rest
-  pub remain : later ≡ Some rest
-  pub takes : Takes queues entries (entry_in columns row) taken
+  pub took : TakesRow rows true row later
+  pub takes : Takes queues entries (entry_in chosen columns row) taken
 
-abbrev pub TakesNext : Columns → List Entry → List Row → Result (Option (Option StepDifference)) StepsFault → Option (List Row) → Queues → Type 0
-TakesNext columns entries rows (Ok None) later queues = (rows ≡ []) × HasRead queues entries
-TakesNext columns entries rows (Ok (Some found)) later queues = TookNext columns entries rows (Ok found) later queues
-TakesNext columns entries rows (Err why) later queues = TookNext columns entries rows (Err why) later queues
+abbrev pub TakesNext : Option (List ℕ) → Columns → List Entry → Option (List Row) → Result (Option (Option StepDifference)) StepsFault → Option (List Row) → Queues → Type 0
+TakesNext chosen columns entries rows (Ok None) later queues = IfSome rows (λ all. all ≡ []) × HasRead queues entries
+TakesNext chosen columns entries rows (Ok (Some found)) later queues = TookNext chosen columns entries rows (Ok found) later queues
+TakesNext chosen columns entries rows (Err why) later queues = TookNext chosen columns entries rows (Err why) later queues

@@ -6,6 +6,7 @@ pub mod Queue
 pub mod LookBack
 pub mod Audit
 pub mod Known
+pub mod Decided
 pub mod Columns
 pub mod Event
 pub mod Reports

@@ -1,5 +1,5 @@
 -- A queue after the rows of a text, by looking back over them: the last row `init` or `resume` of its name, and each later step of this name.
-use Rattle.std.specs.Prelude.{ℕ, ◌+◌, ◌%◌, ◌^◌, ◌++◌, ◌∷◌, if◌then◌else◌, List, [], length, take, filter, nat_le, not, Bool, true, false, Option, Some, None, Result, Ok}
+use Rattle.std.specs.Prelude.{ℕ, ◌+◌, ◌%◌, ◌^◌, ◌++◌, ◌∷◌, if◌then◌else◌, List, [], length, take, filter, max, nat_le, not, Bool, true, false, Option, Some, None, Result, Ok}
 use Rattle.std.specs.List.{filter_map, fold, sum_by}
 use Rattle.std.specs.Option.{ok_or, option_or}
 use Rattle.std.specs.Str.{bytes_eq}
@@ -24,26 +24,39 @@ use Rattle.pie_linux_history.specs.Views.{QueueView}
 
 -- ---- rows
 
--- a row: the number of steps of a queue that the recorder lost, or a step of a queue
+-- a row: the number of steps of a queue that the recorder lost, a step of a queue, or a row of another queue than the chosen one
 pub data Entry : Type 0 where
   Lost : (queue : QueueName) → (count : ℕ) → Entry
   Took : (queue : QueueName) → (step : Step) → Entry
+  Skipped : Entry
 
 abbrev pub entry_after : Columns → Row → Option (QueueName × ℕ) → Result Entry RecordFault
 entry_after columns row (Some lost) = Ok (Lost lost.0 lost.1)
 entry_after columns row None = and_then (step_in columns row) (λ step. and_then (ok_or (queue_name (field_or row columns.queue)) flaw.Word) (λ queue. Ok (Took queue step)))
 
-unfoldable pub entry_in : Columns → Row → Result Entry RecordFault
-entry_in columns row = and_then (lost_in row) (entry_after columns row)
-
 -- the bytes of a name
 abbrev pub name_of : QueueName → List ℕ
 name_of queue = if nat_le queue.len 64 then take queue.len queue.bytes else []
+
+-- the name of the queue of a row
+abbrev pub queue_by : Columns → Row → Result (Option (QueueName × ℕ)) RecordFault → List ℕ
+queue_by columns row (Ok (Some lost)) = name_of lost.0
+queue_by columns row _ = field_or row columns.queue
+
+-- true for a row of another queue than the chosen one
+abbrev pub is_other : Option (List ℕ) → Columns → Row → Bool
+is_other None columns row = false
+is_other (Some name) columns row = not (bytes_eq (queue_by columns row (lost_in row)) name)
+
+unfoldable pub entry_in : Option (List ℕ) → Columns → Row → Result Entry RecordFault
+entry_in chosen columns row =
+    if is_other chosen columns row then Ok Skipped else and_then (lost_in row) (entry_after columns row)
 
 -- true for a row of the queue with exactly this name
 abbrev pub is_of : List ℕ → Entry → Bool
 is_of name (Lost queue count) = bytes_eq (name_of queue) name
 is_of name (Took queue step) = bytes_eq (name_of queue) name
+is_of name Skipped = false
 
 -- ---- the rows of a queue
 
@@ -57,6 +70,7 @@ is_opening _ = false
 abbrev pub begins : Entry → Bool
 begins (Lost queue count) = true
 begins (Took queue step) = is_opening step.kind
+begins Skipped = false
 
 abbrev pub step_of : Entry → Option Step
 step_of (Took queue step) = Some step
@@ -106,6 +120,16 @@ decision_by step (Some was) = Some (next_step was.last was.queue step).decision
 abbrev pub dropped_by_step : Step → Option Followed → List DecidedPacket
 dropped_by_step step None = []
 dropped_by_step step (Some was) = next_dropped was.last was.queue step
+
+-- ---- the moment
+
+abbrev pub later_of : ℕ → Entry → ℕ
+later_of moment (Took queue step) = max moment step.moment
+later_of moment _ = moment
+
+-- the effective moment after these rows: the latest of their steps
+unfoldable pub latest : List Entry → ℕ
+latest entries = fold later_of 0 entries
 
 -- ---- counts
 

@@ -24,13 +24,10 @@ use Rattle.pie_linux_history.specs.Views.{FlowView, QueueView}
 
 -- ---- flows
 
--- the place of a flow, or of the flow that a priority or a hash chooses
-abbrev pub place_at : QueueView → Option ℕ → ℕ → ℕ → ℕ
-place_at queue flow priority hash = if queue.numbers.has_flows then unwrap_or flow (flow_chosen queue.numbers priority hash) else 0
-
 -- the place of the flow of a step: the recorded one, or the chosen one of an arrival at the limit in a text without the column `rq`
 abbrev pub place_of : QueueView → Step → ℕ
-place_of queue step = place_at queue step.flow step.priority step.hash
+place_of queue step =
+    if queue.numbers.has_flows then unwrap_or step.flow (flow_chosen queue.numbers step.priority step.hash) else 0
 
 abbrev pub flow_at : QueueView → Step → Option FlowView
 flow_at queue step = slice_get queue.flows (place_of queue step)

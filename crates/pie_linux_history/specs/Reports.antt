@@ -1,12 +1,38 @@
--- Reports about the decided steps of a text: the selected steps, and the text about them.
-use Rattle.std.specs.Prelude.{ℕ, Option, Some, None, List, if◌then◌else◌}
-use Rattle.std.specs.List.{filter_map}
+-- Reports about the rows of a text: the selected events of its decided steps, the selected packets that these decided, and the text about them.
+use Rattle.std.specs.Prelude.{ℕ, ◌-◌, ◌^◌, ◌≡◌, ◌++◌, ◌==◌, ◌&&◌, ◌||◌, ⊤, [], ◌∷◌, Bool, true, false, Option, Some, None, List, filter, if◌then◌else◌, length, map, min, nat_lt, not}
+use Rattle.std.specs.List.{cons_option, filter_map}
 use Rattle.std.specs.Io.KnownBytes.{Appends}
-use Rattle.pie_explain.specs.Selection.{picks}
+use Rattle.pie_linux.specs.Enqueue.{is_queued}
+use Rattle.pie_linux.specs.declared.cause.LinuxCause.{LinuxCause}
+use Rattle.pie_linux.specs.declared.cause.LinuxCause.TheVariants.{SumAbove, WordBelow}
+use Rattle.pie_linux.specs.declared.cause.Picked.{Picked}
+use Rattle.pie_linux.specs.declared.cause.Picked.TheVariants as picked
+use Rattle.pie_explain.specs.Report.{Grows}
+use Rattle.pie_explain.specs.Selection.{is_from, is_to, picks}
+use Rattle.pie_explain.specs.declared.choice.EventChoice.{EventChoice}
+use Rattle.pie_explain.specs.declared.choice.EventChoice.TheVariants as choice
 use Rattle.pie_explain.specs.declared.explanation.Explained.{Explained}
 use Rattle.pie_explain.specs.declared.selection.Selection.{Selection}
 use Rattle.pie_linux_history.specs.declared.decided.DecidedStep.{DecidedStep}
-use Rattle.pie_linux_history.specs.Event.{explained_of}
+use Rattle.pie_linux_history.specs.declared.explained.DecidedPacket.{DecidedPacket}
+use Rattle.pie_linux_history.specs.declared.explained.ExplainedPacket.{ExplainedPacket}
+use Rattle.pie_linux_history.specs.declared.explained.Fate.{Fate}
+use Rattle.pie_linux_history.specs.declared.explained.Fate.TheVariants.{Arrival}
+use Rattle.pie_linux_history.specs.Decided.{decided_in, decided_of, dropped_in, for_each, plain}
+use Rattle.pie_linux_history.specs.Event.{explained_of, tag_of}
+use Rattle.pie_linux_history.specs.LookBack.{Entry}
+
+-- a text of which `says` holds was appended to the output
+pub record Writes (says : List ℕ → Type 0) (before now : Option (List ℕ)) : Type 0 where
+  pub text : List ℕ
+  pub says_it : says text
+  pub written : Appends before now text
+
+-- the number of elements, at most 2^64 - 1
+abbrev pub number_of : {A : Type 0} → List A → ℕ
+number_of all = min (length all) (2 ^ 64 - 1)
+
+-- ---- events
 
 -- the explanation, if its event is selected. A step has no wall-clock time
 abbrev pub if_picked : Selection → Option Explained → Option Explained
@@ -21,19 +47,117 @@ selected selection one = if_picked selection (explained_of one)
 unfoldable pub all_selected : Selection → List DecidedStep → List Explained
 all_selected selection steps = filter_map (selected selection) steps
 
--- a report received these steps, and a text of them was appended to the output
-pub record Reports (shows : List Explained → Type 0) (so_far : List Explained → List ℕ → Type 0) (selection : Selection)
-    (steps : List DecidedStep) (before now : Option (List ℕ)) : Type 0 where
+-- ---- packets
+
+abbrev pub is_marked_by : Picked → Bool
+is_marked_by picked.Marked = true
+is_marked_by _ = false
+
+abbrev pub is_marked : LinuxCause → Bool
+is_marked (SumAbove picked) = is_marked_by picked
+is_marked (WordBelow picked) = is_marked_by picked
+is_marked _ = false
+
+-- true if a packet with this fate is chosen. Only an arrival has a tag and a mark, and each packet that no arrival decided is lost
+abbrev pub chooses_packet : EventChoice → Fate → DecidedStep → Bool
+chooses_packet choice.All fate one = true
+chooses_packet (choice.After first) fate one = nat_lt first one.event
+chooses_packet (choice.Number event) fate one = event == one.event
+chooses_packet (choice.Tag tag) (Arrival cause) one = tag == tag_of one
+chooses_packet choice.Marked (Arrival cause) one = is_marked cause
+chooses_packet choice.Lost (Arrival cause) one = not (is_queued cause)
+chooses_packet choice.Lost fate one = true
+chooses_packet _ fate one = false
+
+abbrev pub selects : Selection → DecidedStep → DecidedPacket → Bool
+selects selection one packet =
+    chooses_packet selection.which packet.fate one && (is_from selection.from one.moment None && is_to selection.to one.moment None)
+
+abbrev pub explained_packet : DecidedStep → DecidedPacket → ExplainedPacket
+explained_packet one packet = record {
+  event = one.event;
+  queue = one.queue;
+  step = one.step.number;
+  moment = one.step.moment;
+  flow = one.step.flow;
+  packet = packet;
+}
+
+abbrev pub packet_if : Selection → DecidedStep → DecidedPacket → Option ExplainedPacket
+packet_if selection one packet = if selects selection one packet then Some (explained_packet one packet) else None
+
+-- the selected packets of a decided step: those that waited and were dropped, in order, and the one that arrived
+abbrev pub packets_by : Selection → Option DecidedStep → List DecidedPacket → List ExplainedPacket
+packets_by selection None dropped = []
+packets_by selection (Some one) dropped = filter_map (packet_if selection one) (dropped ++ cons_option one.arrival [])
+
+abbrev pub packets_in : Selection → List Entry → Entry → List ExplainedPacket
+packets_in selection entries entry = packets_by selection (decided_in entries entry) (dropped_in entries entry)
+
+-- the selected packets of the decided steps of rows, in order
+abbrev pub packets_of : Selection → List Entry → List ExplainedPacket
+packets_of selection entries = for_each (packets_in selection) [] entries
+
+-- a text for each element, one after another
+unfoldable pub IsTexts : {A : Type 0} → (A → List ℕ → Type 0) → List A → List ℕ → Type 0
+IsTexts is [] text = text ≡ []
+IsTexts is (one ∷ rest) text = (first : List ℕ) × (more : List ℕ) × is one first × IsTexts is rest more × (text ≡ first ++ more)
+
+-- these packets were explained
+pub record ReportsThese (is : ExplainedPacket → List ℕ → Type 0) (packets : List ExplainedPacket) (count : ℕ) (text : List ℕ) : Type 0 where
+  pub says : IsTexts is packets text
+  pub counted : count ≡ number_of packets
+
+-- the selected packets of rows were explained
+abbrev pub ReportsPackets : (ExplainedPacket → List ℕ → Type 0) → Selection → ℕ → List Entry → List ℕ → Type 0
+ReportsPackets is selection count entries text = ReportsThese is (packets_of selection entries) count text
+
+-- ---- events with packets
+
+-- true for an arrival that was dropped or marked
+abbrev pub is_lost_or_marked : Fate → Bool
+is_lost_or_marked (Arrival cause) = is_marked cause || not (is_queued cause)
+is_lost_or_marked _ = false
+
+abbrev pub woven_packet : DecidedStep → Option Explained → Option DecidedPacket → Option ExplainedPacket
+woven_packet one (Some explained) (Some packet) =
+    if is_lost_or_marked packet.fate then Some (explained_packet one packet) else None
+woven_packet one _ _ = None
+
+-- the packet of a selected step that is explained after its event: an arrival that was dropped or marked
+abbrev pub woven_with : Bool → Selection → DecidedStep → Option ExplainedPacket
+woven_with false selection one = None
+woven_with true selection one = woven_packet one (selected selection one) one.arrival
+
+-- the packets of steps that are explained after their events, in order: none unless the report is one with packets
+unfoldable pub woven_of : Bool → Selection → List DecidedStep → List ExplainedPacket
+woven_of is_with selection steps = filter_map (woven_with is_with selection) steps
+
+-- a text with a text for each packet within it
+unfoldable pub IsWoven : (ExplainedPacket → List ℕ → Type 0) → List ExplainedPacket → List ℕ → List ℕ → Type 0
+IsWoven is [] plain text = text ≡ plain
+IsWoven is (one ∷ rest) plain text = (first : List ℕ) × (words : List ℕ) × (more_plain : List ℕ) × (more : List ℕ) × is one words
+    × IsWoven is rest more_plain more × (plain ≡ first ++ more_plain) × (text ≡ first ++ (words ++ more))
+
+-- a packet was explained on a page, if there is one
+abbrev pub ExplainsIf : (ExplainedPacket → List ℕ → Type 0) → Option ExplainedPacket → List ℕ → List ℕ → Type 0
+ExplainsIf is None page now = now ≡ page
+ExplainsIf is (Some one) page now = Grows (is one) [] page now
+
+-- the text of a report of these events, with the packets that are explained after them
+pub record SaysEvents (says : List Explained → List ℕ → Type 0) (is : ExplainedPacket → List ℕ → Type 0) (is_with : Bool) (selection : Selection) (steps : List DecidedStep) (text : List ℕ) : Type 0 where
+  pub plain : List ℕ
+  pub says_it : says (all_selected selection steps) plain
+  pub woven : IsWoven is (woven_of is_with selection steps) plain text
+
+-- a report received the selected events of the decided steps of these rows, and this is its text so far
+pub record ReportsEvents (shows : List Explained → Type 0) (says : List Explained → List ℕ → Type 0) (is : ExplainedPacket → List ℕ → Type 0) (is_with : Bool) (selection : Selection) (count : ℕ) (entries : List Entry) (text : List ℕ) : Type 0 where
+  pub steps : List DecidedStep
+  pub are : map plain steps ≡ decided_of entries
   pub shown : shows (all_selected selection steps)
-  pub text : List ℕ
-  pub says : so_far (all_selected selection steps) text
-  pub written : Appends before now text
+  pub text_is : SaysEvents says is is_with selection steps text
+  pub counted : count ≡ number_of (all_selected selection steps)
 
--- it received some steps
-abbrev pub ReportsSome : (List Explained → Type 0) → (List Explained → List ℕ → Type 0) → Selection → Option (List ℕ) → Option (List ℕ) → Type 0
-ReportsSome shows so_far selection before now = (steps : List DecidedStep) × Reports shows so_far selection steps before now
-
--- the output is a whole text of a report about some decided steps
-abbrev pub WritesReport : (List Explained → List ℕ → Type 0) → Selection → Option (List ℕ) → Option (List ℕ) → Type 0
-WritesReport whole selection before now =
-    (steps : List DecidedStep) × (text : List ℕ) × whole (all_selected selection steps) text × Appends before now text
+-- this is the whole text of a report that received `count` selected events of the decided steps of these rows, with any text for each packet
+abbrev pub IsReport : (List Explained → List ℕ → Type 0) → Bool → Selection → ℕ → List Entry → List ℕ → Type 0
+IsReport whole is_with selection count entries text = ReportsEvents (λ all. ⊤) whole (λ packet words. ⊤) is_with selection count entries text

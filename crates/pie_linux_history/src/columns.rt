@@ -6,7 +6,7 @@ ghost use Rattle.pie_linux_history.specs.declared.fault.StepsFault.TheVariants.{
 ghost use Rattle.pie_linux_history.specs.Columns.{blank, collected, column_at, columns_of, decimal_at, digits_after, field_or, flow_at, handle_of, has_flows_at, has_returned, hex_digit, hexadecimal_after, hexadecimal_at, is_optional, kind_at, most_of, name_of, narrow, lost_in, moment_of, numbers_of, params_of, place_from, state_of, step_in, step_of};
 
 use crate::fault::StepsFault;
-use crate::step::{FlowIn, Kind, QueueName, Step};
+use crate::step::{Kind, QueueName, Step};
 use pie_linux::{LinuxParams, LinuxState, LinuxStats, MarkLimit};
 use pie_record::field::has_word;
 use pie_record::number::number;
@@ -31,7 +31,6 @@ pub(crate) const LENGTH_AFTER: usize = 15;
 const MOMENT: usize = 25;
 
 /// The place of the column `hash` in [`NAMES`].
-const HASH: usize = 38;
 
 /// The place of the first column that a text may lack, `prio`, in [`NAMES`].
 const PRIORITY: usize = 47;
@@ -392,16 +391,6 @@ impl Columns {
         ensures { result.now ≡ field_or fields.now self.now.queue }
     {
         field_or(fields, self.queue)
-    }
-
-    /// Returns the flow, the priority and the hash of a row, as far as they can be read.
-    pub(crate) fn flow_in(&self, fields: &Record) -> FlowIn {
-        let most = u64::from(u32::MAX);
-        FlowIn {
-            flow: flow_at(fields, self.places[FLOW]).unwrap_or(None),
-            priority: narrow(decimal(fields, self.places[PRIORITY], most).unwrap_or(0)),
-            hash: narrow(decimal(fields, self.places[HASH], most).unwrap_or(0)),
-        }
     }
 
     /// Returns true if the text has the column `rq`, that is, its rows say which packets the device returned.

@@ -1,7 +1,7 @@
 //! Pieces of a text of recorded steps, each of which can be audited, explained and cut alone.
-ghost use Rattle.std.specs.Prelude.{OnOk};
+ghost use Rattle.std.specs.Prelude.{◌≡◌, ◌-◌, IfOk, IfSome, OnOk, length};
 ghost use Rattle.std.specs.Io.KnownBytes.{Appends};
-ghost use Rattle.pie_record.specs.Text.{text_of};
+ghost use Rattle.pie_record.specs.Text.{records_of, text_of};
 
 use crate::columns::{Columns, fault_at, lost_at, out_of_memory};
 use crate::fault::StepsFault;
@@ -167,7 +167,7 @@ impl CutText<'_> {
         }
         cutter.rows = cutter.rows.saturating_add(1);
         cutter.moment = moment;
-        let difference = queues.take(self.columns, fields)?;
+        let difference = queues.take(None, self.columns, fields)?;
         if cutter.has_begun {
             write_row(self.alloc, fields, output)?;
             cutter.written = cutter.written.saturating_add(1);
@@ -245,16 +245,17 @@ pub fn cut<R: Read + Drop, W: Write>(
 /// # Errors
 ///
 /// `Read` or `Memory`.
-pub fn count_rows<R: Read + Drop>(alloc: Global, input: R) -> Result<u64, TraceFault> {
+pub fn count_rows<R: Read + Drop>(alloc: Global, input: R) -> Result<u64, TraceFault>
+    ensures { IfOk result (λ rows. IfSome (R.remaining input) (λ text. rows ≡ length (records_of text) - 1)) }
+{
     let mut records = Records::new(alloc, StepsReader(input));
     let mut fields = Record::new(alloc);
-    let mut rows: u64 = 0;
-    for _ in 0..u64::MAX {
+    'rows: for read in 0..u64::MAX {
         match records.next(&mut fields) {
-            Ok(true) => rows = rows.saturating_add(1),
-            Ok(false) => break,
+            Ok(true) => {}
+            Ok(false) => return Ok(read.saturating_sub(1)),
             Err(why) => return Err(why),
         }
     }
-    Ok(rows.saturating_sub(1))
+    Err(TraceFault::Read)
 }

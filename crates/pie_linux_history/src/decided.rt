@@ -1,6 +1,6 @@
 //! A decided step with the numbers before and after it.
-use crate::explained::DecidedPacket;
-use crate::step::Step;
+use crate::explained::{DecidedPacket, Decision};
+use crate::step::{QueueName, Step};
 use pie_linux::{LinuxParams, LinuxState};
 
 /// The numbers of a queue and of one of its flows.
@@ -18,6 +18,17 @@ pub(crate) struct StepNumbers {
     pub bytes: u32,
     /// The moment of the row that queued the flow's first packet, in nanoseconds; 0 if the row has none, or no packet waits.
     pub since: u64,
+}
+
+/// The decision of a step, and the numbers before and after it if its flow exists.
+#[derive(Clone, Copy)]
+pub(crate) struct Taken {
+    /// The decision.
+    pub decision: Decision,
+    /// The numbers before the step.
+    pub before: Option<StepNumbers>,
+    /// The numbers after it.
+    pub after: Option<StepNumbers>,
 }
 
 /// The updates of a flow up to a step.
@@ -38,6 +49,8 @@ pub(crate) struct Updates {
 pub(crate) struct DecidedStep {
     /// The number of the row in the text, counted from 1 after the first row.
     pub event: u64,
+    /// The name of its queue.
+    pub queue: QueueName,
     /// The step.
     pub step: Step,
     /// The effective moment: the greatest of the steps up to this one, in nanoseconds.

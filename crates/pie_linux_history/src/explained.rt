@@ -1,10 +1,15 @@
 //! The decision of a step, and the explanation of a packet.
-ghost use Rattle.std.specs.Prelude.{◌≡◌};
+ghost use Rattle.std.specs.Prelude.{◌≡◌, [], ℕ, List, OnOk};
+ghost use Rattle.pie_explain.specs.Report.{Grows};
 ghost use Rattle.pie_linux_history.specs.Queue.{lacking, other};
+ghost use Rattle.pie_linux_history.specs.Reports.{is_marked};
 
 use crate::difference::Difference;
 use crate::step::QueueName;
 use pie_linux::{LinuxCause, LinuxState, Picked};
+use pie_record::Page;
+use std::alloc::AllocError;
+use std::fmt::Write;
 
 /// The reason of the decision on a packet.
 #[derive(Clone, Copy)]
@@ -18,7 +23,9 @@ pub(crate) enum Fate {
 }
 
 /// Returns true if a packet with this cause is marked.
-pub(crate) fn is_marked(cause: LinuxCause) -> bool {
+pub(crate) fn is_marked(cause: LinuxCause) -> bool
+    ensures { result ≡ is_marked cause }
+{
     matches!(
         cause,
         LinuxCause::SumAbove(Picked::Marked) | LinuxCause::WordBelow(Picked::Marked)
@@ -90,11 +97,38 @@ pub(crate) fn lacking(lacks: Option<Input>, difference: Option<Difference>) -> D
 
 /// A packet that a step decided, with the step.
 #[derive(Clone, Copy)]
-pub struct Explained {
+pub struct ExplainedPacket {
     pub(crate) event: u64,
     pub(crate) queue: QueueName,
     pub(crate) step: u64,
     pub(crate) moment: u64,
     pub(crate) flow: Option<u32>,
     pub(crate) packet: DecidedPacket,
+}
+
+/// A report of packets, one after another. `explains packet text` relates a packet to its text.
+pub trait PacketReport: Drop {
+    ghost use Rattle.pie_linux_history.specs.declared.explained.ExplainedPacket.{ExplainedPacket};
+
+    ghost explains: { Self → ExplainedPacket → List ℕ → Type 0 };
+
+    /// Writes the text for a packet onto a page.
+    fn explain_packet(&self, packet: &ExplainedPacket, page: &mut Page) -> Result<(), AllocError>
+        ensures { OnOk result (Grows (explains self.now packet.now) [] page.old page.new) };
+}
+
+/// The report of packets in words.
+#[derive(Clone, Copy)]
+pub struct PacketWords;
+
+impl PacketReport for PacketWords {
+    ghost use Rattle.std.specs.Prelude.{⊤};
+
+    ghost explains = { λ it packet text. ⊤ };
+
+    fn explain_packet(&self, packet: &ExplainedPacket, page: &mut Page) -> Result<(), AllocError> {
+        let mut text = page.words();
+        write!(text, "{packet}")?;
+        page.put(text)
+    }
 }

@@ -3,11 +3,13 @@
 ghost use Rattle.std.specs.Prelude.{◌≡◌, ◌++◌, [], ℕ, List, Option, Some, None, IfOk, OnOk, if◌then◌else◌};
 ghost use Rattle.std.specs.Option.{MatchOption, option_map};
 ghost use Rattle.std.specs.Str.{bytes_eq};
+ghost use Rattle.pie_linux_history.specs.Decided.{decision_of, taken_by};
 ghost use Rattle.pie_linux_history.specs.Known.{IsPlaceOf, looked_up};
 ghost use Rattle.pie_linux_history.specs.LookBack.{begun, decision_by, dropped_by_step, follow, name_of};
 ghost use Rattle.pie_linux_history.specs.Queue.{last_after, next_dropped, next_step, opened};
 
 use crate::columns::{NUMBER, handle_of};
+use crate::decided::Taken;
 use crate::difference::Difference;
 use crate::explained::{DecidedPacket, Decision};
 use crate::queue::Queue;
@@ -74,12 +76,6 @@ impl KnownQueues {
         None
     }
 
-    /// Returns the queue with this name.
-    pub(crate) fn get(&self, name: &[u8]) -> Option<&Queue> {
-        let known = self.all.get(self.find(name)?)?;
-        Some(&known.queue)
-    }
-
     /// Decides a step of the queue with this name again. Returns `None` if there is none. Adds the packets that a change
     /// or a reset dropped to `lost`.
     pub(crate) fn take(
@@ -87,8 +83,9 @@ impl KnownQueues {
         name: &[u8],
         step: &Step,
         lost: &mut Vec<DecidedPacket>,
-    ) -> Result<Option<Decision>, AllocError>
-        ensures decision { IfOk result (λ decision. decision ≡ decision_by step.now (looked_up name.now self.old.all.items)) }
+    ) -> Result<Option<Taken>, AllocError>
+        ensures taken { IfOk result (λ taken. taken ≡ taken_by step.now (looked_up name.now self.old.all.items)) }
+        ensures decision { IfOk result (λ taken. decision_of taken ≡ decision_by step.now (looked_up name.now self.old.all.items)) }
         ensures lost { OnOk result (lost.new.items
             ≡ lost.old.items ++ dropped_by_step step.now (looked_up name.now self.old.all.items)) }
         ensures queues { OnOk result ((other : List ℕ) → looked_up other self.new.all.items
@@ -102,8 +99,13 @@ impl KnownQueues {
         let Some(known) = self.all.get_mut(place) else {
             return Ok(None);
         };
+        let before = known.queue.numbers_at(step);
         match known.take(step, lost) {
-            Ok(decision) => Ok(Some(decision)),
+            Ok(decision) => Ok(Some(Taken {
+                decision,
+                before,
+                after: known.queue.numbers_at(step),
+            })),
             Err(why) => Err(why),
         }
     }

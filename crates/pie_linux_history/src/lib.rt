@@ -21,11 +21,16 @@
 //! - The comparison. Each recorded number is an input of its step, or it is compared with the number of the rules
 //!   (specs/Right.antt, specs/Differences.antt). A text without the column `rq` is compared in fewer columns, and some of its
 //!   steps lack an input. The input is then taken from the recorded results, and the step is counted.
-//! - The event of a decided step is exactly `explained_of` (specs/Event.antt), and the output of `report` is the
-//!   report's whole text for the selected events of decided steps, in order (specs/Reports.antt).
+//! - The decided steps of a text: each row up to the first fault or difference whose queue has begun, with its event, its
+//!   effective moment, and the numbers of its queue and flow before and after it (specs/Decided.antt). With a chosen queue the
+//!   rows of other queues are skipped.
+//! - `report` and `explain` end with the finding of an audit of these rows. `report` receives the events (`explained_of`,
+//!   specs/Event.antt) of the selected decided steps, in order, and `explain` their selected packets, each with its step and the
+//!   queue before it; both return the number of these (specs/Reports.antt).
+//! - `count_rows` returns the number of rows.
 //!
-//! Tested only (tests/program/linux_steps.py, linux_reports.py): that explanations and reports take all rows, and the
-//! updates before a step; the words of explanations; the rows of a piece.
+//! Tested only (tests/program/linux_steps.py, linux_reports.py): the updates before a step; the words of explanations; the
+//! rows of a piece.
 #![tactic(auto)]
 
 mod columns;
@@ -44,12 +49,13 @@ mod resume;
 mod right;
 mod row;
 mod step;
-mod steps;
 mod text;
+mod updates;
 mod words;
 
 pub use cutter::{RowSpan, StepPieces, count_rows, cut};
 pub use difference::Difference;
+pub use explained::{ExplainedPacket, PacketReport, PacketWords};
 pub use fault::StepsFault;
 pub use queues::{StepDifference, StepsCounts};
 pub use reports::{StepsExplained, explain, report};

@@ -4,7 +4,8 @@ ghost use Rattle.std.specs.List.{flat_map};
 ghost use Rattle.pie_linux_history.specs.declared.explained.Fate.TheVariants.{Change, Reset};
 ghost use Rattle.pie_linux_history.specs.declared.numbers.QueueNumbers.{QueueNumbers};
 ghost use Rattle.pie_linux_history.specs.Decisions.{admitted, lacks_limit};
-ghost use Rattle.pie_linux_history.specs.Queue.{IsFlowStep, change, destroyed, dropped, dropped_by, dropped_by_change, dropped_by_departure, dropped_by_reset, dropped_in_turn, dropped_of, emptied_flow, first_dropped, first_flow, first_state, flow_admitted, flow_arrived, flow_departed, flow_resumed, flow_stepped, flow_updated, flow_waited, lacking, no_flow, opened, opening_difference, other, place_at, place_of, reset, shortened_flow, shortened_queue, stepped, waiting_resumed};
+ghost use Rattle.pie_linux_history.specs.Queue.{IsFlowStep, change, destroyed, dropped, dropped_by, dropped_by_change, dropped_by_departure, dropped_by_reset, dropped_in_turn, dropped_of, emptied_flow, first_dropped, first_flow, first_state, flow_admitted, flow_arrived, flow_departed, flow_resumed, flow_stepped, flow_updated, flow_waited, lacking, no_flow, opened, opening_difference, other, place_of, reset, shortened_flow, shortened_queue, stepped, waiting_resumed};
+ghost use Rattle.pie_linux_history.specs.Decided.{numbers_at};
 ghost use Rattle.pie_linux_history.specs.Resumes.{first_flows, first_numbers};
 
 use crate::columns::{FLOW, LENGTH_AFTER};
@@ -14,7 +15,7 @@ use crate::explained::{DecidedPacket, Decision, Fate, lacking};
 use crate::numbers::{FlowNumbers, QueueNumbers, Waiting, lack_of, lack_of_arrival, waiting_of};
 use crate::resume::{resumed, resumed_flow};
 use crate::right::{right_destroy, right_opening};
-use crate::step::{FlowIn, Kind, Step};
+use crate::step::{Kind, Step};
 use pie_linux::{LinuxState, LinuxStats};
 use std::alloc::{AllocError, Global};
 use std::collections::VecDeque;
@@ -324,32 +325,24 @@ impl Queue {
     fn place(&self, step: &Step) -> usize
         ensures { result ≡ place_of self.now step.now }
     {
-        self.place_at(FlowIn {
-            flow: step.flow,
-            priority: step.priority,
-            hash: step.hash,
-        })
-    }
-
-    /// Returns the place of this flow, or of the one that the priority or the hash chooses.
-    fn place_at(&self, which: FlowIn) -> usize
-        ensures { result ≡ place_at self.now which.flow which.priority which.hash }
-    {
         if !self.numbers.has_flows {
             return 0;
         }
-        match which.flow {
+        match step.flow {
             Some(flow) => flow as usize,
-            None => self.numbers.flow_chosen(which.priority, which.hash) as usize,
+            None => self.numbers.flow_chosen(step.priority, step.hash) as usize,
         }
     }
 
-    /// Returns the numbers of the queue and of this flow, or of the one that the priority or the hash chooses.
-    pub(crate) fn numbers_at(&self, which: FlowIn) -> Option<StepNumbers> {
-        let place = self.place_at(which);
+    /// Returns the numbers of the queue and of the flow of a step, if there is such a flow.
+    #[tactic(auto, unfolding(crate::specs::Decided::numbers_at))]
+    pub(crate) fn numbers_at(&self, step: &Step) -> Option<StepNumbers>
+        ensures { result ≡ numbers_at self.now step.now }
+    {
+        let place = self.place(step);
         let flow = self.flows.get(place)?;
         Some(StepNumbers {
-            place: u32::try_from(place).unwrap_or(u32::MAX),
+            place: place.min(u32::MAX as usize) as u32,
             params: self.numbers.params,
             state: flow.numbers.state,
             packets: self.numbers.length,

@@ -1,19 +1,21 @@
 //! The queues of a text.
-ghost use Rattle.std.specs.Prelude.{◌≡◌, ◌+◌, ◌%◌, ◌^◌, ◌++◌, ◌∷◌, [], List, Some, None, true, false};
+ghost use Rattle.std.specs.Prelude.{◌≡◌, ◌+◌, ◌%◌, ◌^◌, ◌++◌, ◌∷◌, [], List, Some, None, option_map, true, false};
 ghost use Rattle.pie_linux.specs.Enqueue.{one_if};
 ghost use Rattle.pie_linux_history.specs.Audit.{difference_at, has_failed, verdict_of};
+ghost use Rattle.pie_linux_history.specs.Decided.{decided_by};
 ghost use Rattle.pie_linux_history.specs.Known.{HasRead, Leaves, Represents, Takes};
-ghost use Rattle.pie_linux_history.specs.LookBack.{Entry, Lost, Took, entry_in, is_opening, is_step, lack_counted, lack_in};
+ghost use Rattle.pie_linux_history.specs.LookBack.{Entry, Lost, Took, entry_in, is_opening, is_other, is_step, lack_counted, lack_in};
 
 use crate::columns::{Columns, fault_at, lost_at, out_of_memory};
-use crate::decided::StepNumbers;
+use crate::decided::{DecidedStep, Taken};
 use crate::difference::Difference;
-use crate::explained::{DecidedPacket, Explained, Input};
+use crate::explained::{DecidedPacket, Input};
 use crate::fault::StepsFault;
 use crate::known::KnownQueues;
 use crate::queue::opening_difference;
 use crate::resume::QueueRows;
-use crate::step::{FlowIn, Kind, QueueName, Step};
+use crate::step::{Kind, QueueName, Step};
+use crate::updates::NONE;
 use pie_record::{Record, RecordFault};
 use std::alloc::Global;
 use std::io::Write;
@@ -95,12 +97,14 @@ pub(crate) struct Queues {
     alloc: Global,
     known: KnownQueues,
     pub counts: StepsCounts,
-    /// The last step, with its queue.
-    last: Option<(QueueName, Step)>,
-    /// The arrival of the last step.
-    arrival: Option<DecidedPacket>,
+    /// The latest moment of the steps so far.
+    pub moment: u64,
+    /// The last row, if it is a step, with its queue.
+    pub last: Option<(QueueName, Step)>,
+    /// The decision of the last step.
+    taken: Option<Taken>,
     /// The waiting packets that the last step dropped.
-    lost: Vec<DecidedPacket>,
+    pub lost: Vec<DecidedPacket>,
 }
 
 impl Queues {
@@ -113,45 +117,30 @@ impl Queues {
             alloc,
             known,
             counts: StepsCounts::new(),
+            moment: 0,
             last: None,
-            arrival: None,
+            taken: None,
             lost: Vec::new(alloc),
         }
     }
 
-    /// Returns the number of packets that the last step decided.
-    pub(crate) fn packets(&self) -> usize {
-        self.lost
-            .len()
-            .saturating_add(usize::from(self.arrival.is_some()))
-    }
-
-    /// Returns the packet at this place of those that the last step decided.
-    pub(crate) fn packet(&self, place: usize) -> Option<Explained> {
-        let (queue, step) = self.last?;
-        let packet = match self.arrival {
-            Some(arrival) => arrival,
-            None => *self.lost.get(place)?,
-        };
-        Some(Explained {
+    /// Returns the last step with the numbers around it, unless it is a first row, or its flow does not exist. The updates
+    /// before it are left out.
+    pub(crate) fn decided(&self) -> Option<DecidedStep>
+        ensures { result ≡ decided_by self.now.counts.events self.now.moment self.now.last self.now.taken }
+    {
+        let ((queue, step), taken) = (self.last?, self.taken?);
+        let (before, after) = (taken.before?, taken.after?);
+        Some(DecidedStep {
             event: self.counts.events,
             queue,
-            step: step.number,
-            moment: step.moment,
-            flow: step.flow,
-            packet,
+            step,
+            moment: self.moment,
+            arrival: taken.decision.arrival,
+            before,
+            after,
+            updates: NONE,
         })
-    }
-
-    /// Returns the numbers of a queue and of this flow, or of the one that the priority or the hash chooses.
-    pub(crate) fn numbers_at(&self, name: &[u8], which: FlowIn) -> Option<StepNumbers> {
-        self.known.get(name)?.numbers_at(which)
-    }
-
-    /// Returns the queue of the last step, the step, and its packet if it is an arrival.
-    pub(crate) fn last_step(&self) -> Option<(QueueName, Step, Option<DecidedPacket>)> {
-        let (queue, step) = self.last?;
-        Some((queue, step, self.arrival))
     }
 
     /// Writes rows of each queue that is alive, in the order in which they began, at this moment. An audit that reads the rows
@@ -176,21 +165,26 @@ impl Queues {
         Ok(())
     }
 
-    /// Takes a row. Returns the first number of its step that differs.
+    /// Takes a row. With a chosen `queue` a row of another queue is only counted. Returns the first number of its step that
+    /// differs.
     #[tactic(auto, unfolding(crate::specs::LookBack::entry_in))]
     pub(crate) fn take(
         &mut self,
+        queue: Option<&str>,
         columns: &Columns,
         fields: &Record,
     ) -> Result<Option<StepDifference>, StepsFault>
         ensures { (entries : List Entry) → HasRead self.old entries → has_failed result ≡ false
-            → Takes self.new entries (entry_in columns.now fields.now) result }
+            → Takes self.new entries (entry_in (option_map (λ name. name.now) queue.entry) columns.now fields.now) result }
     {
         self.lost.clear();
-        self.arrival = None;
+        self.taken = None;
         self.last = None;
         self.counts.events = self.counts.events.wrapping_add(1);
         let row = self.counts.events.wrapping_add(1);
+        if is_other(queue, columns, fields) {
+            return Ok(None);
+        }
         match lost_at(fields) {
             Ok(None) => {}
             Ok(Some((queue, count))) => {
@@ -204,7 +198,10 @@ impl Queues {
             Err(why) => return Err(fault_at(row, why)),
         };
         match QueueName::new(columns.queue(fields)) {
-            Some(queue) => self.decide(queue, &step),
+            Some(queue) => {
+                self.moment = self.moment.max(step.moment);
+                self.decide(queue, &step)
+            }
             None => Err(fault_at(row, RecordFault::Word)),
         }
     }
@@ -214,7 +211,8 @@ impl Queues {
         ensures counts { self.new.counts ≡ record self.old.counts { lost = (self.old.counts.lost + count) % 2 ^ 64 } }
         ensures known { (entries : List Entry) → Represents self.old.known.all.items entries
             → Represents self.new.known.all.items (entries ++ Lost queue.now count ∷ []) }
-        ensures step { (self.new.last ≡ self.old.last) × (self.new.arrival ≡ self.old.arrival) × (self.new.lost ≡ self.old.lost) }
+        ensures step { (self.new.last ≡ self.old.last) × (self.new.taken ≡ self.old.taken) × (self.new.lost ≡ self.old.lost) }
+        ensures moment { self.new.moment ≡ self.old.moment }
     {
         self.counts.lost = self.counts.lost.wrapping_add(count);
         self.known.lose(queue.bytes());
@@ -226,7 +224,8 @@ impl Queues {
         queue: QueueName,
         step: &Step,
     ) -> Result<Option<StepDifference>, StepsFault>
-        requires fresh { (self.old.arrival ≡ None) × (self.old.lost.items ≡ []) }
+        requires fresh { (self.old.taken ≡ None) × (self.old.lost.items ≡ []) }
+        ensures moment { self.new.moment ≡ self.old.moment }
         ensures counts { (entries : List Entry) → Represents self.old.known.all.items entries → has_failed result ≡ false
             → self.new.counts ≡ lack_counted (record self.old.counts { steps = (self.old.counts.steps + one_if (is_step (Took queue step.now))) % 2 ^ 64 })
             (lack_in entries (Took queue step.now)) }
@@ -248,8 +247,9 @@ impl Queues {
         queue: QueueName,
         step: &Step,
     ) -> Result<Option<StepDifference>, StepsFault>
-        requires fresh { (self.old.arrival ≡ None) × (self.old.lost.items ≡ []) × (self.old.last ≡ Some (queue, step.now)) }
+        requires fresh { (self.old.taken ≡ None) × (self.old.lost.items ≡ []) × (self.old.last ≡ Some (queue, step.now)) }
         requires later { is_opening step.now.kind ≡ false }
+        ensures moment { self.new.moment ≡ self.old.moment }
         ensures counts { (entries : List Entry) → Represents self.old.known.all.items entries → has_failed result ≡ false
             → self.new.counts ≡ lack_counted self.old.counts (lack_in entries (Took queue step.now)) }
         ensures takes { (entries : List Entry) → Represents self.old.known.all.items entries → has_failed result ≡ false
@@ -257,10 +257,10 @@ impl Queues {
     {
         let event = self.counts.events;
         match self.known.take(queue.bytes(), step, &mut self.lost) {
-            Ok(Some(decision)) => {
-                self.arrival = decision.arrival;
-                self.counts.count_lack(decision.lacks);
-                Ok(difference_at(event, queue, step, decision.difference))
+            Ok(Some(taken)) => {
+                self.taken = Some(taken);
+                self.counts.count_lack(taken.decision.lacks);
+                Ok(difference_at(event, queue, step, taken.decision.difference))
             }
             Ok(None) => Err(StepsFault::NoStart {
                 row: event.wrapping_add(1),
@@ -273,9 +273,10 @@ impl Queues {
 
     /// Makes a queue, in the place of an earlier one with the same name.
     fn open(&mut self, queue: QueueName, step: &Step) -> Result<Option<StepDifference>, StepsFault>
-        requires fresh { (self.old.arrival ≡ None) × (self.old.lost.items ≡ []) × (self.old.last ≡ Some (queue, step.now)) }
+        requires fresh { (self.old.taken ≡ None) × (self.old.lost.items ≡ []) × (self.old.last ≡ Some (queue, step.now)) }
         requires first { is_opening step.now.kind ≡ true }
         ensures counts { self.new.counts ≡ self.old.counts }
+        ensures moment { self.new.moment ≡ self.old.moment }
         ensures takes { (entries : List Entry) → Represents self.old.known.all.items entries → has_failed result ≡ false
             → (result ≡ verdict_of entries self.old.counts.events (Took queue step.now)) × Leaves self.new entries (Took queue step.now) }
     {
@@ -283,6 +284,19 @@ impl Queues {
             Ok(()) => Ok(difference_at(self.counts.events, queue, step, opening_difference(step))),
             Err(_) => Err(out_of_memory()),
         }
+    }
+}
+
+/// Returns true if a row is one of another queue than the chosen one.
+fn is_other(queue: Option<&str>, columns: &Columns, fields: &Record) -> bool
+    ensures { result ≡ is_other (option_map (λ name. name.now) queue.entry) columns.now fields.now }
+{
+    let Some(chosen) = queue else {
+        return false;
+    };
+    match lost_at(fields) {
+        Ok(Some((lost, _))) => !lost.is(chosen.as_bytes()),
+        _ => columns.queue(fields) != chosen.as_bytes(),
     }
 }
 

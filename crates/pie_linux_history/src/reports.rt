@@ -1,19 +1,25 @@
 //! Explanations and reports of a text of recorded steps.
-ghost use Rattle.std.specs.Prelude.{◌≡◌, ◌++◌, ◌∷◌, ◌&&◌, [], ℕ, List, Option, None, OnOk};
+ghost use Rattle.std.specs.Prelude.{◌≡◌, [], ◌++◌, ◌&&◌, ℕ, Err, Some, IfErr, IfOk, IfSome, IsOk, List, None, Ok, OnOk, Option, false, option_map};
 ghost use Rattle.std.specs.Io.KnownBytes.{Appends, append_known};
+ghost use Rattle.std.specs.List.{cons_option, filter_map};
+ghost use Rattle.pie_explain.specs.Report.{Grows};
 ghost use Rattle.pie_explain.specs.Selection.{is_from, is_to};
 ghost use Rattle.pie_explain.specs.declared.explanation.Explained.{Explained};
-ghost use Rattle.pie_linux_history.specs.declared.decided.DecidedStep.{DecidedStep};
-ghost use Rattle.pie_linux_history.specs.Reports.{Reports, ReportsSome, WritesReport, selected};
+ghost use Rattle.pie_record.specs.Text.{records_of};
+ghost use Rattle.pie_linux_history.specs.declared.explained.ExplainedPacket.{ExplainedPacket};
+ghost use Rattle.pie_linux_history.specs.Audit.{Ends, has_failed, is_failure, outcome_of};
+ghost use Rattle.pie_linux_history.specs.Reports.{ExplainsIf, IsReport, ReportsEvents, ReportsPackets, ReportsThese, Writes, explained_packet, is_lost_or_marked, packet_if, selected, selects, woven_with};
 
 use crate::columns::out_of_memory;
 use crate::decided::DecidedStep;
 use crate::event::{explained_of, tag_of};
-use crate::explained::{DecidedPacket, Fate, is_marked};
+use crate::explained::{
+    DecidedPacket, ExplainedPacket, Fate, PacketReport, PacketWords, is_marked,
+};
 use crate::fault::StepsFault;
-use crate::queues::StepDifference;
-use crate::steps::{DecidedSteps, NextStep};
-use crate::text::StepsFinding;
+use crate::queues::Queues;
+use crate::text::{RowReport, StepsFinding, Text};
+use crate::updates::QueuesUpdates;
 use pie_explain::{EventChoice, Explained, Report, Selection, is_from, is_to};
 use pie_record::{Page, TraceFault};
 use std::alloc::{AllocError, Global};
@@ -35,23 +41,19 @@ fn is_within(selection: &Selection, moment: u64) -> bool
     is_from(selection.from, moment, None) && is_to(selection.to, moment, None)
 }
 
-/// Ends a page, and returns the first error of the explanations, of the text after the last one, and of the writer.
-fn finish<W: Write, P: Report>(
-    outcome: Result<StepsExplained, StepsFault>,
+/// Writes the page out. Returns the outcome of the rows, or the first failure: of the text after the last row, or of the writer.
+fn finish<W: Write>(
+    outcome: Result<StepsFinding, StepsFault>,
     ended: Result<(), AllocError>,
-    selection: &Selection,
-    report: &P,
     page: &mut Page,
     writer: &mut W,
-) -> Result<StepsExplained, StepsFault>
-    ensures { (before : Option (List ℕ))
-        → OnOk outcome (OnOk ended (WritesReport (P.whole report.now) selection.now before (append_known (W.contents writer.old) page.old)))
-        → OnOk result (WritesReport (P.whole report.now) selection.now before (W.contents writer.new)) }
+) -> Result<StepsFinding, StepsFault>
+    ensures same { has_failed result ≡ false → result ≡ outcome }
+    ensures written { IfOk result (λ _. IsOk ended × Appends (W.contents writer.old) (W.contents writer.new) page.old) }
 {
-    let written = page.finish(writer);
-    match (outcome, ended, written) {
+    match (outcome, ended, page.finish(writer)) {
         (Ok(_), Err(_), _) => Err(out_of_memory()),
-        (Ok(_), Ok(()), Err(why)) => Err(StepsFault::Trace(why)),
+        (Ok(_), Ok(()), Err(_)) => Err(StepsFault::Trace(TraceFault::Write)),
         _ => outcome,
     }
 }
@@ -74,111 +76,80 @@ fn selected(selection: &Selection, one: &DecidedStep) -> Option<Explained>
     }
 }
 
-/// Reports a step if it is selected. Returns the number of reported events.
-fn report_step<P: Report>(
-    report: &P,
-    state: &mut P::State,
-    selection: &Selection,
-    one: &DecidedStep,
-    page: &mut Page,
-) -> Result<u64, AllocError>
-    ensures { (steps : List DecidedStep) (before out : Option (List ℕ))
-        → Reports (P.shows report.now state.old) (P.so_far report.now) selection.now steps before (append_known out page.old)
-        → OnOk result (Reports (P.shows report.now state.new) (P.so_far report.now) selection.now (steps ++ one.now ∷ []) before
-        (append_known out page.new)) }
+/// Returns true if a packet was dropped on arrival, or marked.
+fn is_lost_or_marked(fate: Fate) -> bool
+    ensures { result ≡ is_lost_or_marked fate }
 {
-    let Some(explained) = selected(selection, one) else {
-        return Ok(0);
-    };
-    report.report_event(state, &explained, page)?;
-    Ok(1)
-}
-
-/// Reports a step if it is selected, and writes the page out if it is full. Returns the number of reported events.
-fn write_step<W: Write, P: Report>(
-    report: &P,
-    state: &mut P::State,
-    selection: &Selection,
-    one: &DecidedStep,
-    page: &mut Page,
-    writer: &mut W,
-) -> Result<u64, StepsFault>
-    ensures { (before : Option (List ℕ))
-        → ReportsSome (P.shows report.now state.old) (P.so_far report.now) selection.now before (append_known (W.contents writer.old) page.old)
-        → OnOk result (ReportsSome (P.shows report.now state.new) (P.so_far report.now) selection.now before
-        (append_known (W.contents writer.new) page.new)) }
-{
-    let Ok(count) = report_step(report, state, selection, one, page) else {
-        return Err(out_of_memory());
-    };
-    match page.write_if_full(writer) {
-        Ok(()) => Ok(count),
-        Err(why) => Err(StepsFault::Trace(why)),
+    match fate {
+        Fate::Arrival(cause) => is_marked(cause) || !cause.is_queued(),
+        _ => false,
     }
 }
 
-/// Returns the result if a step differs.
-fn differs(count: u64, found: StepDifference) -> StepsExplained {
-    StepsExplained {
-        count,
-        finding: StepsFinding::Differs(found),
-    }
+/// The report of the selected events.
+#[derive(Drop)]
+struct EventRows<P: Report, Q: PacketReport> {
+    report: P,
+    packets: Q,
+    /// True if each packet that was dropped on arrival or marked is explained after its event.
+    is_with: bool,
+    selection: Selection,
 }
 
-/// Reports the selected events of all steps.
-fn report_steps<R: Read + Drop, W: Write, P: Report>(
-    steps: &mut DecidedSteps<'_, R>,
-    selection: &Selection,
-    report: &P,
-    state: &mut P::State,
-    page: &mut Page,
-    writer: &mut W,
-) -> Result<StepsExplained, StepsFault>
-    ensures { (before : Option (List ℕ))
-        → ReportsSome (P.shows report.now state.old) (P.so_far report.now) selection.now before (append_known (W.contents writer.old) page.old)
-        → OnOk result (ReportsSome (P.shows report.now state.new) (P.so_far report.now) selection.now before
-        (append_known (W.contents writer.new) page.new)) }
-{
-    let mut count: u64 = 0;
-    'steps: for _ in 0..u64::MAX {
-        match steps.next() {
-            Ok(NextStep::Decided(one)) => {
-                match write_step(report, state, selection, &one, page, writer) {
-                    Ok(more) => count = count.saturating_add(more),
-                    Err(why) => return Err(why),
-                }
+/// The state of a report of events between two rows.
+#[derive(Drop)]
+struct EventState<S: Drop> {
+    state: S,
+    updates: QueuesUpdates,
+    count: u64,
+}
+
+impl<P: Report, Q: PacketReport> EventRows<P, Q> {
+    /// Explains the packet of a selected step, if it was dropped on arrival or marked.
+    fn report_packet(&self, one: &DecidedStep, page: &mut Page) -> Result<(), AllocError>
+        ensures { (explained : Explained) → selected self.now.selection one.now ≡ Some explained
+            → OnOk result (ExplainsIf (Q.explains self.now.packets) (woven_with self.now.is_with self.now.selection one.now) page.old page.new) }
+    {
+        match one.arrival {
+            Some(packet) if self.is_with && is_lost_or_marked(packet.fate) => {
+                self.packets
+                    .explain_packet(&explained_packet(one, packet), page)
             }
-            Ok(NextStep::Differs(found)) => return Ok(differs(count, found)),
-            Ok(NextStep::None) => break,
-            Err(why) => return Err(why),
+            _ => Ok(()),
         }
     }
-    Ok(steps.all_explained(count))
 }
 
-/// Reports the selected events of all steps, and ends the report.
-fn write_report<R: Read + Drop, W: Write, P: Report>(
-    steps: &mut DecidedSteps<'_, R>,
-    selection: &Selection,
-    report: &P,
-    state: &mut P::State,
-    page: &mut Page,
-    writer: &mut W,
-) -> Result<StepsExplained, StepsFault>
-    ensures { (before : Option (List ℕ))
-        → ReportsSome (P.shows report.now state.old) (P.so_far report.now) selection.now before (append_known (W.contents writer.old) page.old)
-        → OnOk result (WritesReport (P.whole report.now) selection.now before (W.contents writer.new)) }
-{
-    let outcome = report_steps(steps, selection, report, state, page, writer);
-    let ended = report.end(state, page);
-    finish(outcome, ended, selection, report, page, writer)
+impl<P: Report, Q: PacketReport> RowReport for EventRows<P, Q> {
+    type State = EventState<P::State>;
+
+    ghost shows = { λ it state. ReportsEvents (P.shows it.report state.state) (P.so_far it.report) (Q.explains it.packets) it.is_with it.selection state.count };
+
+    fn report_row(
+        &self,
+        state: &mut EventState<P::State>,
+        queues: &Queues,
+        page: &mut Page,
+    ) -> Result<(), AllocError> {
+        let Some(one) = state.updates.add(queues, queues.decided())? else {
+            return Ok(());
+        };
+        let Some(explained) = selected(&self.selection, &one) else {
+            return Ok(());
+        };
+        state.count = state.count.saturating_add(1);
+        self.report
+            .report_event(&mut state.state, &explained, page)?;
+        self.report_packet(&one, page)
+    }
 }
 
 /// Writes a report about the selected events of a text of recorded steps, up to the first fault and the first step that
 /// differs. With a `queue` only the steps of this queue are decided and reported. Returns the number of events and the
 /// finding.
 ///
-/// The text is `whole` of the report for the explanations (`explained_of`) of the selected steps, in order.
+/// The text is `whole` of the report for the explanations (`explained_of`) of the selected steps, in order. With `words` each
+/// packet that was dropped on arrival or marked is explained in words after its event.
 ///
 /// # Errors
 ///
@@ -190,27 +161,50 @@ pub fn report<R: Read + Drop, W: Write, P: Report>(
     selection: Selection,
     queue: Option<&str>,
     report: P,
+    is_with: bool,
 ) -> Result<StepsExplained, StepsFault>
-    ensures { OnOk result (WritesReport (P.whole report) selection (W.contents output.old) (W.contents output.new)) }
+    ensures reports { IfOk result (λ explained. Ends
+        (λ rows. Writes (IsReport (P.whole report) is_with selection explained.count rows) (W.contents output.old) (W.contents output.new))
+        (outcome_of (option_map (λ name. name.now) queue.entry)) (option_map records_of (R.remaining input)) (Ok explained.finding)) }
+    ensures refuses { IfErr result (λ why. is_failure why ≡ false → IfSome (R.remaining input)
+        (λ text. (outcome_of (option_map (λ name. name.now) queue.entry) (records_of text)).1 ≡ Err why)) }
 {
     let mut page = Page::new(alloc);
     let mut state = match report.begin(&mut page) {
-        Ok(state) => state,
+        Ok(state) => EventState {
+            state,
+            updates: QueuesUpdates::new(alloc),
+            count: 0,
+        },
         Err(_) => return Err(out_of_memory()),
     };
-    let mut steps = match DecidedSteps::begin(alloc, input, queue) {
-        Ok(steps) => steps,
+    let mut text = match Text::begin(alloc, input, queue) {
+        Ok(text) => text,
         Err(why) => return Err(why),
     };
-    write_report(
-        &mut steps, &selection, &report, &mut state, &mut page, output,
-    )
+    let rows = EventRows {
+        report,
+        packets: PacketWords,
+        is_with,
+        selection,
+    };
+    let outcome = text.decide(&rows, &mut state, &mut page, output);
+    let ended = rows.report.end(&state.state, &mut page);
+    match finish(outcome, ended, &mut page, output) {
+        Ok(finding) => Ok(StepsExplained {
+            count: state.count,
+            finding,
+        }),
+        Err(why) => Err(why),
+    }
 }
 
-// ---- packets in words
+// ---- packets
 
 /// Returns true if a packet of a step is selected.
-fn selects(selection: &Selection, one: &DecidedStep, packet: &DecidedPacket) -> bool {
+fn selects(selection: &Selection, one: &DecidedStep, packet: &DecidedPacket) -> bool
+    ensures { result ≡ selects selection.now one.now packet.now }
+{
     let is_chosen = match (selection.which, packet.fate) {
         (EventChoice::All, _) => true,
         (EventChoice::After(first), _) => first < one.event,
@@ -224,76 +218,118 @@ fn selects(selection: &Selection, one: &DecidedStep, packet: &DecidedPacket) -> 
     is_chosen && is_within(selection, one.moment)
 }
 
-/// Writes the explanations of the selected packets of the last step. Returns their number.
-#[inline(never)]
-fn explain_step<R: Read + Drop, W: Write>(
-    steps: &DecidedSteps<'_, R>,
-    selection: &Selection,
-    one: &DecidedStep,
-    page: &mut Page,
-    writer: &mut W,
-) -> Result<u64, StepsFault> {
-    let mut count: u64 = 0;
-    for place in 0..steps.packets() {
-        if let Some(explained) = steps.packet(place)
-            && selects(selection, one, &explained.packet)
-        {
-            let mut text = page.words();
-            if write!(text, "{explained}").is_err() || page.put(text).is_err() {
-                return Err(out_of_memory());
-            }
-            count = count.saturating_add(1);
-            if let Err(why) = page.write_if_full(writer) {
-                return Err(StepsFault::Trace(why));
-            }
-        }
+/// Returns the explanation of a packet of a step.
+fn explained_packet(one: &DecidedStep, packet: DecidedPacket) -> ExplainedPacket
+    ensures { result ≡ explained_packet one.now packet }
+{
+    ExplainedPacket {
+        event: one.event,
+        queue: one.queue,
+        step: one.step.number,
+        moment: one.step.moment,
+        flow: one.step.flow,
+        packet,
     }
-    Ok(count)
 }
 
-/// Explains the selected packets of all steps.
-fn explain_steps<R: Read + Drop, W: Write>(
-    steps: &mut DecidedSteps<'_, R>,
-    selection: &Selection,
-    page: &mut Page,
-    writer: &mut W,
-) -> Result<StepsExplained, StepsFault> {
-    let mut count: u64 = 0;
-    for _ in 0..u64::MAX {
-        match steps.next() {
-            Ok(NextStep::Decided(one)) => match explain_step(steps, selection, &one, page, writer) {
-                Ok(more) => count = count.saturating_add(more),
-                Err(why) => return Err(why),
-            },
-            Ok(NextStep::Differs(found)) => return Ok(differs(count, found)),
-            Ok(NextStep::None) => break,
-            Err(why) => return Err(why),
-        }
-    }
-    Ok(steps.all_explained(count))
+/// The report of the selected packets.
+#[derive(Drop)]
+struct PacketRows<P: PacketReport> {
+    report: P,
+    selection: Selection,
 }
 
-/// Writes the explanations of the selected packets of a text of recorded steps in words, up to the first fault and the first
-/// step that differs. With a `queue` only the steps of this queue are decided. Returns the number of packets and the finding.
+impl<P: PacketReport> PacketRows<P> {
+    /// Explains a packet of a step if it is selected.
+    fn report_packet(
+        &self,
+        count: &mut u64,
+        one: &DecidedStep,
+        packet: DecidedPacket,
+        page: &mut Page,
+    ) -> Result<(), AllocError>
+        ensures { (all : List ExplainedPacket) (text : List ℕ) → ReportsThese (P.explains self.now.report) all count.old text
+            → OnOk result (Grows (ReportsThese (P.explains self.now.report) (all ++ cons_option (packet_if self.now.selection one.now packet) []) count.new) text page.old page.new) }
+    {
+        if !selects(&self.selection, one, &packet) {
+            return Ok(());
+        }
+        *count = count.saturating_add(1);
+        self.report
+            .explain_packet(&explained_packet(one, packet), page)
+    }
+
+    /// Explains the selected ones of the packets that waited and that a step dropped.
+    fn report_lost(
+        &self,
+        count: &mut u64,
+        one: &DecidedStep,
+        lost: &[DecidedPacket],
+        page: &mut Page,
+    ) -> Result<(), AllocError>
+        ensures { (all : List ExplainedPacket) (text : List ℕ) → ReportsThese (P.explains self.now.report) all count.old text
+            → OnOk result (Grows (ReportsThese (P.explains self.now.report) (all ++ filter_map (packet_if self.now.selection one.now) lost.now) count.new) text page.old page.new) }
+    {
+        'lost: for place in 0..lost.len() {
+            self.report_packet(count, one, lost[place], page)?;
+        }
+        Ok(())
+    }
+}
+
+impl<P: PacketReport> RowReport for PacketRows<P> {
+    type State = u64;
+
+    ghost shows = { λ it. ReportsPackets (P.explains it.report) it.selection };
+
+    fn report_row(
+        &self,
+        state: &mut u64,
+        queues: &Queues,
+        page: &mut Page,
+    ) -> Result<(), AllocError> {
+        let Some(one) = queues.decided() else {
+            return Ok(());
+        };
+        self.report_lost(state, &one, &queues.lost, page)?;
+        match one.arrival {
+            Some(packet) => self.report_packet(state, &one, packet, page),
+            None => Ok(()),
+        }
+    }
+}
+
+/// Explains the selected packets of a text of recorded steps, up to the first fault and the first step that differs: those
+/// that arrived, and those that waited and that a change or a reset dropped. With a `queue` only the steps of this queue are
+/// decided. Returns the number of packets and the finding.
 ///
 /// # Errors
 ///
 /// As [`audit`](crate::audit), and `Write` if the writer fails.
-pub fn explain<R: Read + Drop, W: Write>(
+pub fn explain<R: Read + Drop, W: Write, P: PacketReport>(
     alloc: Global,
     input: R,
     output: &mut W,
     selection: Selection,
     queue: Option<&str>,
-) -> Result<StepsExplained, StepsFault> {
+    report: P,
+) -> Result<StepsExplained, StepsFault>
+    ensures explains { IfOk result (λ explained. Ends
+        (λ rows. Writes (ReportsPackets (P.explains report) selection explained.count rows) (W.contents output.old) (W.contents output.new))
+        (outcome_of (option_map (λ name. name.now) queue.entry)) (option_map records_of (R.remaining input)) (Ok explained.finding)) }
+    ensures refuses { IfErr result (λ why. is_failure why ≡ false → IfSome (R.remaining input)
+        (λ text. (outcome_of (option_map (λ name. name.now) queue.entry) (records_of text)).1 ≡ Err why)) }
+{
     let mut page = Page::new(alloc);
-    let mut steps = match DecidedSteps::begin(alloc, input, queue) {
-        Ok(steps) => steps,
+    let mut text = match Text::begin(alloc, input, queue) {
+        Ok(text) => text,
         Err(why) => return Err(why),
     };
-    let outcome = explain_steps(&mut steps, &selection, &mut page, output);
-    match (outcome, page.finish(output)) {
-        (Ok(_), Err(why)) => Err(StepsFault::Trace(why)),
-        _ => outcome,
+    let rows = PacketRows { report, selection };
+    let mut count: u64 = 0;
+    let outcome = text.decide(&rows, &mut count, &mut page, output);
+    match finish(outcome, Ok(()), &mut page, output) {
+        Ok(finding) => Ok(StepsExplained { count, finding }),
+        Err(why) => Err(why),
     }
 }

@@ -203,14 +203,3 @@ pub(crate) struct Step {
     /// The returned packets that a change dropped.
     pub moved: u32,
 }
-
-/// The flow of a row, and the priority and the hash that choose it if the row has none.
-#[derive(Clone, Copy)]
-pub(crate) struct FlowIn {
-    /// The flow, if the row has it.
-    pub flow: Option<u32>,
-    /// The priority.
-    pub priority: u32,
-    /// The hash.
-    pub hash: u32,
-}

@@ -1,17 +1,20 @@
-//! Audits of a text of recorded steps.
-ghost use Rattle.std.specs.Prelude.{◌≡◌, [], IfSome, List, false};
+//! The rows of a text, decided one after another: the finding of an audit, and the loop of reports.
+ghost use Rattle.std.specs.Prelude.{◌≡◌, ◌++◌, ◌∷◌, [], ⊤, ℕ, Err, IfErr, IfOk, IfSome, List, None, OnOk, Option, false, option_map, true};
+ghost use Rattle.std.specs.Io.KnownBytes.{append_known};
+ghost use Rattle.pie_explain.specs.Report.{Grows};
 ghost use Rattle.pie_record.specs.Text.{records_of};
-ghost use Rattle.pie_linux_history.specs.Audit.{ReadsColumns, finding_after, finding_of, has_failed};
-ghost use Rattle.pie_linux_history.specs.Known.{HasRead, TakesNext};
+ghost use Rattle.pie_linux_history.specs.Audit.{Begins, Ends, ReadsColumns, finding_of, has_failed, is_failure, outcome_after, outcome_of};
+ghost use Rattle.pie_linux_history.specs.Known.{HasRead, Leaves, TakesNext};
 ghost use Rattle.pie_linux_history.specs.LookBack.{Entry};
+ghost use Rattle.pie_linux_history.specs.Reports.{Writes};
 
-use crate::columns::Columns;
+use crate::columns::{Columns, out_of_memory};
 use crate::fault::StepsFault;
 use crate::queues::{Queues, StepDifference, StepsCounts};
-use pie_record::{Record, Records, TraceFault};
-use std::alloc::Global;
+use pie_record::{Page, Record, Records, TraceFault};
+use std::alloc::{AllocError, Global};
 use std::io;
-use std::io::Read;
+use std::io::{Read, Write};
 
 /// A reader of steps. It is a type of its own, so that the functions of pie_record that read histories have no further
 /// caller, and are inlined.
@@ -35,6 +38,46 @@ pub enum StepsFinding {
     Differs(StepDifference),
 }
 
+/// A report about the rows of a text, one after another. `shows state rows text` relates a state and the text so far to the
+/// rows that the report has received.
+pub(crate) trait RowReport {
+    /// The state of a report between two rows.
+    type State: Drop;
+
+    ghost shows: { Self → Self.State → List Entry → List ℕ → Type 0 };
+
+    /// Writes the text for the last row of `queues` onto a page.
+    fn report_row(
+        &self,
+        state: &mut Self::State,
+        queues: &Queues,
+        page: &mut Page,
+    ) -> Result<(), AllocError>
+        ensures { (entries : List Entry) (entry : Entry) (text : List ℕ) → HasRead queues.now (entries ++ entry ∷ []) → Leaves queues.now entries entry
+            → shows self.now state.old entries text
+            → OnOk result (Grows (shows self.now state.new (entries ++ entry ∷ [])) text page.old page.new) };
+}
+
+/// The report of an audit: nothing.
+#[derive(Clone, Copy)]
+struct NoReport;
+
+impl RowReport for NoReport {
+    type State = ();
+
+    ghost shows = { λ it state entries text. ⊤ };
+
+    #[tactic(auto, using(crate::proofs::ReportFacts::grows_none))]
+    fn report_row(
+        &self,
+        state: &mut (),
+        queues: &Queues,
+        page: &mut Page,
+    ) -> Result<(), AllocError> {
+        Ok(())
+    }
+}
+
 /// Reads the first row.
 pub(crate) fn read_columns<R: Read>(
     records: &mut Records<R>,
@@ -48,62 +91,114 @@ pub(crate) fn read_columns<R: Read>(
     }
 }
 
-/// Reads a row, and decides its step again. Returns `None` after the last row, and otherwise the first number of the
-/// step that differs.
-#[inline(never)]
-fn next_step<R: Read>(
-    records: &mut Records<R>,
-    columns: &Columns,
-    fields: &mut Record,
-    queues: &mut Queues,
-) -> Result<Option<Option<StepDifference>>, StepsFault>
-    ensures { (entries : List Entry) → HasRead queues.old entries → IfSome records.old (λ rows. has_failed result ≡ false
-        → TakesNext columns.now entries rows result records.new queues.new) }
+/// Writes the text for the last row of `queues`, and writes the page out if it is full.
+fn write_row<W: Write, P: RowReport>(
+    report: &P,
+    state: &mut P::State,
+    queues: &Queues,
+    page: &mut Page,
+    writer: &mut W,
+) -> Result<(), StepsFault>
+    ensures row { (entries : List Entry) (entry : Entry) (before : Option (List ℕ)) → HasRead queues.now (entries ++ entry ∷ []) → Leaves queues.now entries entry
+        → Writes (P.shows report.now state.old entries) before (append_known (W.contents writer.old) page.old)
+        → OnOk result (Writes (P.shows report.now state.new (entries ++ entry ∷ [])) before (append_known (W.contents writer.new) page.new)) }
+    ensures fails { IfErr result (λ why. is_failure why ≡ true) }
 {
-    match records.next(fields) {
-        Ok(true) => {}
-        Ok(false) => return Ok(None),
-        Err(why) => return Err(StepsFault::Trace(why)),
-    }
-    match queues.take(columns, fields) {
-        Ok(found) => Ok(Some(found)),
-        Err(why) => Err(why),
+    let Ok(()) = report.report_row(state, queues, page) else {
+        return Err(out_of_memory());
+    };
+    match page.write_if_full(writer) {
+        Ok(()) => Ok(()),
+        Err(_) => Err(StepsFault::Trace(TraceFault::Write)),
     }
 }
 
-/// Decides all steps.
-fn audit_steps<R: Read>(
-    records: &mut Records<R>,
-    columns: &Columns,
-    fields: &mut Record,
-    queues: &mut Queues,
-) -> Result<StepsFinding, StepsFault>
-    ensures { (entries : List Entry) → HasRead queues.old entries → IfSome records.old (λ rows. has_failed result ≡ false
-        → result ≡ finding_after columns.now entries rows) }
-{
-    for steps in 0..u64::MAX {
-        match next_step(records, columns, fields, queues) {
-            Ok(Some(None)) => {}
-            Ok(Some(Some(difference))) => return Ok(StepsFinding::Differs(difference)),
-            Ok(None) => return Ok(StepsFinding::Clean(queues.counts)),
+/// The rows of a text that remain, with the queues of those before them.
+#[derive(Drop)]
+pub(crate) struct Text<'q, R: Read + Drop> {
+    records: Records<StepsReader<R>>,
+    columns: Columns,
+    fields: Record,
+    /// The only queue whose steps are decided, if there is one.
+    queue: Option<&'q str>,
+    queues: Queues,
+}
+
+impl<'q, R: Read + Drop> Text<'q, R> {
+    /// Reads the first row. With a `queue` only the steps of this queue are decided.
+    ///
+    /// # Errors
+    ///
+    /// The fault of the first row.
+    pub(crate) fn begin(
+        alloc: Global,
+        input: R,
+        queue: Option<&'q str>,
+    ) -> Result<Text<'q, R>, StepsFault>
+        ensures begins { IfOk result (λ text. (text.queue ≡ queue.entry) × HasRead text.queues []
+            × Begins (option_map (λ name. name.now) queue.entry) (option_map records_of (R.remaining input)) text.columns text.records) }
+        ensures refuses { IfErr result (λ why. is_failure why ≡ false → IfSome (R.remaining input)
+            (λ text. outcome_of (option_map (λ name. name.now) queue.entry) (records_of text) ≡ ([], Err why))) }
+    {
+        let mut records = Records::new(alloc, StepsReader(input));
+        let mut fields = Record::new(alloc);
+        let columns = match read_columns(&mut records, &mut fields) {
+            Ok(columns) => columns,
             Err(why) => return Err(why),
+        };
+        Ok(Text {
+            records,
+            columns,
+            fields,
+            queue,
+            queues: Queues::new(alloc),
+        })
+    }
+
+    /// Reads a row, and decides its step again. Returns `None` after the last row, and otherwise the first number of the
+    /// step that differs.
+    #[inline(never)]
+    fn next(&mut self) -> Result<Option<Option<StepDifference>>, StepsFault>
+        ensures kept { (self.new.columns ≡ self.old.columns) × (self.new.queue ≡ self.old.queue) }
+        ensures takes { (entries : List Entry) → HasRead self.old.queues entries → has_failed result ≡ false
+            → TakesNext (option_map (λ name. name.now) self.old.queue) self.old.columns entries self.old.records result self.new.records self.new.queues }
+    {
+        match self.records.next(&mut self.fields) {
+            Ok(true) => {}
+            Ok(false) => return Ok(None),
+            Err(why) => return Err(StepsFault::Trace(why)),
+        }
+        match self.queues.take(self.queue, &self.columns, &self.fields) {
+            Ok(found) => Ok(Some(found)),
+            Err(why) => Err(why),
         }
     }
-    Err(StepsFault::Trace(TraceFault::Read))
-}
 
-/// Reads the first row, and decides all steps.
-fn audit_records<R: Read>(
-    records: &mut Records<R>,
-    fields: &mut Record,
-    queues: &mut Queues,
-) -> Result<StepsFinding, StepsFault>
-    requires { HasRead queues.old [] }
-    ensures { IfSome records.old (λ rows. has_failed result ≡ false → result ≡ finding_of rows) }
-{
-    match read_columns(records, fields) {
-        Ok(columns) => audit_steps(records, &columns, fields, queues),
-        Err(why) => Err(why),
+    /// Decides all rows that remain, and reports those before the first fault and the first step that differs.
+    pub(crate) fn decide<W: Write, P: RowReport>(
+        &mut self,
+        report: &P,
+        state: &mut P::State,
+        page: &mut Page,
+        writer: &mut W,
+    ) -> Result<StepsFinding, StepsFault>
+        ensures { (entries : List Entry) (before : Option (List ℕ)) → HasRead self.old.queues entries
+            → Writes (P.shows report.now state.old entries) before (append_known (W.contents writer.old) page.old) → has_failed result ≡ false
+            → Ends (λ rows. Writes (P.shows report.now state.new rows) before (append_known (W.contents writer.new) page.new))
+            (outcome_after (option_map (λ name. name.now) self.old.queue) self.old.columns entries) self.old.records result }
+    {
+        'rows: for _ in 0..u64::MAX {
+            match self.next() {
+                Ok(Some(None)) => match write_row(report, state, &self.queues, page, writer) {
+                    Ok(()) => {}
+                    Err(why) => return Err(why),
+                },
+                Ok(Some(Some(difference))) => return Ok(StepsFinding::Differs(difference)),
+                Ok(None) => return Ok(StepsFinding::Clean(self.queues.counts)),
+                Err(why) => return Err(why),
+            }
+        }
+        Err(StepsFault::Trace(TraceFault::Read))
     }
 }
 
@@ -117,8 +212,8 @@ fn audit_records<R: Read>(
 pub fn audit<R: Read + Drop>(alloc: Global, input: R) -> Result<StepsFinding, StepsFault>
     ensures { IfSome (R.remaining input) (λ text. has_failed result ≡ false → result ≡ finding_of (records_of text)) }
 {
-    let mut records = Records::new(alloc, StepsReader(input));
-    let mut fields = Record::new(alloc);
-    let mut queues = Queues::new(alloc);
-    audit_records(&mut records, &mut fields, &mut queues)
+    match Text::begin(alloc, input, None) {
+        Ok(mut text) => text.decide(&NoReport, &mut (), &mut Page::new(alloc), &mut io::sink()),
+        Err(why) => Err(why),
+    }
 }

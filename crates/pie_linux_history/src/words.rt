@@ -1,5 +1,5 @@
 //! The explanation of a packet in words.
-use crate::explained::{Explained, Fate, is_marked};
+use crate::explained::{ExplainedPacket, Fate, is_marked};
 use pie_linux::{LinuxCause, Picked};
 use std::fmt;
 
@@ -64,7 +64,7 @@ fn fate_words(fate: Fate) -> Option<&'static str> {
 
 /// Writes the queue before the packet.
 #[inline(never)]
-fn write_queue<W: fmt::Write>(it: &Explained, f: &mut fmt::Formatter<W>) -> fmt::Result {
+fn write_queue<W: fmt::Write>(it: &ExplainedPacket, f: &mut fmt::Formatter<W>) -> fmt::Result {
     let (length, backlog) = (it.packet.length, it.packet.backlog);
     let delay = u128::from(it.packet.state.qdelay).saturating_mul(64);
     let (millis, rest) = (delay / 1_000_000, delay % 1_000_000);
@@ -78,7 +78,7 @@ fn write_queue<W: fmt::Write>(it: &Explained, f: &mut fmt::Formatter<W>) -> fmt:
     writeln!(f, "  probability {percent}.{fraction:04} %")
 }
 
-impl fmt::Display for Explained {
+impl fmt::Display for ExplainedPacket {
     fn fmt<W: fmt::Write>(&self, f: &mut fmt::Formatter<W>) -> fmt::Result {
         let (event, queue, step, bytes) = (self.event, &self.queue, self.step, self.packet.bytes);
         let verdict = verdict(self.packet.fate);

@@ -1,8 +1,10 @@
-use Rattle.std.specs.Prelude.{◌≡◌, false}
-use Rattle.pie_linux_history.specs.Audit.{finding_of, has_failed}
-use Rattle.pie_linux_history.proofs.AuditFacts.{of-text}
+use Rattle.std.specs.Prelude.{[], None}
+use Rattle.pie_linux_history.proofs.AuditFacts.{audit-result, ends-text}
 use Rattle.pie_linux_history.proofs.text.audit.Goals as goal
 
-pub returns : goal.returns
-returns g c = of-text (g.R.Read.remaining c.args.input) (λ rows. has_failed c.audit_records.result ≡ false → c.audit_records.result ≡ finding_of rows)
-    (rw c.new-records.ensures at c.audit_records.ensures)
+pub returns-in-Ok : goal.returns-in-Ok
+returns-in-Ok g c =
+    let begins = c.in-Ok.ensures.begins in
+    audit-result (g.R.Read.remaining c.args.input) _ c.decide.result
+    (λ ok. ends-text None _ _ _ _ _ begins.2
+    ((rw begins.0 at c.decide.ensures) [] None begins.1 (record { text = []; says_it = tt; written = tt }) ok))

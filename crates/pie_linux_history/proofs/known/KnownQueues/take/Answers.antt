@@ -1,9 +1,16 @@
 use Rattle.std.proofs.Common.{◌≡◌, Option, Some, arith, sym, ap}
 use Rattle.pie_linux_history.specs.declared.explained.Decision.{Decision}
+use Rattle.pie_linux_history.specs.declared.decided.Taken.{Taken}
+use Rattle.pie_linux_history.specs.declared.step.Step.{Step}
+use Rattle.pie_linux_history.specs.Decided.{taken_as}
 use Rattle.pie_linux_history.specs.Known.{looked_up, tracked}
+use Rattle.pie_linux_history.specs.LookBack.{Followed}
 use Rattle.pie_linux_history.specs.Queue.{Stepped}
 use Rattle.pie_linux_history.proofs.KnownFacts.{looked-at, looked-take, place-within}
 use Rattle.pie_linux_history.proofs.known.KnownQueues.take.Goals as goal
+
+abbrev taken_with : Followed → Step → Stepped → Option Taken
+taken_with was step now = Some (taken_as was step now)
 
 pub returns-in_default-get_mut : goal.returns-in_default-get_mut
 returns-in_default-get_mut c =
@@ -15,6 +22,7 @@ returns-in-Ok c =
     let found : looked_up c.args.name.now c.args.self.now.all.items ≡ Some (tracked known) =
     looked-at c.args.self.now.all.items c.in-Some.place c.args.name.now known c.in-Some.ensures c.in-Some-get_mut.ensures.value in
     record {
+      taken = rw (found, c.numbers_at-before.ensures, c.numbers_at.ensures) (ap (taken_with (tracked known) c.args.step.now) (sym c.in-Ok.ensures.made));
       decision = rw found (ap (λ (x : Stepped). let some : Option Decision = Some x.decision in some) (sym c.in-Ok.ensures.made));
       lost = rw found c.in-Ok.ensures.lost;
       queues = λ other. looked-take c.args.self.now.all.items c.in-Some.place c.args.name.now known c.take.new.self c.args.step.now c.in-Ok.decision other

@@ -38,7 +38,7 @@ def page(program):
              "SCRIPT": (WEB / "page.js").read_text(), "ENGINE": engine, "MODULE": packed(program), "EXAMPLES": packed(json.dumps(examples).encode()), "HISTORY": ""}
     # (no part may end its element)
     assert not [name for name, text in parts.items() if re.search(r"</(?:script|style)", text, re.I)]
-    parts["POLICY"] = (f"default-src 'none'; script-src {hashed(parts['CHARTS'])} {hashed(parts['SCRIPT'])} 'wasm-unsafe-eval'; style-src {hashed(parts['STYLE'])}; "
+    parts["POLICY"] = (f"default-src 'none'; script-src {hashed(parts['CHARTS'])} {hashed(parts['SCRIPT'])} 'wasm-unsafe-eval'; style-src {hashed(parts['STYLE'])}; style-src-attr 'unsafe-inline'; "
                        "worker-src blob:; img-src data: blob:; base-uri 'none'; form-action 'none'")
     return re.sub(r"@([A-Z]+)@", lambda it: parts[it[1]], (WEB / "page.html").read_text())
 

@@ -191,10 +191,10 @@ const FATES = [["early", "early", "dropped early"], ["bytes", "bytes", "no room 
 const words = (field) => field.replaceAll("_", " ");
 
 // ----- The sums of the time in the charts
-function card(title, big, rows) {
+function card(title, field, big, rows) {
     const made = add(element("headline"), "div", undefined, { class: "card" });
     add(made, "h2", title);
-    addNumber(made, "div", big, { class: "big" });
+    addNumber(made, "div", big, { class: "big", "data-field": field });
     const list = add(made, "dl");
     for (const [name, text, field] of rows.filter((row) => row)) {
         const row = add(list, "div");
@@ -212,37 +212,37 @@ function headline(sum) {
     const share = (name) => [`${duration(number(name))}, ${percent(Math.min(number(name), length), length)}`, name];
     const early = (end) => grouped(number(`picked_by_word_${end}`) + number(`picked_by_sum_${end}`));
     const dropped = number("early") + number("bytes") + number("packets");
-    card("Arrivals", grouped(sum.arrivals), [
+    card("Arrivals", "arrivals", grouped(sum.arrivals), [
         ["bytes", ...count("arrived_bytes")],
         ["offered", rate(sum.arrived_bytes, length)],
         ["departed", ...count("left")],
         "carried_bytes" in sum && ["carried", rate(sum.carried_bytes, length)],
     ]);
-    card("Dropped", percent(dropped, number("arrivals")), [
+    card("Dropped", "dropped", percent(dropped, number("arrivals")), [
         ["packets", grouped(dropped)],
         ["early, no ECN", early("not_capable")],
         ["early, with ECN", early("not_below")],
         ["no room in bytes", ...count("bytes")],
         ["no room in packets", ...count("packets")],
     ]);
-    card("Marked", percent(number("mark"), number("arrivals")), [["packets", ...count("mark")]]);
-    card("Mean wait", ms("mean_wait")[0], [
+    card("Marked", "marked", percent(number("mark"), number("arrivals")), [["packets", ...count("mark")]]);
+    card("Mean wait", "mean_wait", ms("mean_wait")[0], [
         more("wait_99", "99 % waited at most", ms),
         ["greatest", ...ms("greatest_wait")],
         more("waited_above_target", "above the target", (name) => [`${grouped(sum[name])}, ${percent(number(name), number("left"))}`, name]),
         more("time_waited_above_target", "time above it", share),
     ]);
-    card("Greatest queueing delay", ms("greatest_delay")[0], [
+    card("Greatest queueing delay", "greatest_delay", ms("greatest_delay")[0], [
         ["last", ...ms("last_delay")],
         "last_target" in sum && number("events") > 0 && ["target", ...ms("last_target")],
         more("time_above_target", "time above it", share),
     ]);
-    card("Greatest drop probability", probability(number("greatest_probability")), [
+    card("Greatest drop probability", "greatest_probability", probability(number("greatest_probability")), [
         ["last", probability(number("last_probability")), "last_probability"],
         more("last_burst_allowance", "burst allowance, last", ms),
     ]);
     if (number("turned_on") + number("turned_off") > 0) {
-        card("Turned on", grouped(sum.turned_on), [
+        card("Turned on", "turned_on", grouped(sum.turned_on), [
             number("turned_on") > 0 && ["first", `${momentMillis(sum.first_turned_on)} ms`, "first_turned_on"],
             ["turned off", ...count("turned_off")],
             number("turned_off") > 0 && ["last", `${momentMillis(sum.last_turned_off)} ms`, "last_turned_off"],
@@ -487,8 +487,10 @@ let other = null; // the records of periods of the other history
 
 const field = (name, scale) => (row) => (row[name] === undefined ? null : Number(row[name]) / scale);
 const when = (counts, name, scale) => (row) => (Number(row[counts]) > 0 ? Number(row[name]) / scale : null);
-const perTime = (name) => (row) => (row[name] === undefined ? null : (8000 * Number(row[name])) / points.each);
-const shareOf = (name) => (row) => (Number(row.arrivals) > 0 ? (100 * Number(row[name])) / Number(row.arrivals) : 0);
+// (of columns of several periods)
+const perTime = (name) => (column) => (8000 * column.sum(name)) / (points.each * column.many);
+const shareOf = (name) => (column) => (column.sum("arrivals") > 0 ? (100 * column.sum(name)) / column.sum("arrivals") : 0);
+const countOf = (name) => (column) => column.sum(name);
 const CHARTS = [
     {
         title: "Queueing delay and waits, ms", height: 230, lines: [
@@ -508,13 +510,13 @@ const CHARTS = [
         ],
     },
     {
-        title: "Rate, Mbit/s", height: 140, least: 0.001, zeros: true, lines: [
+        title: "Rate, Mbit/s", height: 140, least: 0.001, pixels: 14, lines: [
             { name: "offered", color: "offered", value: perTime("arrived_bytes"), steps: true, area: true },
             { name: "carried", color: "carried", value: perTime("carried_bytes"), steps: true },
         ],
     },
-    { title: "Lost and marked packets", height: 150, zeros: true, stacked: true, lines: FATES.map(([name, color, text]) => ({ name: text, color, value: field(name, 1) })) },
-    { title: "Causes of verdicts, per cent of the arrivals", height: 190, zeros: true, stacked: true, greatest: 100, lines: CAUSES.map(([name, color]) => ({ name: words(name), color, field: name, value: shareOf(name) })) },
+    { title: "Lost and marked packets", height: 150, pixels: 6, stacked: true, lines: FATES.map(([name, color, text]) => ({ name: text, color, field: name, value: countOf(name) })) },
+    { title: "Causes of verdicts, per cent of the arrivals", height: 190, pixels: 6, stacked: true, greatest: 100, lines: CAUSES.map(([name, color]) => ({ name: words(name), color, field: name, value: shareOf(name) })) },
 ];
 
 // Returns the value of a colour of the style.
@@ -525,19 +527,40 @@ function colour(name) {
     return value;
 }
 
-// Returns the points of a chart: a list for each time, with the values of its lines. A gap between periods is empty time.
+const timeOf = (place) => Number(BigInt(place) * BigInt(points.each) - (FIRST % BigInt(points.each))) / 1e6;
+
+// Joins periods to columns that are so many pixels wide.
+function columnsOf(pixels) {
+    const width = Math.max(200, element("charts").clientWidth - 60);
+    const many = Math.max(1, Math.ceil((pixels * (view.to - view.from) * 1e6) / (width * points.each)));
+    const made = new Map();
+    for (const row of points.rows) {
+        const at = Math.floor(row.place / many);
+        if (!made.has(at)) made.set(at, { place: at * many, many, rows: [], sum: (name) => made.get(at).rows.reduce((all, it) => all + Number(it[name] ?? 0), 0) });
+        made.get(at).rows.push(row);
+    }
+    return [...made.values()];
+}
+
+// Returns the points of a chart: a list for each time, with the values of its lines. In a chart of columns, time without events is empty.
 function tableOf(chart, shown) {
-    const at = (place) => (Number(BigInt(place) * BigInt(points.each) - (FIRST % BigInt(points.each)))) / 1e6;
-    const empty = chart.zeros ? 0 : null;
-    const others = new Map((other ?? []).map((row) => [row.place, row]));
     const made = [];
     let next = null;
+    if (chart.pixels) {
+        for (const column of columnsOf(chart.pixels)) {
+            if (next !== null && column.place > next) made.push([timeOf(next), ...shown.map(() => 0)]);
+            made.push([timeOf(column.place), ...shown.map((it) => it.value(column))]);
+            next = column.place + column.many;
+        }
+        if (next !== null) made.push([timeOf(next), ...shown.map(() => 0)]);
+        return made;
+    }
+    const others = new Map((other ?? []).map((row) => [row.place, row]));
     for (const row of points.rows) {
-        if (next !== null && row.place > next && chart.zeros) made.push([at(next), ...shown.map(() => empty)]);
-        made.push([at(row.place), ...shown.map((it) => (it.isOther ? others.has(row.place) ? it.value(others.get(row.place)) : null : it.value(row)))]);
+        made.push([timeOf(row.place), ...shown.map((it) => (it.isOther ? (others.has(row.place) ? it.value(others.get(row.place)) : null) : it.value(row)))]);
         next = row.place + 1;
     }
-    if (next !== null) made.push([at(next), ...(made.at(-1).slice(1).map((value, index) => (chart.zeros || !shown[index].steps ? empty : value)))]);
+    if (next !== null) made.push([timeOf(next), ...made.at(-1).slice(1).map((value, index) => (shown[index].steps ? value : null))]);
     return made;
 }
 
@@ -763,11 +786,11 @@ function next(by) {
 
 // ----- What if
 const SLIDERS = [
-    { option: "target", title: "target", unit: "ms", least: 0, most: 60, step: 0.5, field: "last_target", scale: 1e6 },
-    { option: "limit", title: "limit", unit: "kB", least: 2, most: 2048, step: 2, words: (value) => String(Math.round(value * 1000)) },
-    { option: "alpha", title: "alpha", unit: "", least: 0, most: 32, step: 1 },
-    { option: "beta", title: "beta", unit: "", least: 0, most: 32, step: 1 },
-    { option: "max_burst", title: "burst", unit: "ms", least: 0, most: 500, step: 5 },
+    { option: "target", title: "target", unit: "ms", least: 0, most: 60, step: 0.5, usual: 15, field: "last_target", scale: 1e6 },
+    { option: "limit", title: "limit", unit: "kB", least: 2, most: 2048, step: 2, usual: 262, words: (value) => String(Math.round(value * 1000)) },
+    { option: "alpha", title: "alpha", unit: "", least: 0, most: 32, step: 1, usual: 2 },
+    { option: "beta", title: "beta", unit: "", least: 0, most: 32, step: 1, usual: 20 },
+    { option: "max_burst", title: "burst", unit: "ms", least: 0, most: 500, step: 5, usual: 150 },
 ];
 
 // Makes the sliders. Each option is left out until its slider moves.
@@ -788,7 +811,7 @@ function makeSliders() {
 function sliderValues(sum) {
     for (const it of SLIDERS) {
         it.isSet = false;
-        if (it.field && sum?.[it.field]) it.slider.value = Number(sum[it.field]) / it.scale;
+        it.slider.value = it.field && sum?.[it.field] ? Number(sum[it.field]) / it.scale : it.usual;
         it.text.textContent = "as recorded";
     }
 }

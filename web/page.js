@@ -335,6 +335,7 @@ function clear() {
     for (const id of ["main", "other", "save", "finding", "fault"]) element(id).hidden = true;
     for (const id of ["headline", "span", "causes", "flows", "columns", "output", "status", "matching", "deciding"]) element(id).replaceChildren();
     element("cause").replaceChildren(element("cause").options[0]);
+    element("packet").querySelector("h2").textContent = "Why was it lost?";
     element("words").textContent = "Click on a drop or a mark in a chart, or choose one in the list.";
     element("explain").replaceChildren();
     Object.assign(element("tag"), { value: "" });
@@ -395,7 +396,7 @@ async function show(summary) {
     view = { ...whole() };
     const part = asked(whole());
     working("drawing");
-    await Promise.all([look(part, sum), part.from === 0 && part.to === whole().to ? fill() : null]);
+    await Promise.all([look(part, isWhole(part) ? sum : null), fill()]);
     const found = await ask(about("explain", "--flows", "10", "--csv"), { rows: MANY });
     flows(objects(found.rows));
 }
@@ -567,7 +568,7 @@ function tableOf(chart, shown) {
 // Returns the text of a time at the bottom: a wall-clock time if the text has such, otherwise a moment in a unit of the time in the charts.
 function timeText(time) {
     const exact = FIRST + BigInt(Math.round(time * 1e6));
-    if (clocks.length > 0) return wall(exact).slice(...(view.to - view.from > 2 * 86400e3 ? [5, 16] : view.to - view.from > 5e3 ? [11, 19] : [14, 23]));
+    if (clocks.length > 0) return wall(exact).slice(...(view.to - view.from > 2 * 86400e3 ? [5, 16] : view.to - view.from > 5e3 ? [11, 19] : [11, 23]));
     const late = FIRST > BigInt(Math.max(1, Math.round(LENGTH))) * 1000n;
     const [unit, name] = unitOf(((view.to - view.from) * 1e6) / 2);
     return `${late ? "+" : ""}${+((late ? time * 1e6 : Number(exact)) / unit).toPrecision(9)} ${name}`;

@@ -91,7 +91,7 @@ def texts(folder):
 
 
 def hold_pages(reports):
-    """Holds each page to its history: yields its name, its place and the summary of its events."""
+    """Holds each page to its history: yields its name, its place, the status, the summary of its events, and true if an audit has messages."""
     for name, path, status, told, words in texts(reports.folder):
         got, page, errors = reports.run(*words, path)
         check(got == status and told in errors and errors.count("\n") == bool(status), f"{name}: status {got}, {errors}")
@@ -108,7 +108,7 @@ def hold_pages(reports):
         check(attributes == wanted, f"{name}: attributes {attributes}, and not {wanted}")
         place = Path(reports.folder, f"{re.sub('[^a-z ]', '-', name)[:20]}.html")
         place.write_text(page)
-        yield name, place, status, row
+        yield name, place, status, row, subprocess.run([PROGRAM, "audit", readable], capture_output=True, check=False).stderr != b""
 
 
 def flows(reports):
@@ -215,10 +215,10 @@ def opened(driver, name, place):
     return seen
 
 
-def hold_seen(driver, name, place, status, row):
+def hold_seen(driver, name, place, status, row, has_messages):
     """Holds a page that opens by itself to the summary of its events."""
     seen = opened(driver, name, place)
-    check(("Clean." in seen["finding"]) == (status == 0) and bool(seen["fault"]) == bool(status), f"{name}: {seen['finding']}, {seen['fault']}")
+    check(("Clean." in seen["finding"]) == (status == 0) and bool(seen["fault"]) == has_messages, f"{name}: {seen['finding']}, {seen['fault']}")
     for field in ("arrivals", "left", "mark") if row["events"] != "0" else ():
         found = seen["fields"].get(field, row[field]).replace(",", "")
         check(found == row[field], f"{name}: {field} is {found}, and not {row[field]}")

@@ -158,20 +158,29 @@ END
 
 check_web() {
     local engine
+    if command -v xz > /dev/null; then xz -dc dist/wasm/pie.wasm.xz; else python3 -c 'import lzma, sys; sys.stdout.buffer.write(lzma.open(sys.argv[1]).read())' dist/wasm/pie.wasm.xz; fi > "$1/pie.wasm"
     if has node; then
-        if command -v xz > /dev/null; then xz -dc dist/wasm/pie.wasm.xz; else python3 -c 'import lzma, sys; sys.stdout.buffer.write(lzma.open(sys.argv[1]).read())' dist/wasm/pie.wasm.xz; fi > "$1/pie.wasm"
         [ "$(node web/run.mjs "$1/pie.wasm" audit < examples/overload.history)" = clean,1033 ]
         echo 'WebAssembly: an audit in node'
         return
     fi
     for engine in chromium chromium-browser google-chrome; do
-        if has $engine && web/make.py "$1/page.html" && report/pie-report --pie "$pie" --page "$1/page.html" -o "$1/report.html" examples/overload.history; then
-            $engine --headless --no-sandbox --disable-gpu --user-data-dir="$1/profile" --virtual-time-budget=60000 --dump-dom "file://$1/report.html" 2> /dev/null | grep -q '<code>clean,1033</code>'
-            echo "WebAssembly: an audit in $engine"
-            return
-        fi
+        has $engine || continue
+        # (a page that ends its audit before it is loaded)
+        {
+            printf '<body><script>\n'
+            sed 's/^export //' web/pie.js
+            printf 'const bytes = (text) => Uint8Array.from(atob(text), (it) => it.charCodeAt(0));\nlet text = "";\n'
+            printf 'const input = bytes("%s");\n' "$(base64 -w 0 examples/overload.history)"
+            printf 'const program = new WebAssembly.Module(bytes("'
+            base64 -w 0 "$1/pie.wasm"
+            printf '"));\nrun(program, ["audit"], { input, write: (to, part) => (text += new TextDecoder().decode(part)) });\ndocument.body.append(text);\n</script>\n'
+        } > "$1/page.html"
+        $engine --headless --no-sandbox --disable-gpu --user-data-dir="$1/profile" --dump-dom "file://$1/page.html" 2> /dev/null | grep -q '>clean,1033$'
+        echo "WebAssembly: an audit in $engine"
+        return
     done
-    echo "NOT RUN: dist/check.sh: no node, and no Chromium with Debian's libjs-dygraphs here, so no WebAssembly was run"
+    echo "NOT RUN: dist/check.sh: no node and no Chromium here, so no WebAssembly was run"
 }
 
 parts="program examples c threads cxx rust python web"

@@ -8,14 +8,16 @@
 #   make check           runs the worked rows and the examples with them; reports what cannot run here
 #   make install         installs everything below PREFIX (/usr/local); install-library and install-program install a part
 #   make uninstall       removes the files that `make install` installs
+#   make web             web/juniperbowls.html: the page that runs the program in a browser; python3 and Debian's libjs-dygraphs are needed
 #   make crate           build/crate: the crate for Rust with the assembly, in the form that `cargo package` accepts
 #   make archive         build/juniperbowls-VERSION.tar.gz for any Debian 12 or later; it can be unpacked anywhere
-#   make clean           removes build/
+#   make clean           removes build/ and the page
 #   make shared, make program, make libraries     build a part
 #
 # Variables: CC, CPPFLAGS, CFLAGS, LDFLAGS, AR; DESTDIR, PREFIX, BINDIR, LIBDIR, INCLUDEDIR,
 # DATADIR, MANDIR, DOCDIR; BUILD, the folder of all built files; PROCESSOR, a folder of dist/; PIE_C_S,
-# PIE_LINK_C_S and PIE_S, other assembly, for example crates/pie_c/out/pie_c.S, which bindings/c/library.py writes.
+# PIE_LINK_C_S and PIE_S, other assembly, for example crates/pie_c/out/pie_c.S, which bindings/c/library.py writes;
+# DYGRAPHS, the library that draws the page's charts.
 
 VERSION := $(shell sed -n 's/^.define PIE_VERSION "\(.*\)"$$/\1/p' include/pie.h)
 MAJOR := $(firstword $(subst ., ,$(VERSION)))
@@ -26,7 +28,7 @@ BUILD ?= build
 MACHINE := $(filter-out %gnux32 %ilp32,$(foreach it,$(shell $(CC) -dumpmachine),$(if $(findstring linux,$(it)),$(it))))
 PROCESSOR ?= $(strip $(foreach it,x86_64 aarch64 riscv64 mipsel,$(if $(filter $(it)-%,$(MACHINE)),$(it))) \
 	$(if $(filter arm-% armv7-% armv7l-% armv7a-%,$(MACHINE)),armv7))
-ifeq ($(PROCESSOR)$(filter clean,$(MAKECMDGOALS)),)
+ifeq ($(PROCESSOR)$(filter clean web,$(MAKECMDGOALS)),)
 $(error no assembly in dist/ for the machine of $(CC), $(or $(shell $(CC) -dumpmachine),which prints none): dist/ has $(notdir $(patsubst %/,%,$(dir $(wildcard dist/*/pie_c.S*)))), \
 for Linux; big-endian processors are not supported)
 endif
@@ -50,6 +52,7 @@ INCLUDEDIR ?= $(PREFIX)/include
 DATADIR ?= $(PREFIX)/share
 MANDIR ?= $(DATADIR)/man
 DOCDIR ?= $(DATADIR)/doc/pie
+DYGRAPHS ?= /usr/share/javascript/dygraphs/dygraph.min.js
 
 SHARED := libpie.so.$(VERSION)
 LIBRARIES := $(addprefix $(BUILD)/,libpie_c.a $(if $(PIE_LINK_C_S),libpie_link.a) $(SHARED) $(SONAME) libpie.so)
@@ -115,6 +118,11 @@ $(BUILD)/$(SONAME) $(BUILD)/libpie.so: $(BUILD)/$(SHARED)
 $(BUILD)/pie: $(addprefix $(BUILD)/,pie.o heap.o process.o)
 	$(CC) $(CFLAGS) $(HARDENING) $(LDFLAGS) -pie -Wl,--wrap=main -Wl,--wrap=open -o $@ $^ -pthread -lm
 
+PAGE := web/juniperbowls.html
+web: $(PAGE)
+$(PAGE): $(filter-out $(PAGE),$(wildcard web/*)) dist/wasm/pie.wasm.xz $(wildcard examples/*.history)
+	DYGRAPHS='$(DYGRAPHS)' web/make.py $@
+
 check: all
 	CC='$(CC)' RUN='$(RUN)' dist/check.sh $(BUILD)
 
@@ -125,9 +133,6 @@ define PROGRAM
 755 report/pie-metrics $(BINDIR)/pie-metrics
 755 report/pie-extcap $(LIBDIR)/wireshark/extcap/pie-extcap
 644 report/outputs.py $(DATADIR)/pie/outputs.py
-644 report/page.html $(DATADIR)/pie/page.html
-644 report/page.css $(DATADIR)/pie/page.css
-644 report/page.js $(DATADIR)/pie/page.js
 644 report/alerts.yml $(DATADIR)/pie/alerts.yml
 644 report/grafana.json $(DATADIR)/pie/grafana.json
 644 man/pie.1 $(MANDIR)/man1/pie.1
@@ -163,6 +168,13 @@ define LICENCES
 644 LICENSE-MIT $(DOCDIR)/LICENSE-MIT
 644 LICENSE-APACHE $(DOCDIR)/LICENSE-APACHE
 endef
+# (the page, if its library is here)
+ifneq ($(wildcard $(DYGRAPHS)),)
+define PROGRAM +=
+
+644 $(PAGE) $(DATADIR)/pie/juniperbowls.html
+endef
+endif
 ifneq ($(PIE_LINK_C_S),)
 define LIBRARY +=
 
@@ -179,7 +191,7 @@ put = while read -r mode file place; do \
 	done
 
 install: $(if $(PIE_S),install-program) install-library
-install-program: program
+install-program: program $(if $(wildcard $(DYGRAPHS)),web)
 	@printf '%s\n' "$$PROGRAM" "$$LICENCES" | $(put)
 # (both install the licences)
 ifneq ($(filter install,$(MAKECMDGOALS)),)
@@ -222,7 +234,7 @@ crate: | $(BUILD)
 	cp dist/heap.c dist/runtime.h $(BUILD)/crate/assembly
 
 clean:
-	rm -rf $(BUILD)
+	rm -rf $(BUILD) $(PAGE)
 
-.PHONY: all libraries shared program check install install-program install-library uninstall described archive crate clean
+.PHONY: all libraries shared program web check install install-program install-library uninstall described archive crate clean
 .DELETE_ON_ERROR:

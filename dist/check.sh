@@ -1,6 +1,6 @@
 #!/usr/bin/env bash
 # Checks what make built: the six functions of runtime.h; the worked rows and examples by the program; worked rows and examples in C, C++, Rust and
-# Python over the libraries. The parts run at the same time, each in a folder of its own. A line that begins with NOT RUN names what this machine lacks.
+# Python over the libraries; an audit by WebAssembly. The parts run at the same time, each in a folder of its own. A line that begins with NOT RUN names what this machine lacks.
 #
 # usage: [CC=COMPILER] [RUN=EMULATOR] dist/check.sh [BUILD]
 #        BUILD: the folder that make built in (build); COMPILER: the one that built it (cc)
@@ -156,7 +156,34 @@ END
     echo "Python: a queue of 2000 arrivals"
 }
 
-parts="program examples c threads cxx rust python"
+check_web() {
+    local engine
+    if command -v xz > /dev/null; then xz -dc dist/wasm/pie.wasm.xz; else python3 -c 'import lzma, sys; sys.stdout.buffer.write(lzma.open(sys.argv[1]).read())' dist/wasm/pie.wasm.xz; fi > "$1/pie.wasm"
+    if has node; then
+        [ "$(node web/run.mjs "$1/pie.wasm" audit < examples/overload.history)" = clean,1033 ]
+        echo 'WebAssembly: an audit in node'
+        return
+    fi
+    for engine in chromium chromium-browser google-chrome; do
+        has $engine || continue
+        # (a page that ends its audit before it is loaded)
+        {
+            printf '<body><script>\n'
+            sed 's/^export //' web/pie.js
+            printf 'const bytes = (text) => Uint8Array.from(atob(text), (it) => it.charCodeAt(0));\nlet text = "";\n'
+            printf 'const input = bytes("%s");\n' "$(base64 -w 0 examples/overload.history)"
+            printf 'const program = new WebAssembly.Module(bytes("'
+            base64 -w 0 "$1/pie.wasm"
+            printf '"));\nrun(program, ["audit"], { input, write: (to, part) => (text += new TextDecoder().decode(part)) });\ndocument.body.append(text);\n</script>\n'
+        } > "$1/page.html"
+        $engine --headless --no-sandbox --disable-gpu --user-data-dir="$1/profile" --dump-dom "file://$1/page.html" 2> /dev/null | grep -q '>clean,1033$'
+        echo "WebAssembly: an audit in $engine"
+        return
+    done
+    echo "NOT RUN: dist/check.sh: no node and no Chromium here, so no WebAssembly was run"
+}
+
+parts="program examples c threads cxx rust python web"
 if [ -z "$pie" ]; then
     echo "NOT RUN: dist/check.sh: dist/ has no program and no links for this processor, so C alone is checked"
     parts=c

@@ -13,14 +13,16 @@ the following lines of it change, and tests/libraries/processors.py compares the
 
 A line that none of these rules covers, and whose meaning depends on the layout, is an error.
 
-usage: dist/lower.py TARGET MODULE OUT      TARGET: x86_64, aarch64, riscv64, armv7, mipsel or bpf
+usage: dist/lower.py TARGET MODULE OUT      TARGET: x86_64, aarch64, riscv64, armv7, mipsel, bpf or wasm
                                             MODULE: bitcode, as bindings/c/library.py writes it to crates/CRATE/out/CRATE.bc
-                                            OUT: assembly; if the name ends in .ll, as for bpf, the changed module as text"""
+                                            OUT: assembly; for wasm a program, linked with the functions of dist/wasm/; if the name ends in .ll, as
+                                            for bpf, the changed module as text"""
 import os
 import re
 import shutil
 import subprocess
 import sys
+import tempfile
 
 ROOT = os.path.dirname(os.path.dirname(os.path.abspath(__file__)))
 ME = "dist/lower.py"
@@ -62,6 +64,9 @@ TARGETS = {
     "mipsel": Target("mipsel-unknown-linux-gnu", '"target-cpu"="mips32r2" "target-features"="+mips32r2,+fpxx,+nooddspreg,-noabicalls"',
                      "-march=mips32r2 -mllvm -expand-div-rem-bits=64", 32, NARROW, compiler="clang-19"),
     "bpf": Target("bpf", '"target-cpu"="v4"', compiler="clang-19"),
+    # (one thread: the compiler makes plain operations of atomic ones)
+    "wasm": Target("wasm32-unknown-unknown", '"target-cpu"="generic" "target-features"="+bulk-memory,+bulk-memory-opt,+mutable-globals,+nontrapping-fptoint,+sign-ext"',
+                   "-fno-PIC", 32, futex=FUTEX),
 }
 # the functions that BPF programs call
 CALLS = "pie_open pie_arrive_event pie_depart_event pie_empty_event pie_update_event pie_reset_event pie_set_params_event pie_due pie_check_params".split()
@@ -241,11 +246,13 @@ def stored(prefix, kind, value, place, alignment):
 class Words:
     """The rules for processors with 32-bit words."""
 
-    def __init__(self):
-        self.stores = 0
+    def __init__(self, has_atomics):
+        self.stores, self.has_atomics = 0, has_atomics
 
     def line(self, line):
         """Returns the lines that replace a line of a function."""
+        if re.search(r"(?: = load|^  store) atomic (?!ptr\b)i\d+[, ]", line):
+            return [line]
         load = re.fullmatch(rf"  (%{NAME}) = load (?:volatile )?(.*)", line)
         if load:
             kind, rest = type_before(load[2])
@@ -270,7 +277,7 @@ class Words:
         alloca = re.fullmatch(rf"  (%{NAME}) = alloca (.*?), align (\d+)", line)
         if alloca and not is_same(alloca[2], 32):
             return [f"  {alloca[1]} = alloca [{measured(alloca[2], 64)[0]} x i8], align {alloca[3]}"]
-        if re.match(r"  (%\S+ = )?(cmpxchg|atomicrmw|fence|va_arg)\b", line):
+        if re.match(rf"  (%\S+ = )?({'va_arg' if self.has_atomics else 'cmpxchg|atomicrmw|fence|va_arg'})\b", line):
             raise Stop(f"an atomic instruction, which processors with 32-bit words may lack: {line}")
         step = re.search(r"= getelementptr (?:inbounds |nuw |nusw )*(.*)", line)
         if step and not is_same(type_before(step[1])[0], 32):
@@ -436,7 +443,7 @@ class Lowering:
 
     def __init__(self, text, target):
         self.target, self.lines = target, text.splitlines()
-        self.words = Words() if target.bits == 32 else None
+        self.words = Words(target is TARGETS["wasm"]) if target.bits == 32 else None
         self.verified = Verified() if target is TARGETS["bpf"] else None
         if self.verified:
             self.lines = self.verified.used(self.lines)
@@ -579,6 +586,21 @@ def renamed(made):
     return re.sub(r'"([^"\n]+)"', lambda it: names.get(it[1], it[0]), made)
 
 
+def linked(text, target, out):
+    """Writes a module as a program for WebAssembly, with the functions of dist/wasm/, which the toolchain's compiler and linker make too."""
+    include = output(["gcc", "-print-file-name=include"]).strip()
+    words = [compiler(target), f"--target={target.triple}", *OPTIONS, *target.options]
+    with tempfile.TemporaryDirectory() as work:
+        os.symlink(os.path.join(os.path.dirname(os.path.realpath(toolchain())), "ld.lld"), f"{work}/wasm-ld")
+        objects = [f"{work}/{name}.o" for name in ("module", "runtime", "wide")]
+        output([*words, "-x", "ir", "-", "-c", "-o", objects[0]], text)
+        for it in objects[1:]:
+            source = f"{ROOT}/dist/wasm/{os.path.basename(it)[:-2]}.c"
+            output([*words, "-std=c11", "-ffreestanding", "-Wall", "-Wextra", "-isystem", include, "-mbulk-memory", "-c", source, "-o", it])
+        options = "--no-entry --gc-sections --fatal-warnings --strip-all --export-memory --stack-first -z stack-size=8388608 --max-memory=4294967296".split()
+        output([f"{work}/wasm-ld", *options, *objects, "-o", out])
+
+
 def tidy(made):
     """Removes the directives that Debian's assemblers do not know, or that name properties of the whole program, which its C compiler selects."""
     return re.sub(r"^\t\.(?:attribute|module|nan|eabi_attribute|fpu|cpu)\b.*\n", "", made, flags=re.M)
@@ -590,6 +612,9 @@ def main():
         sys.exit(f"{ME}: no target {name}; there are {', '.join(TARGETS)}")
     target = TARGETS[name]
     text = lowered(disassembled(module), target)
+    if out.endswith(".wasm"):
+        linked(text, target, out)
+        return
     with open(out, "w", encoding="utf-8") as file:
         file.write(text if out.endswith(".ll") else assembly(text, target))
 

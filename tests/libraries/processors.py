@@ -126,7 +126,7 @@ class Compared:
             line = re.sub(r"\bptr, i32\b", "ptr", line)
             line = re.sub(r"(\bptr (?:@[\w.]+|getelementptr (?:inbounds )?\([^)]*\))), i32 0", r"\1", line)
         line = re.sub(r'(noredzone )?"target-cpu"="(?:generic|generic-rv64|mips32r2)"', '"target-cpu"="x86-64-v2"', line)
-        line = re.sub(r'call void asm sideeffect "(?:isb|\.4byte 0x0100000f)", ""\(\)', "call void @llvm.x86.sse2.pause()", line)
+        line = re.sub(r'call void asm sideeffect "(?:isb|\.4byte 0x0100000f|)", ""\(\)', "call void @llvm.x86.sse2.pause()", line)
         line = re.sub(r'(@(?:syscall|"\+threads::[\w:]+"))\(i64 98,', r"\1(i64 202,", line)
         if name in self.returned:
             line = line.replace(f"void @{name}(ptr sret([{self.returned[name]} x i8]) align 8 %a0", f"noundef ptr @{name}(ptr noundef %a0")
@@ -225,7 +225,7 @@ class Compared:
                 self.say(name, f"an integer of 32 bits without signext: {line.strip()}")
         if re.search(r"\bptr @\w+\(ptr noundef %a0", line) and line.startswith("define ") and not line.startswith("define internal"):
             self.say(name, f"a returned struct without sret: {line.strip()}")
-        if re.search(r"@\"?[\w+:]*(?:syscall|wake)\"?\(i64 202,", line):
+        if self.target != "wasm" and re.search(r"@\"?[\w+:]*(?:syscall|wake)\"?\(i64 202,", line):
             self.say(name, f"the number of futex on x86-64: {line.strip()}")
         if self.target not in LONG and re.search(r" = (?:load|alloca) (?:ptr|\{[^}]*ptr)|  store (?:ptr|\{[^}]*ptr)|ptrtoaddr", line):
             self.say(name, f"a pointer in memory with 32 bits: {line.strip()}")
@@ -247,15 +247,15 @@ def compare_lowerings(targets, work):
         for line in re.findall(r"^.*\b(?:cmpxchg|atomicrmw|load atomic|store atomic|fence)\b.*$", before, re.M):
             # (so the code is right on processors with a weaker order of memory too)
             check("arithmetic.fence" in line or re.search(r"\bseq_cst\b(?! monotonic| acquire)", line), f"the module of {name} has an access with a weaker order: {line.strip()}")
-        for target in targets:
-            if target not in LONG and name != "pie_c":
+        for target in [*targets, "wasm"]:
+            if target not in LONG and name != {"wasm": "pie"}.get(target, "pie_c"):
                 continue
             after = Path(f"{work}/{target}-{name}.ll")
             subprocess.run([ROOT / "dist/lower.py", target, module, after], check=True)
             found = Compared(target, before, after.read_text()).all()
             for why in found[:5]:
                 check(False, f"the module of {name} for {target}: {why}")
-    print(f"{NAME}: the lowering of {', '.join(modules)} for {', '.join(targets)} changes the lines that it may change")
+    print(f"{NAME}: the lowering of {', '.join(modules)} for {', '.join(targets)} and WebAssembly changes the lines that it may change")
 
 
 # ---- Results
@@ -521,4 +521,5 @@ def main():
     finish()
 
 
-main()
+if __name__ == "__main__":
+    main()

@@ -40,6 +40,14 @@ def refusing(folder, what):
     return library
 
 
+def with_selenium():
+    """Runs the script again by Debian's own Python, for which its python3-selenium is, if this one lacks it."""
+    own = "/usr/bin/python3"
+    missing = subprocess.run([sys.executable, "-c", "import selenium"], capture_output=True, check=False).returncode
+    if missing and os.path.realpath(sys.executable) != os.path.realpath(own) and os.path.exists(own) and "OWN_PYTHON" not in os.environ:
+        os.execve(own, [own, *sys.argv], {**os.environ, "OWN_PYTHON": own})
+
+
 def lower_crates():
     """Returns all crates on which each crate of crates.txt depends."""
     lines = [line.partition("#")[0] for line in (ROOT / "crates.txt").read_text().splitlines()]

@@ -265,6 +265,8 @@ static int record(const struct call *call) {
     struct qdisc_maps maps;
     const char *file = NULL, *flow = NULL;
     unsigned int number, seconds = 0, ring = RING_BYTES;
+    unsigned long only = 0;
+    char *end = "";
     const struct qdisc_config *config;
     for (int at = 0; at < call->count; at += 2) {
         if (at + 1 == call->count)
@@ -288,7 +290,9 @@ static int record(const struct call *call) {
         return 1;
     }
     config = &maps.queues[number].config;
-    if (flow && strtoul(flow, NULL, 10) >= config->flows) {
+    if (flow)
+        only = strtoul(flow, &end, 10);
+    if (flow && (*end || only >= config->flows)) {
         fprintf(stderr, "pie-qdisc: %s has no flow %s\n", call->device, flow);
         return 1;
     }
@@ -296,7 +300,7 @@ static int record(const struct call *call) {
         fprintf(stderr, "pie-qdisc: %s has flows: name a folder for their records by `-o FOLDER`, or one flow by `--flow N`\n", call->device);
         return 1;
     }
-    return record_queue(&maps, number, flow ? (int)strtoul(flow, NULL, 10) : ALL_FLOWS, file, seconds, ring);
+    return record_queue(&maps, number, flow ? (int)only : ALL_FLOWS, file, seconds, ring);
 }
 
 static int detach(const struct call *call) {

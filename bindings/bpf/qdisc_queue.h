@@ -43,8 +43,8 @@ struct qdisc_config {
     uint32_t quantum; /* the bytes that a flow may send in a round */
 };
 
-/* A queue or a flow. Its programs alone write it, under the lock of its root queue discipline. Of a queue with flows, the numbers of packets and the shaper
- * alone are used: they are those of all flows. */
+/* A queue or a flow. Its programs alone write it, under the lock of its root queue discipline. A queue with flows uses only the numbers of packets, bytes and
+ * places, for all flows together, and the shaper. */
 struct qdisc_queue {
     struct qdisc_config config;
     struct pie_state pie;

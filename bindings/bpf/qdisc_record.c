@@ -83,7 +83,7 @@ static void request_snapshot(struct reader *reader) {
     reader->wanted = __atomic_add_fetch(&reader->maps->queues[reader->number].config.snapshots, 1, __ATOMIC_SEQ_CST);
 }
 
-/* Copies the packets of a snapshot. Returns false if so many packets came since then that their places were used again. */
+/* Copies the packets of a snapshot. Returns false if their places may have been used again since then. */
 static bool copy_packets(const struct reader *reader, const struct qdisc_snapshot *snapshot, struct qdisc_place *to) {
     const struct qdisc_place *from = reader->maps->places + (size_t)reader->number * QDISC_PACKETS;
     uint64_t count = snapshot->tail - snapshot->head, at = reader->has_flows ? snapshot->first : snapshot->head;

@@ -17,7 +17,7 @@ from statistics import fmean
 
 QUEUES = ("fq_here", "fq_pie", "fq_codel")
 SECOND = 1_000_000_000
-BEGIN, FROM, UNTIL = 1, 3, 21  # seconds: the flows begin, and what is counted
+BEGIN, FROM, UNTIL = 1, 3, 13  # seconds: the flows begin, and what is counted
 PERIOD = 20_000_000
 SPARSE, BULK, ALL = 0, 8, 64  # the number of the sparse flow, of bulk flows, and of all
 

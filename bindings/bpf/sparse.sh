@@ -6,7 +6,7 @@
 #
 # ROOT      as for boot.sh
 # PIE       the program that audits, crates/pie/out/pie by default
-# needs: nothing (not in the gate)
+# needs: a request
 #
 # usage: [PIE=program] [BLOCKS=8] [KEEP=folder for all files] bindings/bpf/sparse.sh ROWS.csv.xz [ROOT]
 set -eu

@@ -34,7 +34,13 @@ runs() {
     /bin/tc -n r -s -j qdisc show dev rb > /tmp/$1.$2.tc
 }
 
-for block in $($box ls /plans); do
+# keeps: writes all files to the disk, also if the guest is stopped later
+keeps() {
+    (cd /tmp && $box tar -cf /dev/vda *)
+    $box sync
+}
+
+for block in $($box ls /plans | $box sort -n); do
     q attach rb fq rate 10mbit || echo "FAILED attach"
     runs fq_here $block
     q detach rb
@@ -53,9 +59,8 @@ for block in $($box ls /plans); do
         q detach rb
         wait
     fi
+    keeps
 done
-cd /tmp
-$box tar -cf /dev/vda *
 $box echo "TOLD simulated: $($box cut -d' ' -f1 /proc/uptime) s"
 $box echo ended
 $box poweroff -f

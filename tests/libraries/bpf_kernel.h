@@ -197,7 +197,7 @@ static uint64_t tolerance(void) {
     return 2000 + paced * 1000 + (allowed_ps - begun_ps) / 50000;
 }
 
-/* A packet comes to an empty queue. */
+/* Begins a period in which the queue has packets. */
 static void begin_pacing(void) {
     if (allowed_ps < now * 1000) {
         allowed_ps = begun_ps = now * 1000;

@@ -214,9 +214,9 @@ reader=$!
 name=fq
 $box sleep 0.1
 /bin/ip netns exec r $box ping -q -c 1 -W 1 10.0.2.1 > /dev/null
-/bin/ip netns exec a $box timeout 30 /bin/iperf3 -c 10.0.2.1 -P 30 -t 2 > /tmp/said 2>&1 &
+/bin/ip netns exec a $box timeout 30 /bin/iperf3 -c 10.0.2.1 -P 30 -t 1 > /tmp/said 2>&1 &
 sender=$!
-/bin/ip netns exec a $box timeout 30 /bin/iperf3 -c 10.0.2.1 -p 5202 -u -P 45 -b 200k -l 300 -t 2 > /tmp/said.udp 2>&1 || echo "FAILED fq: $($box tail -n 1 /tmp/said.udp)"
+/bin/ip netns exec a $box timeout 30 /bin/iperf3 -c 10.0.2.1 -p 5202 -u -P 45 -b 200k -l 300 -t 1 > /tmp/said.udp 2>&1 || echo "FAILED fq: $($box tail -n 1 /tmp/said.udp)"
 wait $sender
 keeps fq r rb
 ends 0

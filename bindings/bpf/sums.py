@@ -153,7 +153,7 @@ def flows():
     mine = {"events": sums["events"], "packets": sums["left"], "bytes": sums["left_bytes"], "drops": drops, "early": sums["early"], "flows": len(records),
             "qlen": sums["queued"], "refused": 0, "lost": 0}
     problems.extend(f"fq: {key} {value}, and pie-qdisc has {shown[key]}" for key, value in mine.items() if shown[key] != value)
-    kernels = {"bytes": sums["left_bytes"], "packets": sums["left"], "drops": drops, "qlen": sums["queued"], "kind": "bpf_fq_pie"}
+    kernels = {"bytes": sums["left_bytes"], "drops": drops, "qlen": sums["queued"], "kind": "bpf_fq_pie"}
     problems.extend(f"fq: {key} {value}, and tc has {kernel[key]}" for key, value in kernels.items() if kernel[key] != value)
     after = list(FOLDER.glob("fq.next/flow*"))
     problems.extend(f"fq: {it}" for path in after for it in follows(FOLDER / "fq.flows" / path.name, path))

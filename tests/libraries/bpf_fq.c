@@ -5,7 +5,7 @@
  * that the reader receives must be of the flow of its packet, and is decided again by the rules of bpf_rules.h, for each flow alone. An excerpt of a flow must
  * begin with exactly the state of its rules. A packet must be dropped before its flow if the queue is full, and only then.
  *
- * Then 64 flows always have packets: the bytes of any two may differ by less than three quanta and two packets.
+ * Then 64 flows always have packets: the bytes of any two must differ by less than a quantum and a packet.
  *
  * usage: bpf_fq ENQUEUES      bpf.py compiles it, with QDISC as the name of pie_qdisc.bpf.c */
 #include "bpf_kernel.h"
@@ -462,7 +462,7 @@ static uint64_t fairness(void) {
     }
     is_full_speed = false;
     remove_queue();
-    if (most >= 3 * 1514 + 2 * 1514)
+    if (most >= 1514 + 1514)
         fail("flows with packets differ too much");
     return most;
 }

@@ -241,17 +241,23 @@ refuses 'cannot change' change rb flows 10
 refuses 'no flow 1024' record rb --flow 1024
 /bin/tc -n r qdisc del dev rb root
 
+# spent CALL: prints the time of all calls of a program, and their number
+spent() {
+    /bin/bpftool prog show name qdisc_op_$1 | $box sed -n 's/.*run_time_ns \([0-9]*\) run_cnt \([0-9]*\).*/\1 \2/p'
+}
+
 # costs NAME: prints the time of a call of each program for the packets of UDP without a queue. In simulated time a nanosecond is an instruction
 costs() {
+    enqueue=$(spent enqueue)
+    dequeue=$(spent dequeue)
     $box sysctl -q -w kernel.bpf_stats_enabled=1
     udp 20M 1
     $box sysctl -q -w kernel.bpf_stats_enabled=0
-    for call in enqueue dequeue; do
-        /bin/bpftool prog show name qdisc_op_$call > /tmp/$1.$call || echo "FAILED bpftool"
-        set -- $1 $($box sed -n 's/.*run_time_ns \([0-9]*\) run_cnt \([0-9]*\).*/\1 \2/p' /tmp/$1.$call)
-        [ $# = 3 ] || { echo "FAILED: no time of $call"; return; }
-        $box echo "TOLD $1: $(($2 / $3)) instructions for a call of $call, $3 calls"
-    done
+    set -- $1 $(spent enqueue) ${enqueue:-0 0}
+    [ $# = 5 ] || echo "FAILED: no time of enqueue"
+    $box echo "TOLD $1: $((($2 - $4) / ($3 - $5))) instructions for a call of enqueue, $(($3 - $5)) calls"
+    set -- $1 $(spent dequeue) ${dequeue:-0 0}
+    $box echo "TOLD $1: $((($2 - $4) / ($3 - $5))) instructions for a call of dequeue, $(($3 - $5)) calls"
 }
 attaches rb
 costs unrecorded

@@ -22,7 +22,7 @@ requires xz
 work=${KEEP:-$(mktemp -d)}
 [ -n "${KEEP-}" ] || trap 'rm -rf "$work"' EXIT
 unpacks
-make -s -C bindings/bpf OUT="$work/built" CFLAGS='-O2 -Werror'
+make -s -C bindings/bpf OUT="$work/built" PIE_C="$PWD/dist/x86_64/pie_c.S"
 gcc -O2 -Wall -Wextra -Werror -o "$work/traffic" bench/uml/traffic.c
 bindings/bpf/sparse.py plans "$work/root/plans" "${BLOCKS:-8}"
 modules sch_netem sch_htb sch_fq_codel sch_pie sch_fq_pie

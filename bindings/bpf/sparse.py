@@ -17,7 +17,7 @@ from statistics import fmean
 
 QUEUES = ("fq_here", "fq_pie", "fq_codel")
 SECOND = 1_000_000_000
-BEGIN, FROM, UNTIL = 1, 3, 13  # seconds: the flows begin, and what is counted
+BEGIN, FROM, UNTIL = 1, 3, 9  # seconds: the flows begin, and what is counted
 PERIOD = 20_000_000
 SPARSE, BULK, ALL = 0, 8, 64  # the number of the sparse flow, of bulk flows, and of all
 
@@ -26,7 +26,7 @@ def plan_of(block):
     draw = random.Random(block).randrange
     lines = [f"probe {SPARSE} 0 {UNTIL * SECOND} 10.0.1.1 {PERIOD} 36 0"]
     lines += [f"tcp {flow} {BEGIN * SECOND + draw(SECOND // 2)} {UNTIL * SECOND} 10.0.1.1 cubic" for flow in range(1, BULK + 1)]
-    lines += [f"udp {flow} {BEGIN * SECOND + draw(SECOND // 2)} {UNTIL * SECOND} 10.0.1.1 {100_000_000 + draw(2_000_000)} 172 0" for flow in range(BULK + 1, ALL)]
+    lines += [f"udp {flow} {BEGIN * SECOND + draw(SECOND // 2)} {UNTIL * SECOND} 10.0.1.1 {200_000_000 + draw(4_000_000)} 172 0" for flow in range(BULK + 1, ALL)]
     return "\n".join(lines) + "\n"
 
 

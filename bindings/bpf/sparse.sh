@@ -1,8 +1,8 @@
 #!/usr/bin/env bash
 # Measures the waits of a sparse flow among 64 flows at 10 Mbit/s behind the queue with flows (fq), fq_pie and fq_codel, in the kernel of boot.sh: 8 CUBIC
-# flows that always have data, with a round trip of 20 ms, 55 flows of UDP with a packet of 200 bytes each 100 ms, and a flow with a packet of 64 bytes each
+# flows that always have data, with a round trip of 20 ms, 55 flows of UDP with a packet of 200 bytes each 200 ms, and a flow with a packet of 64 bytes each
 # 20 ms. The blocks have different random moments, and each queue receives the same ones. sparse.py has the plans and writes the rows. Then pie audits each
-# flow's record of one more run. It takes 10 minutes of a processor.
+# flow's record of one more run. It takes about 2 minutes of a processor for a block.
 #
 # ROOT      as for boot.sh
 # PIE       the program that audits, crates/pie/out/pie by default

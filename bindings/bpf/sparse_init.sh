@@ -21,7 +21,13 @@ q() {
     /bin/ip netns exec r /bin/pie-qdisc --pins /bpf/pie "$@"
 }
 
-# runs NAME BLOCK: runs the plan of a block, and removes the queue
+# keeps: writes all files to the disk, also if the guest is stopped later
+keeps() {
+    (cd /tmp && $box tar -cf /dev/vda *)
+    $box sync
+}
+
+# runs NAME BLOCK: runs the plan of a block
 runs() {
     begin=$(($($box date +%s) * 1000000000 + 2000000000))
     /bin/ip netns exec b /bin/traffic receive 10.0.2.1 $begin /tmp/$1.$2.received &
@@ -32,12 +38,7 @@ runs() {
     $box kill $receiver
     wait $receiver
     /bin/tc -n r -s -j qdisc show dev rb > /tmp/$1.$2.tc
-}
-
-# keeps: writes all files to the disk, also if the guest is stopped later
-keeps() {
-    (cd /tmp && $box tar -cf /dev/vda *)
-    $box sync
+    keeps
 }
 
 for block in $($box ls /plans | $box sort -n); do
@@ -58,8 +59,8 @@ for block in $($box ls /plans | $box sort -n); do
         q show rb --json > /tmp/recorded.show
         q detach rb
         wait
+        keeps
     fi
-    keeps
 done
 $box echo "TOLD simulated: $($box cut -d' ' -f1 /proc/uptime) s"
 $box echo ended

@@ -1,6 +1,6 @@
 #!/usr/bin/env python3
 """Writes docs/RESULTS.md, bench/uml/README.md, docs/comparisons.csv and docs/ellipses.svg from docs/RESULTS.in, bench/uml/README.in and the stored runs: bench/uml/results.csv.xz,
-bench/uml/short.csv.xz and bindings/ns3/results.csv. Every figure of the pages is an expression in their sources, between {{ and }}, which this script
+bench/uml/short.csv.xz, bindings/bpf/sparse.csv.xz and bindings/ns3/results.csv. Every figure of the pages is an expression in their sources, between {{ and }}, which this script
 evaluates. `elsewhere` has the sentences of other pages that rest on runs.
 
 usage: docs/results.py [--check | --needs]
@@ -20,10 +20,11 @@ from statistics import fmean, median, stdev
 from types import SimpleNamespace
 
 ROOT = Path(__file__).resolve().parents[1]
-sys.path[:0] = [str(ROOT / "bench"), str(ROOT / "bench/uml")]
+sys.path[:0] = [str(ROOT / "bench"), str(ROOT / "bench/uml"), str(ROOT / "bindings/bpf")]
 sys.dont_write_bytecode = True
 from equivalence import compare, compare_pairs, power  # noqa: E402
 import beside  # noqa: E402
+import sparse  # noqa: E402
 from rfc7928 import estimate  # noqa: E402
 from scenarios import FIVE, SAME_BLOCKS, SCENARIOS, TWICE, queues_of  # noqa: E402
 
@@ -897,6 +898,25 @@ def ns3_table():
             lines.append(cells)
     heads = ["traffic", "other queue", "seeds, here and other", "link's rate, here and other", "difference", "wait, here and other", "difference"]
     return table(heads, lines)
+
+
+SPARSE = sparse.results(ROOT / "bindings/bpf/sparse.csv.xz")
+
+
+def sparse_table():
+    lines = []
+    for queue, name in (("fq_here", "`pie-qdisc attach DEV fq`"), ("fq_pie", "`fq_pie`"), ("fq_codel", "`fq_codel`")):
+        count, mean, high, most, lost, rate, jain = sparse.summary(SPARSE[queue])
+        lines.append([name, str(count), f"{mean:.2f}", f"{high:.2f}", f"{most:.2f}", str(lost), f"{rate:.2f}", f"{jain:.3f}"])
+    return table(["queue", "waits", "mean", "99th percentile", "greatest", "lost", "8 flows, Mbit/s", "Jain's index"], lines)
+
+
+def sparse_blocks():
+    """Returns the number of blocks, in words."""
+    count = {len(it) for it in SPARSE.values()}
+    if len(count) != 1:
+        sys.exit("docs/results.py: the queues of sparse.csv.xz have different blocks")
+    return "one block" if count == {1} else f"{min(count)} blocks"
 
 
 BURSTS = read("bindings/ns3/bursts.csv")

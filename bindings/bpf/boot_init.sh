@@ -207,17 +207,57 @@ joins plain r rb 10.0.2.1
 refuses 'only supported on root or mq' attach rb parent 1:1
 /bin/tc -n r qdisc del dev rb root
 
+# 64 flows and more in one queue: each has a record, and a packet of one of them continues it. Then the record of this flow alone, until the queue is detached
+attaches rb fq rate 10mbit limit 200 target 2ms tupdate 5ms
+/bin/ip netns exec r $program --pins /bpf/pie record rb -o /tmp/fq.flows 2> /tmp/fq.said &
+reader=$!
+name=fq
+$box sleep 0.1
+/bin/ip netns exec r $box ping -q -c 1 -W 1 10.0.2.1 > /dev/null
+/bin/ip netns exec a $box timeout 30 /bin/iperf3 -c 10.0.2.1 -P 30 -t 1 > /tmp/said 2>&1 &
+sender=$!
+/bin/ip netns exec a $box timeout 30 /bin/iperf3 -c 10.0.2.1 -p 5202 -u -P 45 -b 200k -l 300 -t 1 > /tmp/said.udp 2>&1 || echo "FAILED fq: $($box tail -n 1 /tmp/said.udp)"
+wait $sender
+keeps fq r rb
+ends 0
+q show rb
+/bin/ip netns exec r $program --pins /bpf/pie record rb -o /tmp/fq.next 2> /tmp/fq.said &
+reader=$!
+$box sleep 0.1
+/bin/ip netns exec r $box ping -q -c 1 -W 1 10.0.2.1 > /dev/null
+ends 0
+records fqone rb --flow $(echo /tmp/fq.next/flow* | $box sed 's/.*flow//')
+/bin/ip -n a route del blackhole 10.0.2.1
+/bin/ip -n b route del blackhole 10.0.1.1
+/bin/ip netns exec r $box ping -q -i 0.001 -s 1400 -c 300 10.0.2.1 > /dev/null &
+sender=$!
+$box sleep 0.2
+q detach rb
+wait $reader $sender
+$box grep -q '^reset,' /tmp/fqone.history || echo "FAILED: fqone has no reset"
+/bin/tc -n r qdisc add dev rb root bpf_fq_pie || echo "FAILED tc fq"
+refuses 'has flows: name a folder' record rb
+refuses 'cannot change' change rb flows 10
+refuses 'no flow 1024' record rb --flow 1024
+/bin/tc -n r qdisc del dev rb root
+
+# spent CALL: prints the time of all calls of a program, and their number
+spent() {
+    /bin/bpftool prog show name qdisc_op_$1 | $box sed -n 's/.*run_time_ns \([0-9]*\) run_cnt \([0-9]*\).*/\1 \2/p'
+}
+
 # costs NAME: prints the time of a call of each program for the packets of UDP without a queue. In simulated time a nanosecond is an instruction
 costs() {
+    enqueue=$(spent enqueue)
+    dequeue=$(spent dequeue)
     $box sysctl -q -w kernel.bpf_stats_enabled=1
     udp 20M 1
     $box sysctl -q -w kernel.bpf_stats_enabled=0
-    for call in enqueue dequeue; do
-        /bin/bpftool prog show name qdisc_op_$call > /tmp/$1.$call || echo "FAILED bpftool"
-        set -- $1 $($box sed -n 's/.*run_time_ns \([0-9]*\) run_cnt \([0-9]*\).*/\1 \2/p' /tmp/$1.$call)
-        [ $# = 3 ] || { echo "FAILED: no time of $call"; return; }
-        $box echo "TOLD $1: $(($2 / $3)) instructions for a call of $call, $3 calls"
-    done
+    set -- $1 $(spent enqueue) ${enqueue:-0 0}
+    [ $# = 5 ] || echo "FAILED: no time of enqueue"
+    $box echo "TOLD $1: $((($2 - $4) / ($3 - $5))) instructions for a call of enqueue, $(($3 - $5)) calls"
+    set -- $1 $(spent dequeue) ${dequeue:-0 0}
+    $box echo "TOLD $1: $((($2 - $4) / ($3 - $5))) instructions for a call of dequeue, $(($3 - $5)) calls"
 }
 attaches rb
 costs unrecorded

@@ -31,7 +31,7 @@ refuses() {
         exit 1
     fi
 }
-usage='usage: pie-qdisc attach DEV [mq | parent MAJOR:MINOR] [option..]'
+usage='usage: pie-qdisc attach DEV [mq | parent MAJOR:MINOR] [fq] [option..]'
 refuses 2 "$usage"
 refuses 2 "$usage" attach
 refuses 2 "$usage" attach lo parent 8
@@ -47,6 +47,10 @@ refuses 1 'pie-qdisc: rate 7999bit: below 8kbit' attach lo rate 7999bit
 refuses 1 'pie-qdisc: alpha 16001: not a number in range' attach lo alpha 16001
 refuses 1 'pie-qdisc: beta 2x: not a number in range' attach lo beta 2x
 refuses 1 'pie-qdisc: overhead -257: not a number in range' attach lo overhead -257
+refuses 1 'pie-qdisc: flows 10: the queue has no flows' attach lo flows 10
+refuses 1 'pie-qdisc: quantum 1514b: the queue has no flows' attach lo quantum 1514b fq
+refuses 1 'pie-qdisc: flows 1025: not a number of flows from 1 to 1024' attach lo fq flows 1025
+refuses 1 'pie-qdisc: quantum 255b: not a size from 256b to 1048576b' attach lo fq quantum 255b
 refuses 1 'pie-qdisc: option target: its value is out of range' attach lo target 20s
 refuses 1 'pie-qdisc: option dq_threshold: its value is out of range' attach lo dq_threshold 3000b
 for command in show "change lo" "record lo" "detach lo"; do
@@ -64,8 +68,8 @@ offers() {
     [ "$(completed "${@:2}")" = "$1" ] || { echo "$me: the completion after ${*:2} is $(completed "${@:2}" | xargs), and not $(xargs <<< "$1")" >&2; exit 1; }
 }
 options=$(sed -n '/^options:/,$p' "$work/usage" | grep -o '\[ [a-z_]*' | cut -c3-)
-offers "$({ echo "$options"; printf '%s\n' mq parent; } | sort)" attach lo
-offers "$({ sed -n '/^options:/,/overhead/p' "$work/usage" | grep -o '\[ [a-z_]*' | cut -c3- | grep -v '^limit$'; echo parent; } | sort)" change lo
+offers "$({ echo "$options"; printf '%s\n' fq mq parent; } | sort)" attach lo
+offers "$({ sed -n '/^options:/,/flows/p' "$work/usage" | grep -o '\[ [a-z_]*' | cut -c3- | grep -vx 'limit\|flows'; echo parent; } | sort)" change lo
 offers "$({ sed -n 's/^.*pie-qdisc \([a-z]*\).*/\1/p' "$work/usage"; printf '%s\n' --pins --version; } | sort)"
 offers "$(sed -n 's/^.*pie-qdisc record DEV//p' "$work/usage" | grep -o -e '\[[a-z-]*' | tr -d '[' | sort)" record lo
 echo "$me: pie-qdisc $version builds without warnings, and refuses wrong words"

@@ -2,8 +2,11 @@
 /* A queue discipline for Linux 6.16 and later whose decisions are the proved calls of pie.h (dist/bpf/pie_c.ll). pie_qdisc.c loads it and adds queues.
  *
  * The kernel calls the operations of a queue under the lock of its root queue discipline. A queue is a place of the map `queues`, whose number is in the
- * field `limit` of its struct Qdisc, plus 1: 0 is a queue without a place. The kernel does not use this field. Its packets are in the map `packets`. */
+ * field `limit` of its struct Qdisc, plus 1: 0 is a queue without a place. The kernel does not use this field. Its packets are in the map `packets`.
+ * fq_qdisc.bpf.h has the queue with flows. */
 #include "kernel_types.h"
+
+#include <stdbool.h>
 
 #include <bpf/bpf_helpers.h>
 #include <bpf/bpf_tracing.h>
@@ -15,6 +18,7 @@
 #define NONNULL __attribute__((btf_decl_tag("arg:nonnull")))
 #define KPTR __attribute__((btf_type_tag("kptr")))
 #define GLOBAL __attribute__((__noinline__))
+#define DEFAULT_QUANTUM 1514
 
 char LICENSE[] SEC("license") = "Dual MIT/GPL";
 
@@ -83,12 +87,15 @@ GLOBAL int qdisc_snapshot(struct qdisc_queue *queue NONNULL, uint32_t number) {
     if (!to)
         return 0;
     to->kind = QDISC_SNAPSHOT;
+    to->flow = queue->flow;
     to->snapshot = queue->config.snapshots;
     to->lost = queue->lost;
     to->count = queue->count;
     to->head = queue->head;
     to->tail = queue->tail;
     to->bytes = queue->bytes;
+    to->first = queue->first;
+    to->taken = queue->taken;
     to->opening = queue->config.opening;
     to->pie = queue->pie;
     to->stats = queue->stats;
@@ -123,6 +130,7 @@ GLOBAL int qdisc_record(struct qdisc_queue *queue NONNULL, uint32_t number, uint
         struct qdisc_new_params *change = bpf_ringbuf_reserve(ring, sizeof *change, 0);
         if (change) {
             change->message.kind = QDISC_PARAMS;
+            change->message.flow = queue->flow;
             change->message.event = queue->event;
             change->params = queue->pie.params;
             bpf_ringbuf_submit(change, BPF_RB_NO_WAKEUP);
@@ -132,6 +140,7 @@ GLOBAL int qdisc_record(struct qdisc_queue *queue NONNULL, uint32_t number, uint
         to = bpf_ringbuf_reserve(ring, sizeof *to, 0);
         if (to) {
             to->kind = QDISC_EVENT;
+            to->flow = queue->flow;
             to->event = queue->event;
             bpf_ringbuf_submit(to, BPF_RB_NO_WAKEUP);
             return 1;
@@ -224,9 +233,11 @@ static __always_inline void before_a_packet(struct qdisc_queue *queue, uint32_t 
 
 #define TURN(it, by) ((it) << (by) | (it) >> (64 - (by)))
 
-/* Returns a random word, as bindings/kernel/pie_random.h does. */
+/* Returns a random word, as bindings/kernel/pie_random.h does. At the probability 0 the word has no effect; it is spread over its range nevertheless. */
 static __always_inline uint64_t word(struct qdisc_queue *queue, uint64_t moment) {
     uint64_t v0 = queue->random[0], v1 = queue->random[1], v2 = queue->random[2], v3 = queue->random[3] ^ moment;
+    if (!queue->pie.prob)
+        return moment * 0x9e3779b97f4a7c15;
 #define ROUND \
     v0 += v1, v1 = TURN(v1, 13), v1 ^= v0, v0 = TURN(v0, 32), v2 += v3, v3 = TURN(v3, 16), v3 ^= v2, v0 += v3, v3 = TURN(v3, 21), v3 ^= v0, v2 += v1, \
         v1 = TURN(v1, 17), v1 ^= v2, v2 = TURN(v2, 32)
@@ -266,7 +277,8 @@ int BPF_PROG(qdisc_op_enqueue, struct sk_buff *skb, struct Qdisc *sch, struct bp
         goto drop;
     before_a_packet(queue, number, now);
     queue->event.moment = now;
-    queue->event.tag = (uint64_t)bpf_skb_get_hash(skb) << 32 | (uint32_t)queue->stats.arrivals;
+    /* (the hash of a packet without one takes some hundred instructions) */
+    queue->event.tag = (queue->is_skipping ? 0 : (uint64_t)bpf_skb_get_hash(skb) << 32) | (uint32_t)queue->stats.arrivals;
     queue->event.word = word(queue, now);
     queue->event.size = size > PIE_MAX_SIZE ? PIE_MAX_SIZE : size ? size : 1;
     queue->event.ecn = PIE_NOT_ECT;
@@ -296,9 +308,8 @@ drop:
     return NET_XMIT_DROP;
 }
 
-/* Removes the first packet from the counts and records its departure. */
-GLOBAL int qdisc_remove(struct qdisc_queue *queue NONNULL, uint32_t number, uint64_t now, uint32_t caller) {
-    uint32_t at = place_of(number, queue->head);
+/* Removes the first packet, which is in the place `at`, from the counts and records its departure. */
+GLOBAL int qdisc_remove(struct qdisc_queue *queue NONNULL, uint32_t number, uint32_t at, uint64_t now, uint32_t caller) {
     struct qdisc_place *place = bpf_map_lookup_elem(&places, &at);
     if (!place)
         return 0;
@@ -307,6 +318,7 @@ GLOBAL int qdisc_remove(struct qdisc_queue *queue NONNULL, uint32_t number, uint
     queue->event.size = place->size;
     queue->bytes -= place->size;
     queue->head++;
+    queue->first = place->next;
     qdisc_depart(queue, place->since);
     qdisc_record(queue, number, queue->pie.moment - place->since);
     return 0;
@@ -315,16 +327,15 @@ GLOBAL int qdisc_remove(struct qdisc_queue *queue NONNULL, uint32_t number, uint
 SEC("struct_ops/qdisc_op_dequeue")
 struct sk_buff *BPF_PROG(qdisc_op_dequeue, struct Qdisc *sch) {
     uint32_t number = sch->limit - 1, at, size;
-    uint64_t now = bpf_ktime_get_ns();
+    uint64_t now;
     struct qdisc_queue *queue = bpf_map_lookup_elem(&queues, &number);
     struct qdisc_packet *packet;
     struct sk_buff *skb;
     int64_t paced;
-    if (!queue)
+    if (!queue || queue->head == queue->tail)
         return NULL;
+    now = bpf_ktime_get_ns();
     before_a_packet(queue, number, now);
-    if (queue->head == queue->tail)
-        return NULL;
     if (queue->shaper.cost && now < queue->next) {
         bpf_qdisc_watchdog_schedule(sch, queue->next, 0);
         return NULL;
@@ -333,7 +344,7 @@ struct sk_buff *BPF_PROG(qdisc_op_dequeue, struct Qdisc *sch) {
     packet = bpf_map_lookup_elem(&packets, &at);
     if (!packet)
         return NULL;
-    qdisc_remove(queue, number, now, QDISC_DEQUEUE);
+    qdisc_remove(queue, number, at, now, QDISC_DEQUEUE);
     skb = bpf_kptr_xchg(&packet->skb, NULL);
     if (!skb)
         return NULL;
@@ -348,8 +359,7 @@ struct sk_buff *BPF_PROG(qdisc_op_dequeue, struct Qdisc *sch) {
 }
 
 /* Opens the queue in a place with the opening that is there. */
-GLOBAL int qdisc_begin(struct qdisc_queue *queue NONNULL) {
-    uint64_t now = bpf_ktime_get_ns();
+GLOBAL int qdisc_begin(struct qdisc_queue *queue NONNULL, uint64_t now) {
     queue->config.opening.moment = now;
     if (queue->config.opening.packets > QDISC_LIMIT)
         queue->config.opening.packets = QDISC_LIMIT;
@@ -367,8 +377,9 @@ GLOBAL int qdisc_begin(struct qdisc_queue *queue NONNULL) {
     return qdisc_open(queue) == PIE_DONE ? 0 : -22;
 }
 
-/* Returns the number of the place that pie-qdisc prepared for this queue, or else of a free one with the default opening; QDISC_QUEUES if there is none. */
-GLOBAL uint32_t qdisc_find(uint32_t ifindex, uint32_t netns, uint32_t parent) {
+/* Returns the number of the place that pie-qdisc prepared for this queue, or else of a free one with the default opening; QDISC_QUEUES if there is none. A
+ * queue with flows has one of the first places. */
+GLOBAL uint32_t qdisc_find(uint32_t ifindex, uint32_t netns, uint32_t parent, uint32_t flows) {
     struct bpf_iter_num it;
     uint32_t found = QDISC_QUEUES, free = QDISC_QUEUES;
     int *at;
@@ -378,9 +389,12 @@ GLOBAL uint32_t qdisc_find(uint32_t ifindex, uint32_t netns, uint32_t parent) {
         struct qdisc_queue *queue = bpf_map_lookup_elem(&queues, &number);
         if (!queue)
             break;
-        if (queue->config.use == QDISC_FREE && free == QDISC_QUEUES)
+        if (flows && number >= QDISC_FQS)
+            break;
+        if (queue->config.use == QDISC_FREE)
             free = number;
-        if (queue->config.use == QDISC_PREPARED && queue->config.ifindex == ifindex && queue->config.netns == netns && queue->config.parent == parent) {
+        if (queue->config.use == QDISC_PREPARED && queue->config.ifindex == ifindex && queue->config.netns == netns && queue->config.parent == parent &&
+            !queue->config.flows == !flows) {
             found = number;
             break;
         }
@@ -397,16 +411,18 @@ GLOBAL uint32_t qdisc_find(uint32_t ifindex, uint32_t netns, uint32_t parent) {
             queue->config.ifindex = ifindex;
             queue->config.netns = netns;
             queue->config.parent = parent;
+            queue->config.flows = flows;
+            queue->config.quantum = DEFAULT_QUANTUM;
             found = free;
         }
     }
     return found;
 }
 
-SEC("struct_ops/qdisc_op_init")
-int BPF_PROG(qdisc_op_init, struct Qdisc *sch, struct nlattr *options, struct netlink_ext_ack *extack) {
+/* Adds a queue, with so many flows unless its place has another number. Returns 0 or a negative errno. */
+static __always_inline int add(struct Qdisc *sch, uint32_t flows) {
     struct net_device *device = sch->dev_queue->dev;
-    uint32_t number = qdisc_find(device->ifindex, device->nd_net.net->ns.inum, sch->parent);
+    uint32_t number = qdisc_find(device->ifindex, device->nd_net.net->ns.inum, sch->parent, flows);
     struct qdisc_queue *queue;
     queue = bpf_map_lookup_elem(&queues, &number);
     if (!queue)
@@ -414,12 +430,17 @@ int BPF_PROG(qdisc_op_init, struct Qdisc *sch, struct nlattr *options, struct ne
     sch->limit = number + 1;
     queue->handle = sch->handle;
     queue->config.use = QDISC_USED;
-    if (qdisc_begin(queue)) {
+    if (qdisc_begin(queue, bpf_ktime_get_ns())) {
         queue->config.use = QDISC_FREE;
         sch->limit = 0;
         return -22;
     }
     return 0;
+}
+
+SEC("struct_ops/qdisc_op_init")
+int BPF_PROG(qdisc_op_init, struct Qdisc *sch, struct nlattr *options, struct netlink_ext_ack *extack) {
+    return add(sch, 0);
 }
 
 SEC("struct_ops/qdisc_op_reset")
@@ -441,7 +462,7 @@ void BPF_PROG(qdisc_op_reset, struct Qdisc *sch) {
         packet = bpf_map_lookup_elem(&packets, &at);
         if (!packet)
             break;
-        qdisc_remove(queue, number, now, QDISC_RESET);
+        qdisc_remove(queue, number, at, now, QDISC_RESET);
         skb = bpf_kptr_xchg(&packet->skb, NULL);
         if (skb)
             bpf_kfree_skb(skb);
@@ -454,9 +475,8 @@ void BPF_PROG(qdisc_op_reset, struct Qdisc *sch) {
     sch->qstats.backlog = 0;
 }
 
-SEC("struct_ops/qdisc_op_destroy")
-void BPF_PROG(qdisc_op_destroy, struct Qdisc *sch) {
-    uint32_t number = sch->limit - 1;
+/* Ends a queue and its record. */
+static __always_inline void end(uint32_t number) {
     struct qdisc_queue *queue = bpf_map_lookup_elem(&queues, &number);
     struct qdisc_message *to;
     void *ring;
@@ -473,6 +493,11 @@ void BPF_PROG(qdisc_op_destroy, struct Qdisc *sch) {
     queue->config.use = QDISC_FREE;
 }
 
+SEC("struct_ops/qdisc_op_destroy")
+void BPF_PROG(qdisc_op_destroy, struct Qdisc *sch) {
+    end(sch->limit - 1);
+}
+
 SEC(".struct_ops")
 struct Qdisc_ops pie_ops = {
     .id = "bpf_pie",
@@ -482,3 +507,5 @@ struct Qdisc_ops pie_ops = {
     .reset = (void *)qdisc_op_reset,
     .destroy = (void *)qdisc_op_destroy,
 };
+
+#include "fq_qdisc.bpf.h"

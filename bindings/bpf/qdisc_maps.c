@@ -14,8 +14,11 @@
 #include <unistd.h>
 
 #define LOG_BYTES (1 << 24)
+#define MOST_PROGRAMS 12
 
-static const char *const pins[] = {"queues", "places", "rings", "operations"};
+/* The pinned maps: the two last ones are the registered queue disciplines. */
+static const char *const pins[] = {"queues", "places", "rings", "fqs", "flows", "operations", "fq_operations"};
+enum { PINS = sizeof pins / sizeof *pins, OPERATIONS = 5 };
 
 static const char *pin(const char *folder, const char *name) {
     static char path[PATH_MAX];
@@ -42,56 +45,72 @@ static struct pie_qdisc_bpf *opened_object(void) {
 /* Loads and registers the programs, and pins their maps. */
 static bool load(const char *folder) {
     struct pie_qdisc_bpf *object = opened_object();
-    struct bpf_map *all[4];
-    struct bpf_link *link;
+    struct bpf_map *all[PINS];
+    struct bpf_link *links[PINS] = {NULL};
+    bool is_done = true;
     int error;
     if (!object || (error = pie_qdisc_bpf__load(object))) {
         fprintf(stderr, "pie-qdisc: the kernel does not load the programs: %s. They need Linux 6.16 or later with CONFIG_NET_SCH_BPF, and root\n",
                 strerror(errno));
         return false;
     }
-    all[0] = object->maps.queues, all[1] = object->maps.places, all[2] = object->maps.rings, all[3] = object->maps.pie_ops;
+    all[0] = object->maps.queues, all[1] = object->maps.places, all[2] = object->maps.rings, all[3] = object->maps.fqs, all[4] = object->maps.flows;
+    all[5] = object->maps.pie_ops, all[6] = object->maps.fq_ops;
     if (mkdir(folder, 0700) && errno != EEXIST) {
         fprintf(stderr, "pie-qdisc: %s: %s. A bpf file system must be mounted there\n", folder, strerror(errno));
         return false;
     }
-    link = bpf_map__attach_struct_ops(object->maps.pie_ops);
-    if (!link) {
-        fprintf(stderr, "pie-qdisc: the kernel does not register the queue discipline: %s\n", strerror(errno));
-        return false;
+    for (int at = OPERATIONS; at < PINS && is_done; at++) {
+        links[at] = bpf_map__attach_struct_ops(all[at]);
+        is_done = links[at];
+        if (!is_done)
+            fprintf(stderr, "pie-qdisc: the kernel does not register the queue discipline: %s\n", strerror(errno));
     }
-    for (int at = 0; at < 4; at++) {
+    for (int at = 0; at < PINS && is_done; at++) {
         error = bpf_map__pin(all[at], pin(folder, pins[at]));
-        if (error) {
+        is_done = !error;
+        if (error)
             fprintf(stderr, "pie-qdisc: %s: %s\n", pin(folder, pins[at]), strerror(-error));
-            bpf_link__destroy(link);
-            return false;
-        }
     }
-    bpf_link__disconnect(link);
-    bpf_link__destroy(link);
+    for (int at = OPERATIONS; at < PINS; at++) {
+        if (links[at] && is_done)
+            bpf_link__disconnect(links[at]);
+        bpf_link__destroy(links[at]);
+    }
     pie_qdisc_bpf__destroy(object);
-    return true;
+    return is_done;
+}
+
+/* Maps the memory of a pinned map. Returns NULL after an error. */
+static void *memory(const char *folder, const char *name, size_t size, int access) {
+    int file = bpf_obj_get(pin(folder, name));
+    void *found = file < 0 ? MAP_FAILED : mmap(NULL, size, access, MAP_SHARED, file, 0);
+    if (file >= 0)
+        close(file);
+    return found == MAP_FAILED ? NULL : found;
 }
 
 bool maps_open(struct qdisc_maps *maps, const char *folder, bool is_loaded) {
+    int queues_file = -1;
     maps->folder = folder;
     libbpf_set_print(print_message);
-    maps->queues_file = bpf_obj_get(pin(folder, "queues"));
-    if (maps->queues_file < 0 && is_loaded) {
+    queues_file = bpf_obj_get(pin(folder, "queues"));
+    if (queues_file < 0 && is_loaded) {
         if (!load(folder))
             return false;
-        maps->queues_file = bpf_obj_get(pin(folder, "queues"));
+        queues_file = bpf_obj_get(pin(folder, "queues"));
     }
-    if (maps->queues_file < 0) {
+    if (queues_file < 0) {
         fprintf(stderr, "pie-qdisc: no queue is attached (%s: %s)\n", pin(folder, "queues"), strerror(errno));
         return false;
     }
-    maps->places_file = bpf_obj_get(pin(folder, "places"));
+    close(queues_file);
     maps->rings_file = bpf_obj_get(pin(folder, "rings"));
-    maps->queues = mmap(NULL, QDISC_QUEUES * sizeof *maps->queues, PROT_READ | PROT_WRITE, MAP_SHARED, maps->queues_file, 0);
-    maps->places = mmap(NULL, (size_t)QDISC_QUEUES * QDISC_PACKETS * sizeof *maps->places, PROT_READ, MAP_SHARED, maps->places_file, 0);
-    if (maps->places_file < 0 || maps->rings_file < 0 || maps->queues == MAP_FAILED || maps->places == MAP_FAILED) {
+    maps->queues = memory(folder, "queues", QDISC_QUEUES * sizeof *maps->queues, PROT_READ | PROT_WRITE);
+    maps->places = memory(folder, "places", (size_t)QDISC_QUEUES * QDISC_PACKETS * sizeof *maps->places, PROT_READ);
+    maps->fqs = memory(folder, "fqs", QDISC_FQS * sizeof *maps->fqs, PROT_READ);
+    maps->flows = memory(folder, "flows", (size_t)QDISC_FQS * QDISC_FLOWS * sizeof *maps->flows, PROT_READ);
+    if (maps->rings_file < 0 || !maps->queues || !maps->places || !maps->fqs || !maps->flows) {
         fprintf(stderr, "pie-qdisc: %s: its maps cannot be opened: %s\n", folder, strerror(errno));
         return false;
     }
@@ -104,20 +123,21 @@ void maps_unload_unused(const struct qdisc_maps *maps) {
     for (unsigned int at = 0; at < QDISC_QUEUES; at++)
         if (maps->queues[at].config.use != QDISC_FREE)
             return;
-    operations = bpf_obj_get(pin(maps->folder, "operations"));
-    if (operations >= 0) {
-        (void)bpf_map_delete_elem(operations, &first);
-        close(operations);
-    }
-    for (int at = 0; at < 4; at++)
+    for (int at = 0; at < PINS; at++) {
+        operations = at < OPERATIONS ? -1 : bpf_obj_get(pin(maps->folder, pins[at]));
+        if (operations >= 0) {
+            (void)bpf_map_delete_elem(operations, &first);
+            close(operations);
+        }
         (void)unlink(pin(maps->folder, pins[at]));
+    }
     (void)rmdir(maps->folder);
 }
 
 bool maps_print_verified(void) {
     struct pie_qdisc_bpf *object = opened_object();
     struct bpf_program *program;
-    char *log = calloc(6, LOG_BYTES), *at = log;
+    char *log = calloc(MOST_PROGRAMS, LOG_BYTES), *at = log;
     int error = object && log ? 0 : -ENOMEM;
     libbpf_set_print(print_message);
     if (!error) {

@@ -8,9 +8,11 @@
 
 struct qdisc_maps {
     const char *folder; /* of the pins, in a bpf file system */
-    int queues_file, places_file, rings_file;
+    int rings_file;
     struct qdisc_queue *queues;
     const struct qdisc_place *places;
+    const struct qdisc_fq *fqs;
+    const struct qdisc_flow *flows;
 };
 
 /* Opens the pinned maps. If there are none and `is_loaded`, loads the programs and pins them first. Returns false with a message on standard error. */

@@ -7,16 +7,19 @@
 
 #define LEAST_RATE 8000ull /* bit/s */
 #define MOST_OVERHEAD 256
+#define LEAST_QUANTUM 256
+#define MOST_QUANTUM (1 << 20)
 
 const char options_usage[] =
     "         [ limit PACKETS ] [ limit_bytes SIZE ] [ target TIME ] [ tupdate TIME ] [ max_burst TIME ]\n"
     "         [ alpha N ] [ beta N ]             sixteenths per second, as tc's pie has them\n"
     "         [ mean_pkt SIZE ] [ dq_threshold SIZE ]\n"
     "         [ rate RATE ] [ overhead BYTES ]   a shaper; rate 0bit removes it\n"
+    "         [ flows N ] [ quantum SIZE ]       of a queue with flows (fq): their number, and their bytes in a round\n"
     "         [ on_off ]                         PIE turns itself on and off (RFC 8033, section 5.3)\n"
     "         [ dq_rate_estimator ] [ bytemode ] [ random ] [ uncapped ] [ decay_half ]\n";
 
-enum unit { UNIT_TIME, UNIT_SIZE, UNIT_PACKETS, UNIT_GAIN, UNIT_RATE, UNIT_OVERHEAD };
+enum unit { UNIT_TIME, UNIT_SIZE, UNIT_PACKETS, UNIT_GAIN, UNIT_RATE, UNIT_OVERHEAD, UNIT_FLOWS, UNIT_QUANTUM };
 
 /* An option with a value: its place in struct pie_params, if it is there. */
 static const struct valued {
@@ -29,7 +32,8 @@ static const struct valued {
     {"alpha", UNIT_GAIN, offsetof(struct pie_params, alpha)},             {"beta", UNIT_GAIN, offsetof(struct pie_params, beta)},
     {"mean_pkt", UNIT_SIZE, offsetof(struct pie_params, mean_pkt)},       {"dq_threshold", UNIT_SIZE, offsetof(struct pie_params, dq_threshold)},
     {"limit", UNIT_PACKETS, 0},                                           {"rate", UNIT_RATE, 0},
-    {"overhead", UNIT_OVERHEAD, 0},
+    {"overhead", UNIT_OVERHEAD, 0},                                       {"flows", UNIT_FLOWS, 0},
+    {"quantum", UNIT_QUANTUM, 0},
 };
 
 /* An option without a value: a flag of the opening. */
@@ -41,10 +45,12 @@ static const struct {
     {"uncapped", PIE_STEP_UNCAPPED, 0},        {"decay_half", PIE_DECAY_HALF, 0},
 };
 
-void options_default(struct qdisc_config *config) {
+void options_default(struct qdisc_config *config, bool has_flows) {
     memset(config, 0, sizeof *config);
     pie_default_opening(&config->opening, 0);
     config->opening.packets = 1000;
+    config->flows = has_flows ? QDISC_FLOWS : 0;
+    config->quantum = 1514;
     config->params = config->opening.params;
 }
 
@@ -53,10 +59,32 @@ static bool refuse(const char *option, const char *text, const char *why) {
     return false;
 }
 
+/* Reads an option of a queue with flows. */
+static bool read_of_flows(struct qdisc_config *config, const struct valued *option, const char *text, bool is_change) {
+    uint64_t value = 0;
+    char *end = NULL;
+    if (!config->flows)
+        return refuse(option->name, text, "the queue has no flows");
+    if (option->unit == UNIT_QUANTUM) {
+        uint32_t code = pie_read_size(text, strlen(text), &value);
+        if (code != PIE_DONE || value < LEAST_QUANTUM || value > MOST_QUANTUM)
+            return refuse(option->name, text, code != PIE_DONE ? pie_text(code) : "not a size from 256b to 1048576b");
+        config->quantum = value;
+        return true;
+    }
+    value = strtoul(text, &end, 10);
+    if (is_change || *end || value < 1 || value > QDISC_FLOWS)
+        return refuse(option->name, text, is_change ? "cannot change" : "not a number of flows from 1 to 1024");
+    config->flows = value;
+    return true;
+}
+
 static bool read_value(struct qdisc_config *config, const struct valued *option, const char *text, bool is_change) {
     uint64_t value = 0;
     char *end = NULL;
     uint32_t code = PIE_DONE;
+    if (option->unit == UNIT_FLOWS || option->unit == UNIT_QUANTUM)
+        return read_of_flows(config, option, text, is_change);
     switch (option->unit) {
     case UNIT_TIME:
         code = pie_read_time(text, strlen(text), &value);

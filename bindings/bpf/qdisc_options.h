@@ -6,8 +6,8 @@
 
 #include <stdbool.h>
 
-/* Fills `config` with the defaults: those of pie_default_opening, with 1000 packets. */
-void options_default(struct qdisc_config *config);
+/* Fills `config` with the defaults: those of pie_default_opening, with 1000 packets; if `has_flows`, with 1024 flows and a quantum of 1514 bytes. */
+void options_default(struct qdisc_config *config, bool has_flows);
 
 /* Reads options into `config`. If `is_change`, the queue exists, and options that cannot change are refused. Returns false with a message on standard error. */
 bool options_read(struct qdisc_config *config, char **words, int count, bool is_change);

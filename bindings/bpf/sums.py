@@ -5,7 +5,8 @@ FOLDER/NAME.history is a record, FOLDER/NAME.tc the output of `tc -s -j qdisc sh
 packet. The record must be clean, and its last numbers of packets, bytes, drops by cause, and events must be those of NAME.show. The drops, the bytes and the
 length of the queue must be those of NAME.tc. NAME.next is a record from the next packet on, which must begin with exactly the state that ends NAME.history.
 mutant_NAME must have a fault. small.part and small.part.2 and so on are the excerpts of one record, whose lost events are between them. mq.show and mq.tc are
-of four queues, whose records are mq1.history and so on.
+of four queues, whose records are mq1.history and so on. fq.flows/flowN are the records of the flows of one queue, and fq.next/flowN is a record from the next
+packet on.
 
 FOLDER/verified has the number of instructions that the kernel's verifier processed for each program. Each must be at most half more than that in verified.txt.
 
@@ -14,6 +15,7 @@ import json
 import re
 import subprocess
 import sys
+from collections import Counter
 from pathlib import Path
 
 HERE = Path(__file__).parent
@@ -21,7 +23,7 @@ PIE, FOLDER, FAULTS = sys.argv[1], Path(sys.argv[2]), sys.argv[3:]
 STATISTICS = ("arrivals", "enqueued", "marked", "early", "over_bytes", "over_packets", "left", "left_bytes", "empty", "updates", "resets", "changes")
 VERDICTS = {"enqueue": "enqueued", "mark": "marked", "early": "early", "bytes": "over_bytes", "packets": "over_packets"}
 ME = "bindings/bpf/sums.py"
-ALONE = ("killed", "detached")  # records without statistics
+ALONE = ("killed", "detached", "fqone")  # records without statistics
 CAP = 65535  # the greatest size of an event
 MOST = 1 << 17  # bytes of a packet
 problems = []
@@ -78,9 +80,10 @@ def faults_of(name, path):
 
 def joined(name, path):
     """Compares the state at the end of a record with that at the beginning of the next one."""
-    after = FOLDER / f"{name}.next"
-    if not after.exists():
-        return []
+    return follows(path, FOLDER / f"{name}.next") if (FOLDER / f"{name}.next").exists() else []
+
+
+def follows(path, after):
     done = subprocess.run([PIE, "audit", "--joined", path, after], stdout=subprocess.PIPE, stderr=subprocess.STDOUT, text=True, check=False)
     return [] if f"{after}: follows\n" in done.stdout else [done.stdout.strip().replace("\n", "; ")]
 
@@ -132,6 +135,34 @@ def small():
     print(f"  small: {len(parts)} excerpts of {kept} events, {lost} lost, each clean alone")
 
 
+def flows():
+    """Checks the records of the flows of one queue: each is clean alone, and their sums are those of the queue."""
+    shown, kernel = (json.loads((FOLDER / f"fq.{it}").read_text())[0] for it in ("show", "tc"))
+    records = {}
+    for path in sorted(FOLDER.glob("fq.flows/flow*")):
+        answer = audited(path)
+        records[path.name] = record = Record(path)
+        if answer.rsplit(": ", 1)[-1] != f"clean,{record.events - record.begins}":
+            problems.append(f"fq: {path.name}: {answer}")
+    sums = Counter()
+    for record in records.values():
+        sums.update(record.sums)
+        sums["events"] += record.events
+        sums["queued"] += record.queued
+    drops = sums["early"] + sums["over_bytes"] + sums["over_packets"] + shown["over_limit"]
+    mine = {"events": sums["events"], "packets": sums["left"], "bytes": sums["left_bytes"], "drops": drops, "early": sums["early"], "flows": len(records),
+            "qlen": sums["queued"], "refused": 0, "lost": 0}
+    problems.extend(f"fq: {key} {value}, and pie-qdisc has {shown[key]}" for key, value in mine.items() if shown[key] != value)
+    kernels = {"bytes": sums["left_bytes"], "drops": drops, "qlen": sums["queued"], "kind": "bpf_fq_pie"}
+    problems.extend(f"fq: {key} {value}, and tc has {kernel[key]}" for key, value in kernels.items() if kernel[key] != value)
+    after = list(FOLDER.glob("fq.next/flow*"))
+    problems.extend(f"fq: {it}" for path in after for it in follows(FOLDER / "fq.flows" / path.name, path))
+    if len(records) < 64 or not sums["early"] or not shown["over_limit"] or len(after) != 1:
+        problems.append(f"fq: {len(records)} flows, {sums['early']} early, {shown['over_limit']} over the limit, {len(after)} next: fewer than there must be")
+    print(f"  fq: {len(records)} flows, each clean alone: {sums['enqueued']} queued, {sums['early']} early, {sums['over_bytes']} over_bytes, {shown['over_limit']} over the "
+          f"limit, {sums['updates']} updates")
+
+
 def mutants():
     for name in FAULTS:
         found, _ = faults_of(f"mutant_{name}", FOLDER / f"mutant_{name}.history")
@@ -173,6 +204,7 @@ for path in sorted(FOLDER.glob("*.history")):
         print(f"  {path.stem}: {audited(path).rsplit(': ', 1)[-1]}; {it.sums['enqueued']} queued, {it.sums['early']} early, {it.sums['over_bytes']} over_bytes, "
               f"{it.sums['over_packets']} over_packets, {it.sums['updates']} updates, {it.sums['changes']} changes")
 small()
+flows()
 multiqueue()
 mutants()
 for problem in problems:

@@ -11,7 +11,7 @@ processor, and wide_numbers.c compares their results with gcc's __int128: 20 mil
 Decisions: bpf_calls.c makes 10 million random calls of dist/bpf/pie_c.ll, compiled for this processor, and of dist/'s assembly, over the ranges of all
 parameters, with each profile and all choices. The results must be equal. bpf_decides.c makes random histories of 10 million enqueues, and decides each
 event again by rules of its own (bpf_rules.h). bpf_qdisc.c runs pie_qdisc.bpf.c of bindings/bpf in the same way, as a kernel would, with 2.5 million
-packets.
+packets, and bpf_fq.c its queue with flows, with 2 million.
 
 Faults are planted in each: they must be found.
 
@@ -190,7 +190,7 @@ def calls(text, work, program, count, qdisc="bindings/bpf/pie_qdisc.bpf.c"):
     if done.returncode:
         return done.stdout
     words = ["gcc", "-O2", "-Wall", "-Wextra", "-Werror", "-Iinclude", "-Idist/bpf"]
-    if program == "bpf_qdisc":
+    if program in ("bpf_qdisc", "bpf_fq"):
         words += ["-I.", "-Ibindings/bpf", f'-DQDISC="{qdisc}"', "-Wno-unknown-pragmas", "-Wno-attributes", "-Wno-unused-parameter"]
     done = run([*words, "-o", f"{work}/calls", f"tests/libraries/{program}.c", f"{work}/calls.o", "dist/x86_64/pie_c.S"])
     if done.stdout:
@@ -214,15 +214,16 @@ def main():
         for pattern, replacement in FAULTS[:FAULTS.index(None)]:
             wrong = re.sub(pattern, replacement, text)
             check(wrong != text and not numbers(wrong, work, "100000").startswith("equal: "), f"wide_numbers.c does not find the fault {pattern}")
-        for program, share in (("bpf_calls", 1), ("bpf_decides", 1), ("bpf_qdisc", 4)):
+        for program, share in (("bpf_calls", 1), ("bpf_decides", 1), ("bpf_qdisc", 4), ("bpf_fq", 5)):
             found = calls(text, work, program, int(sys.argv[2] if len(sys.argv) > 2 else 10_000_000) // share)
             check(found.startswith("equal: "), f"{program}: {found}")
             print(f"{NAME}: {program}: {found.strip()}")
             for old, new in DECISIONS:
                 check(text.count(old) == 1 and not calls(text.replace(old, new), work, program, 200_000).startswith("equal: "), f"{program}.c does not find {new}")
-        for name in run(["bindings/bpf/mutant.py", f"{work}/mutants"]).stdout.split():
-            found = calls(text, work, "bpf_qdisc", 200_000, f"{work}/mutants/{name}/pie_qdisc.bpf.c")
-            check(name == "decision" or re.match(r"after \d+ events: ", found), f"bpf_qdisc.c does not find {name} of mutants.txt: {found}")
+        for program, file in (("bpf_qdisc", "mutants.txt"), ("bpf_fq", "fq_mutants.txt")):
+            for name in run(["bindings/bpf/mutant.py", f"{work}/{file}", file]).stdout.split():
+                found = calls(text, work, program, 200_000, f"{work}/{file}/{name}/pie_qdisc.bpf.c")
+                check(name == "decision" or re.match(r"after \d+ events: ", found), f"{program}.c does not find {name} of {file}: {found}")
         if not module.exists():
             print(f"NOT RUN: {NAME}: no {module.relative_to(ROOT)} here (bindings/c/library.py writes it), so the lowering was not compared")
             finish()

@@ -6,128 +6,7 @@
  * the kernel's counters must be right.
  *
  * usage: bpf_qdisc ENQUEUES      bpf.py compiles it, with QDISC as the name of pie_qdisc.bpf.c */
-#define pie_open bpf_pie_open
-#define pie_arrive_event bpf_pie_arrive_event
-#define pie_depart_event bpf_pie_depart_event
-#define pie_update_event bpf_pie_update_event
-#define pie_reset_event bpf_pie_reset_event
-#define pie_set_params_event bpf_pie_set_params_event
-#include "bpf_rules.h"
-
-#include <stdio.h>
-#include <stdlib.h>
-
-/* ---- The kernel's side: maps, ring buffers and functions, instead of libbpf's headers */
-
-#define __BPF_HELPERS__
-#define __BPF_TRACING_H__
-#define SEC(name)
-#define __ksym
-#define __uint(name, value) int(*name)[value]
-#define __type(name, value) typeof(value) *name
-#define __array(name, value) typeof(value) *name[1]
-#define BPF_PROG(name, ...) name(__VA_ARGS__)
-#define bpf_kptr_xchg(place, value)        \
-    ({                                     \
-        struct sk_buff *old_ = *(place);   \
-        *(place) = (value);                \
-        old_;                              \
-    })
-
-static void *bpf_map_lookup_elem(void *map, const void *key);
-static void *bpf_ringbuf_reserve(void *ring, uint64_t size, uint64_t flags);
-static void bpf_ringbuf_submit(void *message, uint64_t flags);
-static uint64_t bpf_ktime_get_ns(void);
-static uint32_t bpf_get_prandom_u32(void);
-
-#include QDISC
-
-static void fail(const char *what);
-static struct qdisc_queue all_queues[QDISC_QUEUES];
-static struct qdisc_place all_places[QDISC_QUEUES * QDISC_PACKETS];
-static struct qdisc_packet all_packets[QDISC_QUEUES * QDISC_PACKETS];
-static uint64_t now;
-static bool has_ring, is_ring_full;
-
-static void *bpf_map_lookup_elem(void *map, const void *key) {
-    uint32_t number = *(const uint32_t *)key;
-    if (map == &queues)
-        return number < QDISC_QUEUES ? &all_queues[number] : NULL;
-    if (map == &rings)
-        return has_ring ? &has_ring : NULL;
-    if (number >= QDISC_QUEUES * QDISC_PACKETS)
-        return NULL;
-    return map == &places ? (void *)&all_places[number] : (void *)&all_packets[number];
-}
-
-static uint64_t bpf_ktime_get_ns(void) {
-    return now;
-}
-
-static uint32_t bpf_get_prandom_u32(void) {
-    return (uint32_t)draw();
-}
-
-int bpf_iter_num_new(struct bpf_iter_num *it, int start, int end) {
-    it->opaque[0] = (uint64_t)end << 32 | (uint32_t)(start - 1);
-    return 0;
-}
-
-int *bpf_iter_num_next(struct bpf_iter_num *it) {
-    int *at = (int *)it->opaque;
-    return ++at[0] < at[1] ? at : NULL;
-}
-
-void bpf_iter_num_destroy(struct bpf_iter_num *it) {
-    (void)it;
-}
-
-/* A packet, of which the kernel or the queue discipline is the owner. */
-struct owned {
-    struct sk_buff skb;
-    uint32_t hash, size;
-    bool is_alive;
-};
-
-static struct owned made[2 * QDISC_PACKETS];
-static const struct owned *arriving;
-static uint64_t made_count, ended, dropped, sent_bytes, wake;
-
-static struct owned *owned_of(const struct sk_buff *skb) {
-    return (struct owned *)skb;
-}
-
-/* Counts the end of a packet. */
-static void end_packet(struct sk_buff *skb) {
-    if (!owned_of(skb)->is_alive)
-        fail("a packet ends twice");
-    owned_of(skb)->is_alive = false;
-    ended++;
-}
-
-void bpf_qdisc_skb_drop(struct sk_buff *skb, struct bpf_sk_buff_ptr *to_free) {
-    (void)to_free;
-    dropped++;
-    end_packet(skb);
-}
-
-void bpf_kfree_skb(struct sk_buff *skb) {
-    end_packet(skb);
-}
-
-void bpf_qdisc_bstats_update(struct Qdisc *sch, const struct sk_buff *skb) {
-    (void)sch;
-    sent_bytes += owned_of(skb)->size;
-}
-
-void bpf_qdisc_watchdog_schedule(struct Qdisc *sch, uint64_t expire, uint64_t delta) {
-    (void)sch, (void)delta;
-    wake = expire;
-}
-
-uint32_t bpf_skb_get_hash(struct sk_buff *skb) {
-    return owned_of(skb)->hash;
-}
+#include "bpf_kernel.h"
 
 /* ---- The reader */
 
@@ -136,7 +15,6 @@ static bool is_known;   /* the rules have the state of the queue: each event sin
 static uint64_t events; /* that were decided again, since the opening */
 static uint64_t snapshots, taken, lost_events, left, left_tag, decided, answers[5];
 static char message_place[1024];
-static struct qdisc_queue *const queue = &all_queues[0];
 
 static void fail(const char *what) {
     printf("after %llu events: %s\n", (unsigned long long)decided, what);
@@ -198,6 +76,8 @@ static void bpf_ringbuf_submit(void *data, uint64_t flags) {
             fail("an arrival is recorded wrongly");
         answers[it->event.answer % 5]++;
     }
+    if (it->event.kind == PIE_EVENT_PARAMS && memcmp(&((const struct qdisc_new_params *)data)->params, &queue->config.params, sizeof queue->config.params))
+        fail("other parameters are set");
     if (it->event.kind == PIE_EVENT_DEPART) {
         left++;
         left_tag = it->event.tag;
@@ -210,22 +90,16 @@ static void bpf_ringbuf_submit(void *data, uint64_t flags) {
 
 /* ---- The kernel */
 
-static struct net net = {.ns = {.inum = 7}};
-static struct net_device device = {.ifindex = 3, .nd_net = {.net = &net}};
-static struct netdev_queue dev_queue = {.dev = &device};
-static struct Qdisc sch;
-static struct link link_out;
-static uint64_t enqueued, expected_drops, expected_bytes, first_of_queue, departures_bytes;
-static uint64_t allowed_ps, begun_ps, paced; /* the shaper: the next departure, the first one since the queue was empty, and the packets since then */
+static uint64_t made_count, enqueued, expected_drops, expected_bytes, first_of_queue, departures_bytes;
 static uint64_t changed; /* of the queue, after the last call */
 static bool is_busy; /* the link sends a packet */
 
-/* Checks what holds between two calls. */
-static void check_rest(void) {
+/* Checks what holds after a call, which was one of dequeue that found the queue empty or another one. */
+static void check_rest(bool was_empty) {
     if (is_known && !queue->is_skipping && has_ring && (events != queue->count || !is_state(&rules, &queue->pie)))
         fail("the state differs");
     /* (new parameters apply after the updates of this call) */
-    if (queue->pie.last + queue->pie.params.t_update <= now && changed == queue->changed)
+    if (!was_empty && queue->pie.last + queue->pie.params.t_update <= now && changed == queue->changed)
         fail("an update was due");
     changed = queue->changed;
     if (sch.q.qlen != queue->tail - queue->head || sch.q.qlen != made_count - ended || sch.qstats.backlog != expected_bytes || queue->refused ||
@@ -242,25 +116,16 @@ static void follow(uint64_t lost, uint64_t unread) {
     lost_events = queue->lost;
 }
 
-/* Returns the ps by which the shaper's moments may differ: a ns for each packet, and its cost of a byte is rounded down. */
-static uint64_t tolerance(void) {
-    return 2000 + paced * 1000 + (allowed_ps - begun_ps) / 50000;
-}
-
 static void dequeue(void) {
     uint64_t lost = queue->lost, unread = queue->unread, departures = queue->head;
-    const struct qdisc_shaper *shaper = &queue->config.shaper; /* which each call applies first */
+    bool was_empty = queue->head == queue->tail;
     struct owned *packet;
     wake = 0;
     packet = owned_of(qdisc_op_dequeue(&sch));
     if (packet != NULL) {
         if (packet != &made[first_of_queue % (2 * QDISC_PACKETS)] || queue->head != departures + 1)
             fail("another packet departs");
-        if (shaper->cost && now * 1000 + tolerance() < allowed_ps)
-            fail("a packet departs before the shaper lets it");
-        paced++;
-        if (shaper->cost && (int64_t)packet->size + shaper->overhead > 0)
-            allowed_ps += (uint64_t)((unsigned __int128)((int64_t)packet->size + shaper->overhead) * 8000000000000 / shaper->rate);
+        check_pacing(packet);
         first_of_queue++;
         expected_bytes -= packet->size;
         departures_bytes += packet->size;
@@ -268,14 +133,14 @@ static void dequeue(void) {
             fail("a departure is not counted");
         end_packet(&packet->skb);
         is_busy = true;
-        link_out.departure = now + (shaper->cost ? 0 : packet->size * link_out.pace / 1000);
+        link_out.departure = now + (queue->config.shaper.cost ? 0 : packet->size * link_out.pace / 1000);
     }
     if (wake * 1000 > allowed_ps + tolerance())
         fail("the shaper holds a packet too long");
     follow(lost, unread);
     if (packet != NULL && is_known && has_ring && left_tag >> 32 != packet->hash)
         fail("the tag of a departure differs");
-    check_rest();
+    check_rest(was_empty);
 }
 
 static void enqueue(void) {
@@ -288,10 +153,8 @@ static void enqueue(void) {
     packet->size = (uint32_t)(draw() % 500 ? draw() % 3 ? link_out.mean : between(1, 2 * link_out.mean) : between(0, 70000));
     packet->is_alive = true;
     *(uint32_t *)packet->skb.cb = packet->size;
-    if (queue->head == queue->tail && allowed_ps < now * 1000) {
-        allowed_ps = begun_ps = now * 1000;
-        paced = 0;
-    }
+    if (queue->head == queue->tail)
+        begin_pacing();
     made_count++;
     arriving = packet;
     verdict = qdisc_op_enqueue(&packet->skb, &sch, NULL);
@@ -299,6 +162,9 @@ static void enqueue(void) {
     if (verdict == NET_XMIT_SUCCESS) {
         if (queue->tail != tail + 1 || dropped != drops)
             fail("a packet is not queued");
+        /* (a packet that no reader receives has no hash) */
+        if (all_places[tail % QDISC_PACKETS].tag >> 32 == 0)
+            packet->hash = 0;
         expected_bytes += packet->size;
     } else {
         if (queue->tail != tail || dropped != drops + 1)
@@ -309,25 +175,9 @@ static void enqueue(void) {
         ended--;
     }
     follow(lost, unread);
-    check_rest();
+    check_rest(false);
     if (!is_busy)
         dequeue();
-}
-
-/* Returns random parameters. Seldom there are thousands of updates for each packet. */
-static struct pie_params chosen_params(void) {
-    struct pie_params it = random_params(&link_out);
-    uint64_t least = link_out.pace * link_out.mean / 4000;
-    if (draw() % 16 && it.t_update < least)
-        it.t_update = least > 10000000000 ? 10000000000 : least;
-    return it;
-}
-
-/* Sets the shaper to a packet's byte in `pace` ps. */
-static void set_rate(uint64_t pace) {
-    struct qdisc_shaper *shaper = &queue->config.shaper;
-    shaper->rate = 8000000000000 / pace + 1;
-    shaper->cost = (uint64_t)(((unsigned __int128)8000000000 << 20) / shaper->rate);
 }
 
 /* Does what pie-qdisc does beside the kernel: a reader comes or goes, its ring is full, parameters and the shaper change. */
@@ -364,41 +214,19 @@ static void interfere(void) {
         is_busy = false;
         wake = 0;
         follow(lost, unread);
-        check_rest();
+        check_rest(false);
     }
 }
 
 static void add_queue(void) {
     struct qdisc_config *config = &queue->config;
-    memset(queue, 0, sizeof *queue);
-    memset(&sch, 0, sizeof sch);
-    sch.dev_queue = &dev_queue;
-    sch.parent = draw();
-    link_out = (struct link){.pace = between(80, 1000000000), .mean = 64 + draw() % 1437, .quarters = 2 + draw() % 15};
-    memset(&config->opening, 0, sizeof config->opening);
-    config->opening.params = config->params = chosen_params();
-    config->opening.profile = 1 + draw() % 2;
-    config->opening.choices = draw() % 32;
-    config->opening.mode = PIE_ROLLING;
-    config->opening.packets = draw() % 4 ? QDISC_LIMIT : 1 + draw() % 100;
-    config->opening.tail = 1024;
-    config->opening.events = UINT64_C(1) << 47;
-    if (draw() % 2) {
-        /* a shaper is the bottleneck */
-        set_rate(link_out.pace);
-        config->shaper.overhead = draw() % 3 ? 0 : (int64_t)(draw() % 100) - 50;
-    }
-    config->use = QDISC_PREPARED;
-    config->netns = 7, config->ifindex = 3, config->parent = sch.parent;
-    config->snapshots = 1;
-    now = between(1, UINT64_C(1) << 50);
+    prepare_queue();
     if (qdisc_op_init(&sch, NULL, NULL) || sch.limit != 1 || config->use != QDISC_USED)
         fail("the queue is not added");
     link_out.arrival = now;
     allowed_ps = begun_ps = now * 1000;
     paced = 0;
-    has_ring = true;
-    is_ring_full = is_busy = false;
+    is_busy = false;
     open_rules(&rules, &config->opening);
     is_known = true;
     changed = taken = wake = events = left = decided = lost_events = made_count = ended = first_of_queue = expected_drops = expected_bytes = 0;

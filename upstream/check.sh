@@ -86,7 +86,7 @@ esac
 system=${SYSTEM:-$work/system}
 if [ ! -e "$system/boot" ]; then
     mmdebstrap --quiet --mode=root --variant=minbase \
-        --include="$kernel,linux-source-$version,initramfs-tools,iproute2,iputils-ping,kmod,make,procps,python3" "$suite" "$system" \
+        --include="$kernel,linux-source-$version,ethtool,gcc,initramfs-tools,iproute2,iputils-ping,kmod,make,procps,python3" "$suite" "$system" \
         "deb $archive $suite main" "deb $archive $suite-updates main" "deb $security $suite-security main" ${backports:+"$backports"} \
         > "$work/system.log" 2>&1 || { cat "$work/system.log" >&2; exit 1; }
 fi
@@ -137,6 +137,12 @@ sed 's/^/  without patch /' "$work/steps/before/faults"
 [ ! -s "$work/steps/after/faults" ] || { cat "$work/steps/after/faults" >&2; fails "a fault is there with the patches"; }
 echo "  with the patches none of these faults"
 
+# made WORDS..: runs make in the system, whose objtool reads /proc
+made() {
+    unshare --mount sh -c 'mount -t proc proc "$1/proc" && exec chroot "$@"' made "$system" make -s -C "/usr/src/linux-headers-$release" "$@" > "$work/make.log" 2>&1 ||
+        { cat "$work/make.log" >&2; exit 1; }
+}
+
 # The modules, in the system
 for which in before after; do
     rm -rf "$system/root/$which"
@@ -144,13 +150,13 @@ for which in before after; do
     cp "$work/$which/"* "$system/root/$which/"
     sed -i 's,#include <net/pie.h>,#include "pie.h",' "$system/root/$which/"*.c
     echo 'obj-m := sch_pie.o sch_fq_pie.o' > "$system/root/$which/Makefile"
-    chroot "$system" make -s -C "/usr/src/linux-headers-$release" M="/root/$which" modules > "$work/make.log" 2>&1 || { cat "$work/make.log" >&2; exit 1; }
+    made M="/root/$which" modules
 done
 if [ "$version" != 6.1 ]; then
     mkdir -p "$system/root/bpf"
     cp "$work/linux/net/sched/bpf_qdisc.c" "$system/root/bpf/"
     echo 'obj-m := bpf_qdisc.o' > "$system/root/bpf/Makefile"
-    chroot "$system" make -s -C "/usr/src/linux-headers-$release" M=/root/bpf bpf_qdisc.o > "$work/make.log" 2>&1 || { cat "$work/make.log" >&2; exit 1; }
+    made M=/root/bpf bpf_qdisc.o
     rm -rf "$system/root/bpf"
 fi
 rm -rf "$system/root/tc-testing"

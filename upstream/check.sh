@@ -187,7 +187,7 @@ name() {
     sed -n "s/^.*ok [0-9]* $1 - \(.*\)/\1/p" "$work/after.tap"
 }
 # 6.1 has the faults whose patches do not apply before and after
-for id in 6159 615b 83c0 83c1 83c2; do
+for id in 6159 615a 615b 83c0 83c1 83c2; do
     wanted=ok
     case $version-$id in 6.1-615b | 6.1-83c1) wanted='not ok' ;; esac
     echo "  Linux $release: tdc $id: without the patches $(result before $id), with them $(result after $id): $(name $id)"

@@ -10,7 +10,7 @@ for which in before after; do
     rmmod sch_fq_pie sch_pie 2> /dev/null
     insmod /root/$which/sch_pie.ko || echo "FAILED insmod"
     insmod /root/$which/sch_fq_pie.ko || echo "FAILED insmod"
-    python3 tdc.py -e 6159 615b 83c0 83c1 83c2 > /tmp/$which.tap 2> /tmp/$which.errors
+    python3 tdc.py -e 6159 615a 615b 83c0 83c1 83c2 > /tmp/$which.tap 2> /tmp/$which.errors
     cat /tmp/$which.tap /tmp/$which.errors
 done
 cd /tmp || exit

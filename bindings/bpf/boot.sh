@@ -6,25 +6,40 @@
 #
 # ROOT      has kernel/vmlinuz and kernel/modules, as packages.sh unpacks them; /var/cache/juniperbowls/debian-bpf by default
 # PIE       the program that audits, crates/pie/out/pie by default
+# --processor aarch64     (on request) boots the kernel for aarch64 with the same BPF object file, and without the faults. ROOT is debian-bpf-aarch64
 # needs: program, an early start
 #
-# usage: [PIE=program] [SEED=1] [KEEP=folder for all files] bindings/bpf/boot.sh [ROOT]
+# usage: [PIE=program] [SEED=1] [KEEP=folder for all files] bindings/bpf/boot.sh [--processor aarch64] [ROOT]
 set -eu
 cd "$(dirname "$0")/../.."
 me=bindings/bpf/boot.sh
+processor=x86_64 cc=cc
+if [ "${1-}" = --processor ]; then
+    processor=${2:?} cc=aarch64-linux-gnu-gcc
+    shift 2
+    [ $# != 0 ] || set -- "/var/cache/juniperbowls/debian-bpf-$processor"
+fi
 root=${1:-/var/cache/juniperbowls/debian-bpf}
+system=
+[ "$processor" = x86_64 ] || system=$root/system
 pie=${PIE:-$PWD/crates/pie/out/pie}
 [ -x "$pie" ] || { echo "NOT RUN: $me: no program $pie"; exit 0; }
 # shellcheck source=bindings/bpf/guest.sh
 . bindings/bpf/guest.sh
-requires iperf3
+requires iperf3 "$cc"
 work=${KEEP:-$(mktemp -d)}
 [ -n "${KEEP-}" ] || trap 'rm -rf "$work"' EXIT
 unpacks
 
 # The program, and one with each fault.
-make -s -C bindings/bpf OUT="$work/built" CFLAGS='-O2 -Werror'
-mutants=$(bindings/bpf/mutant.py "$work/mutants")
+if [ "$processor" = x86_64 ]; then
+    make -s -C bindings/bpf OUT="$work/built" CFLAGS='-O2 -Werror'
+    mutants=$(bindings/bpf/mutant.py "$work/mutants")
+else
+    make -s CC=$cc BUILD="$work/built" "$work/built/libpie_c.a"
+    make -s -C bindings/bpf OUT="$work/built" CFLAGS='-O2 -Werror' CC="$cc --sysroot=$system" PIE_C="$work/built/libpie_c.a"
+    mutants=
+fi
 for name in $mutants; do
     cp bindings/bpf/*.[ch] bindings/bpf/Makefile "$work/mutants/$name/" -n
     make -s -C "$work/mutants/$name" OUT="$work/mutants/$name/out" MODULE="$work/mutants/$name/pie_c.ll" CPPFLAGS="-I$PWD/include" \
@@ -33,7 +48,7 @@ for name in $mutants; do
 done
 echo "$mutants" > "$work/root/mods/mutants"
 modules sch_netem sch_htb
-programs "$(command -v iperf3)" "$(PATH=$PATH:/usr/sbin command -v bpftool)" "$work/built/pie-qdisc"
+programs iperf3 bpftool "$work/built/pie-qdisc"
 boots bindings/bpf/boot_init.sh
 # shellcheck disable=SC2086
 bindings/bpf/sums.py "$pie" "$work/records" $mutants

@@ -1,6 +1,7 @@
 #!/usr/bin/env bash
 # Builds pie-qdisc and its BPF programs without warnings, and runs it without a queue: --version prints the version of pie.h, and wrong words and options are
-# refused before a program is loaded. The completion for bash offers the words of the usage. boot.sh runs it with a kernel.
+# refused before a program is loaded. A kernel before Linux 6.16 is named at attach and when the package is installed. The completion for bash offers the
+# words of the usage. boot.sh runs it with a kernel.
 #
 # usage: bindings/bpf/check.sh
 # needs: nothing
@@ -57,6 +58,27 @@ for command in show "change lo" "record lo" "detach lo"; do
     # shellcheck disable=SC2086
     refuses 1 "pie-qdisc: no queue is attached ($work/pins/queues: No such file or directory)" $command
 done
+# The note of the package at its installation, by kernels before and since Linux 6.16
+noted() {
+    printf '#!/bin/sh\necho %s\n' "$1" > "$work/uname"
+    chmod +x "$work/uname"
+    PATH=$work:$PATH sh debian/juniperbowls-qdisc.postinst configure 2>&1
+}
+for kernel in 5.10.0-33-amd64 6.1.0-57-amd64 6.12.117+deb13-amd64 6.15.9; do
+    [ "$(noted "$kernel" | head -n 1)" = "juniperbowls-qdisc: pie-qdisc needs Linux 6.16 or later, and this is Linux $kernel." ] ||
+        { echo "$me: no note of the package about Linux $kernel" >&2; exit 1; }
+done
+for kernel in 6.16.0 6.16.12+deb14-amd64 6.18.44 7.3.4+deb13-amd64 10.0.1; do
+    [ -z "$(noted "$kernel")" ] || { echo "$me: a note of the package about Linux $kernel" >&2; exit 1; }
+done
+# pie-qdisc names an old kernel that does not load its programs: setarch calls this kernel Linux 2.6, and the user nobody may load none.
+chmod 755 "$work"
+as_nobody=
+[ "$(id -u)" != 0 ] || as_nobody='setpriv --reuid 65534 --regid 65534 --clear-groups'
+# shellcheck disable=SC2086
+refuse=$($as_nobody setarch --uname-2.6 "$work/pie-qdisc" --pins "$work/pins" attach lo 2>&1) || true
+wanted="pie-qdisc: Linux $(setarch --uname-2.6 uname -r) has no BPF queue disciplines: they need Linux 6.16 or later. juniperbowls-dkms has a module for older kernels"
+[ "$refuse" = "$wanted" ] || { echo "$me: with an old kernel: $refuse" >&2; exit 1; }
 # completed WORD..: prints what the completion offers after these words
 completed() {
     # shellcheck disable=SC2016
@@ -72,4 +94,4 @@ offers "$({ echo "$options"; printf '%s\n' fq mq parent; } | sort)" attach lo
 offers "$({ sed -n '/^options:/,/flows/p' "$work/usage" | grep -o '\[ [a-z_]*' | cut -c3- | grep -vx 'limit\|flows'; echo parent; } | sort)" change lo
 offers "$({ sed -n 's/^.*pie-qdisc \([a-z]*\).*/\1/p' "$work/usage"; printf '%s\n' --pins --version; } | sort)"
 offers "$(sed -n 's/^.*pie-qdisc record DEV//p' "$work/usage" | grep -o -e '\[[a-z-]*' | tr -d '[' | sort)" record lo
-echo "$me: pie-qdisc $version builds without warnings, and refuses wrong words"
+echo "$me: pie-qdisc $version builds without warnings, and refuses wrong words and old kernels"

@@ -123,7 +123,11 @@ GLOBAL int qdisc_record(struct qdisc_queue *queue NONNULL, uint32_t number, uint
         return 0;
     }
     if (queue->is_skipping) {
-        queue->lost++;
+        /* (the reader has requested no snapshot, or had one) */
+        if (queue->snapshot == *(volatile uint64_t *)&queue->config.snapshots)
+            queue->lost++;
+        else
+            queue->unread++;
         return 0;
     }
     if (kind == PIE_EVENT_PARAMS) {

@@ -11,6 +11,7 @@
 #include <string.h>
 #include <sys/mman.h>
 #include <sys/stat.h>
+#include <sys/utsname.h>
 #include <unistd.h>
 
 #define LOG_BYTES (1 << 24)
@@ -42,6 +43,17 @@ static struct pie_qdisc_bpf *opened_object(void) {
     return object;
 }
 
+/* Prints why the kernel does not load the programs. */
+static void print_refusal(int error) {
+    unsigned int major = 0, minor = 0;
+    struct utsname kernel = {.release = ""};
+    if (!uname(&kernel) && sscanf(kernel.release, "%u.%u", &major, &minor) == 2 && (major < 6 || (major == 6 && minor < 16)))
+        fprintf(stderr, "pie-qdisc: Linux %s has no BPF queue disciplines: they need Linux 6.16 or later. juniperbowls-dkms has a module for older kernels\n",
+                kernel.release);
+    else
+        fprintf(stderr, "pie-qdisc: Linux %s does not load the programs: %s. They need CONFIG_NET_SCH_BPF, and root\n", kernel.release, strerror(error));
+}
+
 /* Loads and registers the programs, and pins their maps. */
 static bool load(const char *folder) {
     struct pie_qdisc_bpf *object = opened_object();
@@ -50,8 +62,7 @@ static bool load(const char *folder) {
     bool is_done = true;
     int error;
     if (!object || (error = pie_qdisc_bpf__load(object))) {
-        fprintf(stderr, "pie-qdisc: the kernel does not load the programs: %s. They need Linux 6.16 or later with CONFIG_NET_SCH_BPF, and root\n",
-                strerror(errno));
+        print_refusal(errno);
         return false;
     }
     all[0] = object->maps.queues, all[1] = object->maps.places, all[2] = object->maps.rings, all[3] = object->maps.fqs, all[4] = object->maps.flows;

@@ -229,18 +229,19 @@ int record_queue(const struct qdisc_maps *maps, unsigned int number, int flow, c
     if (!open_streams(&reader))
         return 1;
     ring_file = bpf_map_create(BPF_MAP_TYPE_RINGBUF, "pie_reader", 0, 0, ring_bytes, NULL);
-    if (ring_file < 0 || bpf_map_update_elem(maps->rings_file, &number, &ring_file, BPF_ANY)) {
+    if (ring_file < 0) {
         fprintf(stderr, "pie-qdisc: no ring buffer of %u bytes: %s\n", ring_bytes, strerror(errno));
         return 1;
     }
     ring = ring_buffer__new(ring_file, take, &reader, NULL);
-    if (!ring) {
+    signal(SIGINT, stop);
+    signal(SIGTERM, stop);
+    /* (first the request, so that no event before the snapshot counts as lost) */
+    request_snapshot(&reader);
+    if (!ring || bpf_map_update_elem(maps->rings_file, &number, &ring_file, BPF_ANY)) {
         fprintf(stderr, "pie-qdisc: the ring buffer cannot be read: %s\n", strerror(errno));
         return 1;
     }
-    signal(SIGINT, stop);
-    signal(SIGTERM, stop);
-    request_snapshot(&reader);
     read_until_end(&reader, ring, seconds);
     /* no event comes after this, and those before are read; unless another reader has replaced the ring buffer */
     if (is_there(maps->rings_file, number, ring_file))

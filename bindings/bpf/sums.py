@@ -1,5 +1,5 @@
 #!/usr/bin/env python3
-"""Audits the records that boot.sh made, and compares their sums.
+"""Audits the records that boot.sh or trixie.sh made, and compares their sums.
 
 FOLDER/NAME.history is a record, FOLDER/NAME.tc the output of `tc -s -j qdisc show` and FOLDER/NAME.show that of `pie-qdisc show --json`, both after the last
 packet. The record must be clean, and its last numbers of packets, bytes, drops by cause, and events must be those of NAME.show. The drops, the bytes and the
@@ -189,7 +189,8 @@ def verified():
     problems.extend(f"{name}: {found[name]} instructions were processed, and {wanted[name]} before" for name in found.keys() & wanted.keys() if 2 * found[name] > 3 * wanted[name])
 
 
-verified()
+if (FOLDER / "verified").exists():
+    verified()
 for path in sorted(FOLDER.glob("*.history")):
     if path.stem.startswith("mutant_"):
         continue
@@ -203,9 +204,12 @@ for path in sorted(FOLDER.glob("*.history")):
             problems.append(f"{path.stem}: fewer changes or drops than there must be")
         print(f"  {path.stem}: {audited(path).rsplit(': ', 1)[-1]}; {it.sums['enqueued']} queued, {it.sums['early']} early, {it.sums['over_bytes']} over_bytes, "
               f"{it.sums['over_packets']} over_packets, {it.sums['updates']} updates, {it.sums['changes']} changes")
-small()
-flows()
-multiqueue()
+if (FOLDER / "small.show").exists():
+    small()
+if (FOLDER / "fq.show").exists():
+    flows()
+if (FOLDER / "mq.show").exists():
+    multiqueue()
 mutants()
 for problem in problems:
     print(f"{ME}: {problem}", file=sys.stderr)

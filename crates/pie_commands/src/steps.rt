@@ -8,13 +8,11 @@ use crate::files::NamedFiles;
 use crate::json::JsonWriter;
 use crate::name::InLine;
 use crate::progress::Screen;
-use crate::reports::{as_digest, by_flow};
 use pie_audit::Finding;
-use pie_explain::{EventChoice, ExplainFault, Selection};
+use pie_explain::{Digest, EventChoice, ExplainFault, Selection, SummariesOnly};
 use pie_linux_history::{
     PacketWords, StepPieces, StepsCounts, StepsExplained, StepsFault, StepsFinding, report,
 };
-use pie_explain::{Digest, SummariesOnly};
 use std::alloc::Global;
 use std::io::{Read, Write};
 

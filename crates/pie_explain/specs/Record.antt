@@ -127,6 +127,7 @@ field_names =
 abbrev pub header_of : List ℕ → Bool → List ℕ
 header_of names by_wall = names ++ (if by_wall then codes ",wall\n" else codes "\n")
 
+-- the header row of the records of events
 unfoldable pub header : Bool → List ℕ
 header by_wall = header_of field_names by_wall
 

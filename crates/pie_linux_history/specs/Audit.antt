@@ -83,6 +83,7 @@ abbrev pub is_failure : StepsFault → Bool
 is_failure (Trace why) = is_io_or_memory why
 is_failure _ = false
 
+-- true if a result is a failure of the reader, of the writer or of the memory
 abbrev pub has_failed : {A : Type 0} → Result A StepsFault → Bool
 has_failed (Err why) = is_failure why
 has_failed _ = false

@@ -1113,7 +1113,7 @@ def elsewhere():
     """Returns sentences of other pages that rest on stored runs, as (page, sentence)."""
     waits = [value("four", queue, "wait", digits=0) for queue in ("tail", "stamp")]
     carried = [value("four", queue, "goodput") for queue in ("tail", "stamp")]
-    return [("README.md", f"Four CUBIC flows share a link of 10 Mbit/s. On average a packet waits {waits[0]} ms with tail drop and {waits[1]} ms with PIE. "
+    return [("README.md", f"With four CUBIC flows at 10 Mbit/s a packet waits {waits[0]} ms on average with tail drop and {waits[1]} ms with PIE. "
                           f"The goodput is {carried[0]} and {carried[1]} Mbit/s ([docs/RESULTS.md]"),
             ("docs/PARAMETERS.md", f"Many flows exceed it: sixteen flows settle at a probability of {percent('ecnmany', 'stamp', 'prob', digits=0)} "
                                    "per cent ([RESULTS.md]")]

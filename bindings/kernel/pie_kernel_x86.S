@@ -692,8 +692,8 @@ SYM_FUNC_START(pie_default_opening)
 	cmpq	%rcx, %rax
 	seta	%sil
 	addq	%rdx, %rsi
-	cmpq	$48449, %rsi
-	movl	$48448, %ecx
+	cmpq	$25001, %rsi
+	movl	$25000, %ecx
 	cmovaeq	%rsi, %rcx
 	cmpq	$1073741824, %rcx
 	movl	$1073741824, %eax

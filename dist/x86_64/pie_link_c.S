@@ -2312,10 +2312,10 @@
 	.long	.LBB14_45-.LJTI14_2
 	.long	.LBB14_45-.LJTI14_2
 
-	.section	".text.pie_text::long_row::LongRow::number","ax",@progbits
+	.section	".text.pie_record::long_row::LongRow::number","ax",@progbits
 	.p2align	4
-	.type	"pie_text::long_row::LongRow::number",@function
-"pie_text::long_row::LongRow::number":
+	.type	"pie_record::long_row::LongRow::number",@function
+"pie_record::long_row::LongRow::number":
 	pushq	%r15
 	pushq	%r14
 	pushq	%rbx
@@ -2413,12 +2413,12 @@
 	popq	%r15
 	retq
 .Lfunc_end15:
-	.size	"pie_text::long_row::LongRow::number", .Lfunc_end15-"pie_text::long_row::LongRow::number"
+	.size	"pie_record::long_row::LongRow::number", .Lfunc_end15-"pie_record::long_row::LongRow::number"
 
-	.section	".text.pie_text::row_buffer::RowBuffer::prepend_number","ax",@progbits
+	.section	".text.pie_record::row_buffer::RowBuffer::prepend_number","ax",@progbits
 	.p2align	4
-	.type	"pie_text::row_buffer::RowBuffer::prepend_number",@function
-"pie_text::row_buffer::RowBuffer::prepend_number":
+	.type	"pie_record::row_buffer::RowBuffer::prepend_number",@function
+"pie_record::row_buffer::RowBuffer::prepend_number":
 	movq	%rsi, %rdx
 	movq	512(%rdi), %rsi
 	movb	$44, -1(%rdi,%rsi)
@@ -2493,12 +2493,12 @@
 	movq	%rsi, 512(%rdi)
 	retq
 .Lfunc_end16:
-	.size	"pie_text::row_buffer::RowBuffer::prepend_number", .Lfunc_end16-"pie_text::row_buffer::RowBuffer::prepend_number"
+	.size	"pie_record::row_buffer::RowBuffer::prepend_number", .Lfunc_end16-"pie_record::row_buffer::RowBuffer::prepend_number"
 
-	.section	".text.pie_text::event::put_change","ax",@progbits
+	.section	".text.pie_record::event::put_change","ax",@progbits
 	.p2align	4
-	.type	"pie_text::event::put_change",@function
-"pie_text::event::put_change":
+	.type	"pie_record::event::put_change",@function
+"pie_record::event::put_change":
 	pushq	%rbp
 	pushq	%r14
 	pushq	%rbx
@@ -2518,13 +2518,13 @@
 	movq	%rax, 64(%rsp)
 	movq	%rsp, %rsi
 	movl	$9, %edx
-	callq	"pie_text::words::put_numbers"
+	callq	"pie_record::put_field::put_numbers"
 	movq	%rbx, %rdi
 	movq	%r14, %rsi
-	callq	"pie_text::row_buffer::RowBuffer::prepend_number"
+	callq	"pie_record::row_buffer::RowBuffer::prepend_number"
 	movzwl	%bp, %esi
 	movq	%rbx, %rdi
-	callq	"pie_text::row_buffer::RowBuffer::prepend_number"
+	callq	"pie_record::row_buffer::RowBuffer::prepend_number"
 	movq	512(%rbx), %rax
 	leaq	-1(%rax), %rcx
 	movq	%rcx, 512(%rbx)
@@ -2552,12 +2552,12 @@
 	popq	%rbp
 	retq
 .Lfunc_end17:
-	.size	"pie_text::event::put_change", .Lfunc_end17-"pie_text::event::put_change"
+	.size	"pie_record::event::put_change", .Lfunc_end17-"pie_record::event::put_change"
 
-	.section	".text.pie_text::words::put_numbers","ax",@progbits
+	.section	".text.pie_record::put_field::put_numbers","ax",@progbits
 	.p2align	4
-	.type	"pie_text::words::put_numbers",@function
-"pie_text::words::put_numbers":
+	.type	"pie_record::put_field::put_numbers",@function
+"pie_record::put_field::put_numbers":
 	testq	%rdx, %rdx
 	je	.LBB18_1
 	pushq	%r14
@@ -2568,17 +2568,17 @@
 	movq	%rdi, %rbx
 	movq	%rsi, %r14
 	movq	%rax, %rsi
-	callq	"pie_text::words::put_numbers"
+	callq	"pie_record::put_field::put_numbers"
 	movq	(%r14), %rsi
 	movq	%rbx, %rdi
 	addq	$8, %rsp
 	popq	%rbx
 	popq	%r14
-	jmp	"pie_text::row_buffer::RowBuffer::prepend_number"
+	jmp	"pie_record::row_buffer::RowBuffer::prepend_number"
 .LBB18_1:
 	retq
 .Lfunc_end18:
-	.size	"pie_text::words::put_numbers", .Lfunc_end18-"pie_text::words::put_numbers"
+	.size	"pie_record::put_field::put_numbers", .Lfunc_end18-"pie_record::put_field::put_numbers"
 
 	.section	.text.pie_link_close_excerpt,"ax",@progbits
 	.globl	pie_link_close_excerpt
@@ -9405,73 +9405,73 @@ pie_link_write_excerpt:
 	leaq	1504(%rsp), %rbx
 	movq	%rbx, %rdi
 	movq	608(%rsp), %rsi
-	callq	"pie_text::long_row::LongRow::number"
+	callq	"pie_record::long_row::LongRow::number"
 	movq	%rbx, %rdi
 	movq	640(%rsp), %rsi
-	callq	"pie_text::long_row::LongRow::number"
+	callq	"pie_record::long_row::LongRow::number"
 	movq	%rbx, %rdi
 	movq	664(%rsp), %rsi
-	callq	"pie_text::long_row::LongRow::number"
+	callq	"pie_record::long_row::LongRow::number"
 	movq	%rbx, %rdi
 	movq	648(%rsp), %rsi
-	callq	"pie_text::long_row::LongRow::number"
+	callq	"pie_record::long_row::LongRow::number"
 	movq	%rbx, %rdi
 	movq	672(%rsp), %rsi
-	callq	"pie_text::long_row::LongRow::number"
+	callq	"pie_record::long_row::LongRow::number"
 	movq	%rbx, %rdi
 	movq	688(%rsp), %rsi
-	callq	"pie_text::long_row::LongRow::number"
+	callq	"pie_record::long_row::LongRow::number"
 	movq	%rbx, %rdi
 	movq	704(%rsp), %rsi
-	callq	"pie_text::long_row::LongRow::number"
+	callq	"pie_record::long_row::LongRow::number"
 	movq	%rbx, %rdi
 	movq	736(%rsp), %rsi
-	callq	"pie_text::long_row::LongRow::number"
+	callq	"pie_record::long_row::LongRow::number"
 	movq	%rbx, %rdi
 	movq	744(%rsp), %rsi
-	callq	"pie_text::long_row::LongRow::number"
+	callq	"pie_record::long_row::LongRow::number"
 	movq	%rbx, %rdi
 	movq	752(%rsp), %rsi
-	callq	"pie_text::long_row::LongRow::number"
+	callq	"pie_record::long_row::LongRow::number"
 	movq	%rbx, %rdi
 	movq	776(%rsp), %rsi
-	callq	"pie_text::long_row::LongRow::number"
+	callq	"pie_record::long_row::LongRow::number"
 	movq	%rbx, %rdi
 	movq	760(%rsp), %rsi
-	callq	"pie_text::long_row::LongRow::number"
+	callq	"pie_record::long_row::LongRow::number"
 	movq	%rbx, %rdi
 	movq	%r15, %rsi
-	callq	"pie_text::long_row::LongRow::number"
+	callq	"pie_record::long_row::LongRow::number"
 	movq	%rbx, %rdi
 	movq	616(%rsp), %rsi
-	callq	"pie_text::long_row::LongRow::number"
+	callq	"pie_record::long_row::LongRow::number"
 	movq	%rbx, %rdi
 	movq	624(%rsp), %rsi
-	callq	"pie_text::long_row::LongRow::number"
+	callq	"pie_record::long_row::LongRow::number"
 	movq	%rbx, %rdi
 	movq	632(%rsp), %rsi
-	callq	"pie_text::long_row::LongRow::number"
+	callq	"pie_record::long_row::LongRow::number"
 	movq	%rbx, %rdi
 	movq	656(%rsp), %rsi
-	callq	"pie_text::long_row::LongRow::number"
+	callq	"pie_record::long_row::LongRow::number"
 	movq	%rbx, %rdi
 	movq	680(%rsp), %rsi
-	callq	"pie_text::long_row::LongRow::number"
+	callq	"pie_record::long_row::LongRow::number"
 	movq	%rbx, %rdi
 	movq	696(%rsp), %rsi
-	callq	"pie_text::long_row::LongRow::number"
+	callq	"pie_record::long_row::LongRow::number"
 	movq	%rbx, %rdi
 	movq	712(%rsp), %rsi
-	callq	"pie_text::long_row::LongRow::number"
+	callq	"pie_record::long_row::LongRow::number"
 	movq	%rbx, %rdi
 	movq	720(%rsp), %rsi
-	callq	"pie_text::long_row::LongRow::number"
+	callq	"pie_record::long_row::LongRow::number"
 	movq	%rbx, %rdi
 	movq	728(%rsp), %rsi
-	callq	"pie_text::long_row::LongRow::number"
+	callq	"pie_record::long_row::LongRow::number"
 	movq	%rbx, %rdi
 	movq	768(%rsp), %rsi
-	callq	"pie_text::long_row::LongRow::number"
+	callq	"pie_record::long_row::LongRow::number"
 	movq	2784(%rsp), %rax
 	movb	$44, 1504(%rsp,%rax)
 	incq	%rax
@@ -9488,88 +9488,88 @@ pie_link_write_excerpt:
 	movq	%rax, 64(%rsp)
 	movq	%rbx, %rdi
 	movq	784(%rsp), %rsi
-	callq	"pie_text::long_row::LongRow::number"
+	callq	"pie_record::long_row::LongRow::number"
 	movq	%rbx, %rdi
 	movq	792(%rsp), %rsi
-	callq	"pie_text::long_row::LongRow::number"
+	callq	"pie_record::long_row::LongRow::number"
 	movq	%rbx, %rdi
 	movq	808(%rsp), %rsi
-	callq	"pie_text::long_row::LongRow::number"
+	callq	"pie_record::long_row::LongRow::number"
 	movq	%rbx, %rdi
 	movq	800(%rsp), %rsi
-	callq	"pie_text::long_row::LongRow::number"
+	callq	"pie_record::long_row::LongRow::number"
 	movq	%rbx, %rdi
 	movq	816(%rsp), %rsi
-	callq	"pie_text::long_row::LongRow::number"
+	callq	"pie_record::long_row::LongRow::number"
 	movq	%rbx, %rdi
 	movq	824(%rsp), %rsi
-	callq	"pie_text::long_row::LongRow::number"
+	callq	"pie_record::long_row::LongRow::number"
 	movq	%rbx, %rdi
 	movq	832(%rsp), %rsi
-	callq	"pie_text::long_row::LongRow::number"
+	callq	"pie_record::long_row::LongRow::number"
 	movq	%rbx, %rdi
 	movq	840(%rsp), %rsi
-	callq	"pie_text::long_row::LongRow::number"
+	callq	"pie_record::long_row::LongRow::number"
 	movq	%rbx, %rdi
 	movq	848(%rsp), %rsi
-	callq	"pie_text::long_row::LongRow::number"
+	callq	"pie_record::long_row::LongRow::number"
 	movq	%rbx, %rdi
 	movq	%r15, %rsi
-	callq	"pie_text::long_row::LongRow::number"
+	callq	"pie_record::long_row::LongRow::number"
 	movq	%rbx, %rdi
 	movq	%r14, %rsi
-	callq	"pie_text::long_row::LongRow::number"
+	callq	"pie_record::long_row::LongRow::number"
 	movq	%rbx, %rdi
 	movq	%r13, %rsi
-	callq	"pie_text::long_row::LongRow::number"
+	callq	"pie_record::long_row::LongRow::number"
 	movq	%rbx, %rdi
 	movq	864(%rsp), %rsi
-	callq	"pie_text::long_row::LongRow::number"
+	callq	"pie_record::long_row::LongRow::number"
 	movq	%rbx, %rdi
 	movq	64(%rsp), %rsi
-	callq	"pie_text::long_row::LongRow::number"
+	callq	"pie_record::long_row::LongRow::number"
 	movq	%rbx, %rdi
 	movq	872(%rsp), %rsi
-	callq	"pie_text::long_row::LongRow::number"
+	callq	"pie_record::long_row::LongRow::number"
 	movq	%rbx, %rdi
 	movq	880(%rsp), %rsi
-	callq	"pie_text::long_row::LongRow::number"
+	callq	"pie_record::long_row::LongRow::number"
 	movq	%rbx, %rdi
 	movq	888(%rsp), %rsi
-	callq	"pie_text::long_row::LongRow::number"
+	callq	"pie_record::long_row::LongRow::number"
 	movq	%rbx, %rdi
 	movq	896(%rsp), %rsi
-	callq	"pie_text::long_row::LongRow::number"
+	callq	"pie_record::long_row::LongRow::number"
 	movq	%rbx, %rdi
 	movq	904(%rsp), %rsi
-	callq	"pie_text::long_row::LongRow::number"
+	callq	"pie_record::long_row::LongRow::number"
 	movq	%rbx, %rdi
 	movq	912(%rsp), %rsi
-	callq	"pie_text::long_row::LongRow::number"
+	callq	"pie_record::long_row::LongRow::number"
 	movq	%rbx, %rdi
 	movq	920(%rsp), %rsi
-	callq	"pie_text::long_row::LongRow::number"
+	callq	"pie_record::long_row::LongRow::number"
 	movq	%rbx, %rdi
 	movq	928(%rsp), %rsi
-	callq	"pie_text::long_row::LongRow::number"
+	callq	"pie_record::long_row::LongRow::number"
 	movq	%rbx, %rdi
 	movq	936(%rsp), %rsi
-	callq	"pie_text::long_row::LongRow::number"
+	callq	"pie_record::long_row::LongRow::number"
 	movq	%rbx, %rdi
 	movq	944(%rsp), %rsi
-	callq	"pie_text::long_row::LongRow::number"
+	callq	"pie_record::long_row::LongRow::number"
 	movq	%rbx, %rdi
 	movq	952(%rsp), %rsi
-	callq	"pie_text::long_row::LongRow::number"
+	callq	"pie_record::long_row::LongRow::number"
 	movq	%rbx, %rdi
 	movq	40(%rsp), %rsi
-	callq	"pie_text::long_row::LongRow::number"
+	callq	"pie_record::long_row::LongRow::number"
 	movq	%rbx, %rdi
 	movq	24(%rsp), %rsi
-	callq	"pie_text::long_row::LongRow::number"
+	callq	"pie_record::long_row::LongRow::number"
 	movq	%rbx, %rdi
 	movq	48(%rsp), %rsi
-	callq	"pie_text::long_row::LongRow::number"
+	callq	"pie_record::long_row::LongRow::number"
 	pxor	%xmm0, %xmm0
 	movdqa	%xmm0, 992(%rsp)
 	movdqa	%xmm0, 976(%rsp)
@@ -9825,10 +9825,10 @@ pie_link_write_excerpt:
 .LBB36_50:
 	leaq	80(%rsp), %r14
 	movq	%r14, %rdi
-	callq	"pie_text::row_buffer::RowBuffer::prepend_number"
+	callq	"pie_record::row_buffer::RowBuffer::prepend_number"
 	movq	%r14, %rdi
 	movq	%rbx, %rsi
-	callq	"pie_text::row_buffer::RowBuffer::prepend_number"
+	callq	"pie_record::row_buffer::RowBuffer::prepend_number"
 	movq	592(%rsp), %rax
 	leaq	-1(%rax), %rcx
 	movq	%rcx, 592(%rsp)
@@ -10056,10 +10056,10 @@ pie_link_write_excerpt:
 	movl	%eax, %esi
 	leaq	80(%rsp), %r14
 	movq	%r14, %rdi
-	callq	"pie_text::row_buffer::RowBuffer::prepend_number"
+	callq	"pie_record::row_buffer::RowBuffer::prepend_number"
 	movq	%r14, %rdi
 	movq	40(%rsp), %rsi
-	callq	"pie_text::row_buffer::RowBuffer::prepend_number"
+	callq	"pie_record::row_buffer::RowBuffer::prepend_number"
 	movq	592(%rsp), %rax
 	leaq	-1(%rax), %rcx
 	movq	%rcx, 592(%rsp)
@@ -10173,10 +10173,10 @@ pie_link_write_excerpt:
 	movq	%rdi, 592(%rsp)
 	leaq	80(%rsp), %r14
 	movq	%r14, %rdi
-	callq	"pie_text::row_buffer::RowBuffer::prepend_number"
+	callq	"pie_record::row_buffer::RowBuffer::prepend_number"
 	movq	%r14, %rdi
 	movq	24(%rsp), %rsi
-	callq	"pie_text::row_buffer::RowBuffer::prepend_number"
+	callq	"pie_record::row_buffer::RowBuffer::prepend_number"
 	pxor	%xmm0, %xmm0
 	xorl	%eax, %eax
 	movzbl	%bpl, %ecx
@@ -10193,10 +10193,10 @@ pie_link_write_excerpt:
 	leaq	80(%rsp), %rbx
 	movq	%rbx, %rdi
 	movq	%r9, %rsi
-	callq	"pie_text::row_buffer::RowBuffer::prepend_number"
+	callq	"pie_record::row_buffer::RowBuffer::prepend_number"
 	movq	%rbx, %rdi
 	movq	64(%rsp), %rsi
-	callq	"pie_text::row_buffer::RowBuffer::prepend_number"
+	callq	"pie_record::row_buffer::RowBuffer::prepend_number"
 	movq	592(%rsp), %rax
 	leaq	-1(%rax), %rcx
 	movq	%rcx, 592(%rsp)
@@ -10235,16 +10235,16 @@ pie_link_write_excerpt:
 	leaq	976(%rsp), %rcx
 	movq	64(%rsp), %rsi
 	movq	%r9, %rdx
-	callq	"pie_text::event::put_change"
+	callq	"pie_record::event::put_change"
 	jmp	.LBB36_102
 .LBB36_95:
 	leaq	80(%rsp), %rbx
 	movq	%rbx, %rdi
 	movq	%r9, %rsi
-	callq	"pie_text::row_buffer::RowBuffer::prepend_number"
+	callq	"pie_record::row_buffer::RowBuffer::prepend_number"
 	movq	%rbx, %rdi
 	movq	64(%rsp), %rsi
-	callq	"pie_text::row_buffer::RowBuffer::prepend_number"
+	callq	"pie_record::row_buffer::RowBuffer::prepend_number"
 	movq	592(%rsp), %rax
 	leaq	-1(%rax), %rcx
 	movq	%rcx, 592(%rsp)
@@ -10266,10 +10266,10 @@ pie_link_write_excerpt:
 	leaq	80(%rsp), %rbx
 	movq	%rbx, %rdi
 	movq	%r9, %rsi
-	callq	"pie_text::row_buffer::RowBuffer::prepend_number"
+	callq	"pie_record::row_buffer::RowBuffer::prepend_number"
 	movq	%rbx, %rdi
 	movq	64(%rsp), %rsi
-	callq	"pie_text::row_buffer::RowBuffer::prepend_number"
+	callq	"pie_record::row_buffer::RowBuffer::prepend_number"
 	movq	592(%rsp), %rax
 	leaq	-1(%rax), %rcx
 	movq	%rcx, 592(%rsp)
@@ -10416,7 +10416,7 @@ pie_link_write_excerpt:
 	movq	%r9, %rbp
 	leaq	80(%rsp), %rdi
 	movq	%r10, %rsi
-	callq	"pie_text::row_buffer::RowBuffer::prepend_number"
+	callq	"pie_record::row_buffer::RowBuffer::prepend_number"
 	movq	592(%rsp), %rax
 	leaq	-1(%rax), %rcx
 	movq	%rcx, 592(%rsp)
@@ -10484,16 +10484,16 @@ pie_link_write_excerpt:
 	movl	%ebx, %esi
 	leaq	80(%rsp), %rbx
 	movq	%rbx, %rdi
-	callq	"pie_text::row_buffer::RowBuffer::prepend_number"
+	callq	"pie_record::row_buffer::RowBuffer::prepend_number"
 	movq	%rbx, %rdi
 	movq	%r15, %rsi
-	callq	"pie_text::row_buffer::RowBuffer::prepend_number"
+	callq	"pie_record::row_buffer::RowBuffer::prepend_number"
 	movq	%rbx, %rdi
 	movq	%rbp, %rsi
-	callq	"pie_text::row_buffer::RowBuffer::prepend_number"
+	callq	"pie_record::row_buffer::RowBuffer::prepend_number"
 	movq	%rbx, %rdi
 	movq	64(%rsp), %rsi
-	callq	"pie_text::row_buffer::RowBuffer::prepend_number"
+	callq	"pie_record::row_buffer::RowBuffer::prepend_number"
 	movq	592(%rsp), %rax
 	leaq	-1(%rax), %rcx
 	movq	%rcx, 592(%rsp)

@@ -46,7 +46,7 @@ class Workers:
         self.look()
         self.report_wrong()
 
-    def tell_wrong(self):
+    def report_wrong(self):
         for at in self.names:
             if self.versions.get(at) != self.wanted and at not in self.reported:
                 self.reported.add(at)
@@ -151,7 +151,7 @@ class Run:
     def look(self):
         """Examines the workers. Batches of lost workers are sent again, and files without a suitable worker for too long are given up."""
         self.workers.look()
-        self.workers.tell_wrong()
+        self.workers.report_wrong()
         for key, (future, batch, fit) in list(self.under_way.items()):
             if not self.workers.names.keys() & set(fit):
                 del self.under_way[key]

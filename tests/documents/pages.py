@@ -56,6 +56,7 @@ COMMAND = re.compile(r"[$#] |(?:pie|pie-[a-z]+|python3|make|cd|export) ")
 # the histories of a page's reader: one that differs, one that is cut off, a day, and an archive from which a segment is missing and in which the
 # state of another one is changed
 PREPARED = {"docs/OPERATING.md": r"""
+make -s web
 mkdir histories archive
 for name in link001 link042 link077; do cp examples/overload.history "histories/$name.history"; done
 sed -i '2s/enqueue$/early/' histories/link042.history

@@ -332,8 +332,8 @@ function finding({ status, out, errors }) {
 }
 
 function clear() {
-    for (const id of ["main", "other", "save", "finding", "fault"]) element(id).hidden = true;
-    for (const id of ["headline", "span", "causes", "flows", "columns", "output", "status", "matching", "deciding"]) element(id).replaceChildren();
+    for (const id of ["main", "save", "finding", "fault"]) element(id).hidden = true;
+    for (const id of ["headline", "span", "causes", "flows", "columns", "output", "status", "matching", "deciding", "fate"]) element(id).replaceChildren();
     element("cause").replaceChildren(element("cause").options[0]);
     element("packet").querySelector("h2").textContent = "Why was it lost?";
     element("words").textContent = "Click on a drop or a mark in a chart, or choose one in the list.";
@@ -391,7 +391,7 @@ async function show(summary) {
     LENGTH = Number(BigInt(sum.last_moment) - FIRST);
     const ends = [sum.first_moment, sum.last_moment].map((it) => `${momentMillis(it)} ms`);
     say(element("span"), `${counted(sum.events, "event")} in ${duration(LENGTH)}, from ${ends[0]} to ${ends[1]}${sum.wall ? `, ${sum.wall} at the first with a known time` : ""}.`);
-    for (const id of ["main", "other", "save"]) element(id).hidden = false;
+    for (const id of ["main", "save"]) element(id).hidden = false;
     sliderValues(sum);
     view = { ...whole() };
     const part = asked(whole());
@@ -450,8 +450,7 @@ async function look(part, sum = null) {
         drawCharts();
         headline(sums);
         causes(sums);
-        if (element("within").checked) await fill();
-        else if (other) await decide();
+        await Promise.all([element("within").checked && fill(), other && otherCurves()]);
     } catch (why) {
         if (!(why instanceof Cancelled)) throw why;
     }
@@ -484,7 +483,7 @@ function pan(part) {
 let points = { each: 1, rows: [] }; // the records of periods of `each` ns
 let line = null; // the time of the reading line
 let chosen = null; // the packet whose words are shown
-let other = null; // the records of periods of the other history
+let other = null; // the other history: its text, and its records of periods
 
 const field = (name, scale) => (row) => (row[name] === undefined ? null : Number(row[name]) / scale);
 const when = (counts, name, scale) => (row) => (Number(row[counts]) > 0 ? Number(row[name]) / scale : null);
@@ -499,7 +498,7 @@ const CHARTS = [
             { name: "mean wait of departed packets", color: "wait", value: when("left", "mean_wait", 1e6) },
             { name: "greatest wait", color: "longest", value: when("left", "greatest_wait", 1e6) },
             { name: "burst allowance", color: "burst", value: field("last_burst_allowance", 1e6), steps: true },
-            { name: "target", color: "target", value: field("last_target", 1e6), steps: true, dashed: true },
+            { name: "target", color: "target", value: field("last_target", 1e6), steps: true },
             { name: "delay, what if", color: "other", value: when("updates", "greatest_delay", 1e6), isOther: true },
         ],
     },
@@ -556,7 +555,7 @@ function tableOf(chart, shown) {
         if (next !== null) made.push([timeOf(next), ...shown.map(() => 0)]);
         return made;
     }
-    const others = new Map((other ?? []).map((row) => [row.place, row]));
+    const others = new Map((other?.rows ?? []).map((row) => [row.place, row]));
     for (const row of points.rows) {
         made.push([timeOf(row.place), ...shown.map((it) => (it.isOther ? (others.has(row.place) ? it.value(others.get(row.place)) : null) : it.value(row)))]);
         next = row.place + 1;
@@ -616,7 +615,7 @@ function drawChart(chart) {
         stackedGraph: chart.stacked === true, fillGraph: chart.stacked === true, stepPlot: chart.stacked === true, fillAlpha: chart.stacked ? 0.95 : 0.6,
         strokeWidth: chart.stacked ? 0 : 1.6,
         series: Object.fromEntries(shown.map((it) => [it.name, { stepPlot: Boolean(it.steps || chart.stacked), fillGraph: Boolean(it.area || chart.stacked),
-            strokeWidth: it.area || chart.stacked ? 0 : 1.6, strokePattern: it.dashed ? [5, 4] : null }])),
+            strokeWidth: it.area || chart.stacked ? 0 : 1.6 }])),
         axes: { x: { axisLabelFormatter: timeText, pixelsPerLabel: 90, drawGrid: true, axisLabelWidth: 90 }, y: { axisLabelWidth: 46, pixelsPerLabel: 34 } },
         gridLineColor: colour("rule"), axisLineColor: colour("rule"), axisLabelFontSize: 11, legend: "never", highlightCircleSize: 0, rightGap: 8,
         connectSeparatedPoints: true, labelsKMB: false, interactionModel: MOUSE, animatedZooms: false, xRangePad: 0,
@@ -671,7 +670,7 @@ function legend(chart) {
     for (const it of chart.lines) {
         if (it.isOther ? !other : it.field && !points.rows.some((row) => Number(row[it.field]) > 0)) continue;
         const button = add(chart.legend, "button", undefined, { "aria-pressed": String(!it.hidden), title: "Show or hide" });
-        add(button, "span", undefined, { class: `swatch c-${it.color}${it.dashed ? " dashed" : ""}` });
+        add(button, "span", undefined, { class: `swatch c-${it.color}` });
         button.append(it.name);
         button.addEventListener("click", () => {
             it.hidden = !it.hidden;
@@ -706,6 +705,8 @@ function read(time) {
 let PACKETS = []; // those in the list
 let limit = 500;
 
+const ECN = { not: "Not-ECT", ect0: "ECT(0)", ect1: "ECT(1)", ce: "CE" };
+
 // Asks for the first lost and marked packets that fit the search.
 async function fill(more = 500) {
     limit = more;
@@ -737,7 +738,7 @@ function fillRows(isCut) {
         add(add(row, "td"), "button", packet.number);
         for (const text of [momentMillis(packet.effective_moment), packet.tag, packet.size]) add(row, "td", text);
         const outcome = { early: "early", mark: "marked", bytes: "no room in bytes", packets: "no room in packets" }[packet.verdict] ?? packet.verdict;
-        add(row, "td", packet.ecn ? `${outcome}, ${packet.ecn}` : outcome);
+        add(row, "td", packet.ecn ? `${outcome}, ${ECN[packet.ecn] ?? packet.ecn}` : outcome);
         row.addEventListener("click", () => choose(packet));
     }
     element("matching").textContent = isCut ? `The first ${grouped(PACKETS.length)} are listed.` : PACKETS.length === 0 ? "No packet." : `${grouped(PACKETS.length)} listed, which are all.`;
@@ -763,6 +764,7 @@ async function choose(packet) {
     if (packet.time < view.from || packet.time > view.to) look({ from: packet.time - (view.to - view.from) / 2, to: packet.time + (view.to - view.from) / 2 });
     read(packet.time);
     element("packet").scrollIntoView({ block: "nearest" });
+    await fate();
 }
 
 // Chooses the packet nearest to a time, if it is less than 12 pixels away: a listed one, otherwise the first that the program finds there.
@@ -794,16 +796,20 @@ const SLIDERS = [
     { option: "max_burst", title: "burst", unit: "ms", least: 0, most: 500, step: 5, usual: 150 },
 ];
 
-// Makes the sliders. Each option is left out until its slider moves.
+// Makes the sliders, each with a field for its number. An option is left out while its field is empty.
 function makeSliders() {
     for (const it of SLIDERS) {
-        const label = add(element("sliders"), "label");
-        add(label, "span", it.title);
-        it.slider = add(label, "input", undefined, { type: "range", min: it.least, max: it.most, step: it.step, name: it.option });
-        it.text = add(label, "output");
+        const row = add(element("sliders"), "div");
+        add(row, "label", it.title, { for: it.option });
+        it.slider = add(row, "input", undefined, { type: "range", min: it.least, max: it.most, step: it.step, name: it.option, "aria-label": `${it.title}${it.unit && `, ${it.unit}`}` });
+        it.number = add(row, "input", undefined, { type: "number", id: it.option, min: it.least, step: it.step, placeholder: "recorded" });
+        add(row, "span", it.unit);
         it.slider.addEventListener("input", () => {
-            it.isSet = true;
-            it.text.textContent = `${it.slider.value} ${it.unit}`;
+            it.number.value = it.slider.value;
+            decide();
+        });
+        it.number.addEventListener("change", () => {
+            it.slider.value = it.number.value === "" ? it.usual : it.number.value;
             decide();
         });
     }
@@ -811,28 +817,30 @@ function makeSliders() {
 
 function sliderValues(sum) {
     for (const it of SLIDERS) {
-        it.isSet = false;
+        it.number.value = "";
         it.slider.value = it.field && sum?.[it.field] ? Number(sum[it.field]) / it.scale : it.usual;
-        it.text.textContent = "as recorded";
     }
 }
 
-const COLUMNS = ["arrivals", "enqueue", "mark", "early", "bytes", "packets", "left", "mean_wait", "wait_99", "greatest_wait", "greatest_delay", "greatest_probability",
-    "last_target", "time_waited_above_target", "carried_bytes"];
-const isTime = (name) => /wait|delay|target/.test(name) && name !== "waited_above_target";
+// The fields of the comparison: name, words
+const COLUMNS = [["arrivals", "arrivals"], ["enqueue", "queued"], ["mark", "marked"], ["early", "dropped early"], ["bytes", "no room in bytes"], ["packets", "no room in packets"],
+    ["left", "departed"], ["mean_wait", "mean wait, ms"], ["wait_99", "99 % waited at most, ms"], ["greatest_wait", "greatest wait, ms"], ["greatest_delay", "greatest delay, ms"],
+    ["greatest_probability", "greatest probability, %"], ["last_target", "target, ms"], ["time_waited_above_target", "time above it, ms"], ["carried_bytes", "carried bytes"]];
 
-function value(name, text) {
+// Returns a number of a field without its unit.
+function value(name, title, text) {
     const sign = text.startsWith("+") ? "+" : "";
-    if (isTime(name)) return `${sign}${millis(text)} ms`;
-    return sign + (/probability/.test(name) ? `${(Number(text) / 1e10).toFixed(2)} %` : grouped(text.replace("+", "")));
+    if (title.endsWith(", ms")) return `${sign}${millis(text)}`;
+    return sign + (title.endsWith(", %") ? (Number(text) / 1e10).toFixed(2) : grouped(text.replace("+", "")));
 }
 
-// Decides the history again with the parameters of the sliders, and shows the three columns and the other curve.
+// Decides the events again with the parameters of the sliders, and shows the three columns and the other curves.
 async function decide() {
-    const options = SLIDERS.filter((it) => it.isSet).flatMap((it) => [`--${it.option}`, it.words ? it.words(Number(it.slider.value)) : `${it.slider.value}${it.unit}`]);
+    const options = SLIDERS.filter((it) => it.number.value !== "").flatMap((it) => [`--${it.option}`, it.words ? it.words(Number(it.number.value)) : `${it.number.value}${it.unit}`]);
+    if (options.length === 0) return forget();
     const begun = performance.now();
     element("deciding").textContent = "deciding";
-    const from = ["--from", `${moment(view.from)}ns`];
+    const from = ["--from", `${moment(element("later").checked ? view.from : 0)}ns`];
     const [columns, text] = [about("what-if", ...from, ...options, "--csv"), about("what-if", ...from, ...options, "-o", "-")];
     try {
         const [compared, made] = await Promise.all([ask(columns, { group: "columns", rows: MANY }), ask(text, { group: "other" })]);
@@ -840,25 +848,48 @@ async function decide() {
             element("deciding").textContent = compared.errors.replaceAll(/^pie: /gm, "");
             return;
         }
-        const around = { from: view.from - (view.to - view.from) / 2, to: view.to + (view.to - view.from) / 2 };
-        const files = { other: made.out };
-        const rows = await ask(["explain", `--every=${points.each}ns`, "--csv", ...bounds(around), "--", "other"], { group: "other", rows: MANY, files });
-        other = placed(rows.rows, points.each);
-        const found = objects(compared.rows).filter((row) => COLUMNS.includes(row.field) && [row.recorded, row.control, row.other].some((it) => it !== "0"));
-        tableIn(element("columns"), "", ["", "recorded", "control", "other", "difference"], []);
-        const list = element("columns");
-        const head = add(list, "tr");
-        for (const name of ["", "recorded", "control", "other", "other − control"]) add(head, "th", name);
-        for (const row of found) {
-            const made = add(list, "tr", undefined, { "data-field": row.field });
-            add(made, "td", words(row.field));
-            for (const name of ["recorded", "control", "other", "difference"]) add(made, "td", value(row.field, row[name]));
-        }
+        other = { text: made.out, rows: [] };
+        comparison(objects(compared.rows));
+        await Promise.all([otherCurves(), fate()]);
         element("deciding").textContent = `decided in ${((performance.now() - begun) / 1000).toFixed(2)} s: pie what-if ${[...from, ...options].join(" ")}`;
-        CHARTS.slice(0, 2).forEach(drawChart);
     } catch (why) {
         if (!(why instanceof Cancelled)) throw why;
     }
+}
+
+function comparison(rows) {
+    const found = new Map(rows.map((row) => [row.field, row]));
+    const list = element("columns");
+    list.replaceChildren();
+    const head = add(list, "tr");
+    for (const name of ["", "recorded", "control", "other", "change"]) add(head, "th", name);
+    for (const [name, title] of COLUMNS) {
+        const row = found.get(name);
+        if (!row || [row.recorded, row.control, row.other].every((it) => it === "0")) continue;
+        const made = add(list, "tr", undefined, { "data-field": name });
+        add(made, "th", title, { scope: "row" });
+        for (const it of ["recorded", "control", "other", "difference"]) add(made, "td", value(name, title, row[it]));
+    }
+}
+
+// Draws the other history in the charts.
+async function otherCurves() {
+    const around = { from: view.from - (view.to - view.from) / 2, to: view.to + (view.to - view.from) / 2 };
+    const { each } = points;
+    const { rows } = await ask(["explain", `--every=${each}ns`, "--csv", ...bounds(around), "--", "other"], { group: "curves", rows: MANY, files: { other: other.text } });
+    if (other) other.rows = placed(rows, each);
+    CHARTS.slice(0, 2).forEach(drawChart);
+}
+
+// Says what the other parameters do to the chosen packet: the arrival of its tag at its moment.
+async function fate() {
+    element("fate").textContent = "";
+    if (!other || !chosen) return;
+    const at = `${chosen.effective_moment}ns`;
+    const { rows } = await ask(["explain", "--tag", chosen.tag, "--csv", "--from", at, "--to", at, "--", "other"], { group: "fate", rows: { limit: 10 }, files: { other: other.text } });
+    const verdict = objects(rows).find((it) => it.size === chosen.size && it.verdict)?.verdict;
+    const done = { enqueue: "queued", early: "dropped early", mark: "marked", bytes: "dropped: no room in bytes", packets: "dropped: no room in packets" }[verdict];
+    if (done) say(element("fate"), `With these parameters packet ${chosen.tag} is ${verdict === chosen.verdict ? "also " : ""}`, [done], ".");
 }
 
 // ----- Advise
@@ -950,7 +981,7 @@ async function command(event) {
 const KEYS = [
     ["o", "open a file", () => element("file").click()], ["+", "zoom in", () => zoom(0.5)], ["-", "zoom out", () => zoom(2)], ["0", "the whole time", () => look(whole())],
     ["n", "next packet of the list", () => next(1)], ["p", "previous packet", () => next(-1)], ["/", "search by tag", () => element("tag").focus()],
-    ["w", "what if", () => SLIDERS[0].slider.focus()], [":", "ask with a command", () => element("command").focus()], ["?", "these keys", () => element("keys").showModal()],
+    ["w", "what if", () => SLIDERS[0].number.focus()], [":", "ask with a command", () => element("command").focus()], ["?", "these keys", () => element("keys").showModal()],
     ["Escape", "cancel", () => pool.cancel()],
 ];
 
@@ -979,6 +1010,7 @@ function listen() {
     }
     const buttons = { in: () => zoom(0.5), out: () => zoom(2), back: () => pan(-0.5), on: () => pan(0.5), whole: () => look(whole()), help: () => element("keys").showModal(),
         open: () => element("file").click(), cancel: () => pool.cancel(), more: () => fill(2 * limit), unchanged: forget };
+    new ResizeObserver(() => CHARTS.forEach(({ graph }) => graph?.resize())).observe(element("charts"));
     for (const [id, act] of Object.entries(buttons)) element(id).addEventListener("click", act);
     for (const id of ["tag", "flow", "cause", "lost", "marked", "within"]) element(id).addEventListener("change", () => fill());
     element("tag").addEventListener("keydown", async (event) => {
@@ -1003,8 +1035,7 @@ function listen() {
 function forget() {
     other = null;
     sliderValues();
-    element("columns").replaceChildren();
-    element("deciding").textContent = "";
+    for (const id of ["columns", "deciding", "fate"]) element(id).replaceChildren();
     CHARTS.slice(0, 2).forEach((it) => it.graph && drawChart(it));
 }
 

@@ -269,6 +269,9 @@ class Chromium:
     def shot(self):
         return base64.b64decode(self.driver.execute_cdp_cmd("Page.captureScreenshot", {"captureBeyondViewport": True})["data"])
 
+    def act(self, sources):
+        self.driver.execute("actions", {"actions": sources})
+
     def console(self):
         return self.driver.get_log("browser")
 
@@ -287,7 +290,11 @@ class Firefox:
         with socket.socket() as free:
             free.bind(("127.0.0.1", 0))
             port = free.getsockname()[1]
-        names = {"marionette.port": port, "datareporting.policy.dataSubmissionEnabled": False, "app.update.enabled": False, "browser.shell.checkDefaultBrowser": False}
+        names = {"marionette.port": port, "datareporting.policy.dataSubmissionEnabled": False, "app.update.enabled": False, "browser.shell.checkDefaultBrowser": False,
+                 "toolkit.legacyUserProfileCustomizations.stylesheets": True}
+        # (a window narrower than Firefox's own least width)
+        (profile / "chrome").mkdir()
+        (profile / "chrome/userChrome.css").write_text(":root { min-width: 0 !important; }")
         (profile / "user.js").write_text("".join(f"user_pref({json.dumps(key)}, {json.dumps(value)});\n" for key, value in names.items()))
         words = [shutil.which("firefox-esr") or shutil.which("firefox"), "--headless", "--marionette", "--no-remote", "--profile", str(profile)]
         self.process = subprocess.Popen(words, stdout=subprocess.DEVNULL, stderr=subprocess.DEVNULL, env={**os.environ, "HOME": str(work), "MOZ_HEADLESS_WIDTH": "1280", "MOZ_HEADLESS_HEIGHT": "900"})
@@ -331,6 +338,9 @@ class Firefox:
     def shot(self):
         return base64.b64decode(self.send("WebDriver:TakeScreenshot", {"full": True}))
 
+    def act(self, sources):
+        self.send("WebDriver:PerformActions", {"actions": sources})
+
     def console(self):
         return []
 
@@ -365,6 +375,9 @@ for (const [words, input] of commands) {
 return found;"""
 
 
+NAMED = {"Enter": "\ue007", "Tab": "\ue004", "Backspace": "\ue003"}
+
+
 def number(text):
     """Returns the digits of a number in a page."""
     return re.sub(r"[, ]|ms$", "", text)
@@ -372,8 +385,8 @@ def number(text):
 
 class Page:
     def __init__(self, browser, place):
-        self.browser, self.place = browser, place
-        browser.open(place.as_uri())
+        self.browser, self.place_of_file = browser, place.as_uri()
+        browser.open(self.place_of_file)
         self.js("await ready();")
 
     def js(self, script, *words):
@@ -385,6 +398,32 @@ class Page:
 
     def says(self, holds, what):
         check(holds, f"{self.browser.name}: {what}")
+
+    def press(self, *places, kind="mouse", times=1):
+        """Presses a mouse's button or a finger at the first place of the window, moves to the others, and releases."""
+        moves = [{"type": "pointerMove", "duration": 0, "x": round(x), "y": round(y)} for x, y in places]
+        once = [{"type": "pointerDown", "button": 0}, *moves[1:], {"type": "pointerUp", "button": 0}]
+        self.browser.act([{"type": "pointer", "id": kind, "parameters": {"pointerType": kind}, "actions": [moves[0], *(once * times)]}])
+
+    def type(self, *keys):
+        """Presses keys: letters, or names of NAMED."""
+        self.browser.act([{"type": "key", "id": "keys", "actions": [{"type": how, "value": NAMED.get(it, it)} for it in keys for how in ("keyDown", "keyUp")]}])
+
+    def place(self, selector, x=0.5, y=0.5):
+        """Returns a place of an element in the window, after scrolling to it: a share of its width and height, or pixels above 1."""
+        return self.js("""const it = document.querySelector(given[0]); it.scrollIntoView({ block: 'center' });
+            const box = it.getBoundingClientRect(), at = (part, size) => (part > 1 ? part : part * size);
+            return [box.left + at(given[1], box.width), box.top + at(given[2], box.height)];""", selector, x, y)
+
+    def in_chart(self, number, time, y=8):
+        """Returns the place in the window of a time in ms in a chart, by two labels of its axis."""
+        chart = f".chart:nth-child({number + 1})"
+        self.place(f"{chart} .graph")
+        (one, left), (two, right) = self.js("""return [...document.querySelectorAll(`${given[0]} .dygraph-axis-label-x`)].slice(0, 2).map((it) => {
+            const box = it.getBoundingClientRect();
+            return [parseFloat(it.textContent), box.left + box.width / 2];
+        });""", chart)
+        return left + (time - one) * (right - left) / (two - one), self.place(f"{chart} .graph", 0.5, y)[1]
 
     def commands(self, given, asked, wanted):
         packed = {name: base64.b64encode(it).decode() for name, it in given.items()}
@@ -452,13 +491,13 @@ def check_page(page, given):
     # other parameters, from the beginning
     page.js("""await look(whole()); const slider = document.querySelector('#sliders input[name=target]'); slider.value = 5; slider.dispatchEvent(new Event('input'));
         await until(() => element('deciding').textContent.startsWith('decided'));""")
-    columns = {row[0]: row[1:] for row in page.js("return rows('columns')")[1:]}
+    columns = page.js("return Object.fromEntries([...element('columns').querySelectorAll('[data-field]')].map((row) => [row.dataset.field, [...row.children].slice(1).map((it) => it.textContent)]))")
     for line in native(["what-if", "--from", "0", "--target", "5ms", "--csv"], text)[1].decode().splitlines()[1:]:
         name, *values = line.split(",")
-        shown = columns.get(name.replace("_", " "))
+        shown = columns.get(name)
         if shown and name in ("arrivals", "enqueue", "early", "left", "mark"):
             page.says([number(it) for it in shown] == values, f"what if: {name} is {shown}, and not {values}")
-    page.says({"early", "enqueue", "mean wait"} <= set(columns), f"what if: {list(columns)}")
+    page.says({"early", "enqueue", "mean_wait"} <= set(columns), f"what if: {list(columns)}")
     page.says("what if" in page.js("return document.querySelector('.legend').textContent"), "the other curve")
     # advice
     page.js("element('link').requestSubmit(); await until(() => element('advised').textContent !== '');")
@@ -473,6 +512,57 @@ def check_page(page, given):
     page.js("element('charts').focus(); element('charts').dispatchEvent(new KeyboardEvent('keydown', { key: '+', bubbles: true })); await until(() => element('span').textContent !== '');")
     page.js("document.body.dispatchEvent(new KeyboardEvent('keydown', { key: '?', bubbles: true }));")
     page.says(page.js("const open = element('keys').open; element('keys').close(); return open"), "the keys")
+
+
+def check_hands(page, text):
+    """Asks as a new user does, with keys and a pointer: why was packet 200 lost, and what would a target of 5 ms have changed? Returns the seconds of each answer."""
+    page.browser.open(page.place_of_file)
+    begun = time.monotonic()
+    page.js("await ready(); element('example').focus();")
+    page.type(*"over")
+    page.js("await until(() => element('name').textContent === 'overload.history'); await ready();")
+    seconds = [time.monotonic() - begun]
+    page.press(page.place("#tag"))
+    page.type(*"200", "Enter")
+    page.js("await until(() => element('words').textContent.startsWith('event'), 'an explanation');")
+    seconds.append(time.monotonic() - begun)
+    page.says(page.js("return element('words').textContent") == native(["explain", "--tag", "200"], text)[1].decode(), "the words of packet 200, by keys")
+    page.press(page.place("#target"))
+    page.type(*"5", "Enter")
+    page.js("await until(() => element('deciding').textContent.startsWith('decided'));")
+    seconds.append(time.monotonic() - begun)
+    other = native(["what-if", "--from", "0", "--target", "5ms", "-o", "-"], text)[1]
+    verdict = dict(zip(*[it.split(",") for it in native(["explain", "--tag", "200", "--csv"], other)[1].decode().splitlines()[:2]]))["verdict"]
+    found = page.js("return element('fate').textContent")
+    page.says(verdict == "enqueue" and found == "With these parameters packet 200 is queued.", f"packet 200 with a target of 5 ms: {found}, and not {verdict}")
+    # a click on a drop explains it, and one beside it explains nothing
+    page.press(page.place("#unchanged"))
+    page.js("await until(() => element('deciding').textContent === ''); element('words').textContent = '';")
+    at = page.in_chart(3, 265.333333)
+    page.press((at[0] - 40, at[1]))
+    time.sleep(0.5)
+    page.says(page.js("return element('words').textContent") == "", "a click beside a drop explains one")
+    for x, y in ((0, 8), (3, 60)):
+        at = page.in_chart(3, 265.333333, y)
+        page.press((at[0] + x, at[1]))
+        page.js("await until(() => element('words').textContent.startsWith('event 349'), 'the words of a click'); element('words').textContent = '';")
+    # a drag zooms to its ends, and a double click shows the whole time
+    ends = [page.in_chart(0, it, 90) for it in (200, 300)]
+    page.press(ends[0], ((ends[0][0] + ends[1][0]) / 2, ends[0][1]), ends[1])
+    page.js("await until(() => fields().arrivals !== '525', 'a zoom');")
+    wanted = dict(zip(*[it.split(",") for it in native(["explain", "--summary", "--csv", "--from", "200ms", "--to", "300ms"], text)[1].decode().splitlines()]))
+    found = page.js("return fields()")["arrivals"]
+    page.says(abs(int(found) - int(wanted["arrivals"])) <= 4, f"a drag from 200 to 300 ms shows {found} arrivals, and not {wanted['arrivals']}")
+    page.press(page.in_chart(0, 250, 90), times=2)
+    page.js("await until(() => fields().arrivals === '525', 'the whole time');")
+    return seconds
+
+
+def check_touch(page):
+    """Taps on a drop, at a telephone's width."""
+    page.js("await look(whole()); element('words').textContent = '';")
+    page.press(page.in_chart(3, 265.333333), kind="touch")
+    page.js("await until(() => element('words').textContent.startsWith('event 349'), 'the words of a tap');")
 
 
 def check_cancel(page, text):
@@ -526,7 +616,9 @@ def check_widths(page, text):
         page.browser.size(width, height)
         page.js("await new Promise((go) => setTimeout(go, 300)); await look(whole());")
         wide = page.js("return [document.documentElement.scrollWidth, innerWidth]")
-        page.says(wide[0] <= wide[1], f"at {width} pixels the page is {wide[0]} wide")
+        page.says(wide[0] <= wide[1] == width, f"at {width} pixels the page is {wide[0]} wide, in a window of {wide[1]}")
+        if width == 390:
+            check_touch(page)
         if PICTURES:
             Path(PICTURES, f"{page.browser.name}-{width}.png").write_bytes(page.browser.shot())
     page.browser.size(1280, 900)
@@ -548,6 +640,7 @@ def check_browsers(work, wasm, given, wanted, text):
             page = Page(browser, place)
             count = page.commands(given, commands(), wanted)
             check_page(page, given)
+            seconds = check_hands(page, given["overload.history"])
             check_widths(page, given["overload.history"])
             check_cancel(page, text)
             told = browser.console()
@@ -555,7 +648,8 @@ def check_browsers(work, wasm, given, wanted, text):
             attempts = check_policy(page)
         finally:
             browser.close()
-        print(f"{NAME}: {kind.name}: {count} of {len(wanted)} commands as the native program; {len(EXAMPLES)} examples; none of {attempts} kinds of requests left the page")
+        print(f"{NAME}: {kind.name}: {count} of {len(wanted)} commands as the native program; {len(EXAMPLES)} examples; none of {attempts} kinds of requests left the page; "
+              f"answers of a trial after {', '.join(f'{it:.1f}' for it in seconds)} s")
 
 
 def main():

@@ -33,7 +33,7 @@ function bytesOf(id) {
     const letters = atob(element(id).textContent);
     return Uint8Array.from(letters, (letter) => letter.charCodeAt(0));
 }
-const unzipped = (bytes) => new Response(new Blob([bytes]).stream().pipeThrough(new DecompressionStream("gzip")));
+const unzipped = (blob, options) => new Response(blob.stream().pipeThrough(new DecompressionStream("gzip"), options));
 
 // ----- The program: workers that each run one request at a time
 class Cancelled extends Error {}
@@ -294,17 +294,23 @@ function flows(found) {
 const isGzip = (head) => head[0] === 0x1f && head[1] === 0x8b;
 const isXz = (head) => head[0] === 0xfd && head[1] === 0x37 && head[2] === 0x7a;
 
-// Returns the text of a file, unpacked.
+let unpacking = new AbortController();
+
+// Returns the text of a file, unpacked. The browser may keep the unpacked text in a file of its own.
 async function unpacked(blob) {
     const head = new Uint8Array(await blob.slice(0, 3).arrayBuffer());
     if (isXz(head)) throw new Error("this file is compressed by xz, which browsers cannot unpack: unpack it with xz -d");
-    if (!isGzip(head)) return blob;
-    const parts = [];
-    const stream = blob.stream().pipeThrough(new DecompressionStream("gzip")).getReader();
-    for (let part = await stream.read(); !part.done; part = await stream.read()) parts.push(part.value);
-    return new Blob(parts);
+    unpacking = new AbortController();
+    return isGzip(head) ? unzipped(blob, { signal: unpacking.signal }).blob() : blob;
 }
 
+// Ends what runs.
+function cancel() {
+    unpacking.abort(new Cancelled());
+    pool.cancel();
+}
+
+let NONE = {}; // true if the text has no lost packet, and if it has no marked one
 const NOTHING = { from: 0, to: 0 };
 let view = { ...NOTHING }; // the time in the charts, in ms after the first moment
 let opened = 0; // the number of opened texts
@@ -345,7 +351,7 @@ function clear() {
 
 // Opens a file: a history, an excerpt, a trace, or a text of pie-watch. The program decides which.
 async function openText(name, file) {
-    pool.cancel();
+    cancel();
     const number = ++opened;
     clear();
     document.title = `PIE: ${name}`;
@@ -356,12 +362,11 @@ async function openText(name, file) {
         TEXT = { name: name.replace(/\.(gz|gzip)$/i, ""), blob: file, isTrace: false };
         TEXT.blob = await unpacked(file);
         working("deciding every event again");
-        const [audit, summary] = await audited();
-        if (number !== opened) return;
-        finding({ ...audit, out: (await audit.out.text()).trim() });
-        await show(summary);
+        const summary = await audited(number);
+        if (number === opened) await show(summary);
     } catch (why) {
         if (number !== opened) return;
+        if (why instanceof Cancelled && !element("finding").hidden) return;
         const text = why instanceof Cancelled ? "Cancelled." : `${name}: ${why.message}`;
         Object.assign(element("finding"), { hidden: false, className: "bad", textContent: text });
     } finally {
@@ -372,15 +377,21 @@ async function openText(name, file) {
     }
 }
 
-// Returns the answer of an audit, and the summary of all events. A trace is decided first.
-async function audited() {
-    const both = () => Promise.all([ask(about("audit"), { onRead: reading }), ask(about("explain", "--summary", "--csv", "--wall"), { rows: { limit: 1 } })]);
-    const found = await both();
-    if (found[0].status !== 1) return found;
-    const history = await ask(about("run"));
-    if (history.status !== 0) return found;
-    Object.assign(TEXT, { blob: history.out, isTrace: true });
-    return both();
+// Shows the finding of an audit once it is known, and returns the summary of all events. A trace is decided first.
+async function audited(number) {
+    const summed = ask(about("explain", "--summary", "--csv", "--wall"), { rows: { limit: 1 } });
+    summed.catch(() => null); // (if the audit is cancelled first)
+    const audit = await ask(about("audit"), { onRead: reading });
+    if (audit.status === 1 && !TEXT.isTrace) {
+        const history = await ask(about("run"));
+        if (history.status === 0) {
+            Object.assign(TEXT, { blob: history.out, isTrace: true });
+            return audited(number);
+        }
+    }
+    const out = (await audit.out.text()).trim();
+    if (number === opened) finding({ ...audit, out });
+    return summed;
 }
 
 // Shows the whole of a text that has events.
@@ -396,9 +407,10 @@ async function show(summary) {
     view = { ...whole() };
     const part = asked(whole());
     working("drawing");
-    await Promise.all([look(part, isWhole(part) ? sum : null), fill()]);
-    const found = await ask(about("explain", "--flows", "10", "--csv"), { rows: MANY });
-    flows(objects(found.rows));
+    const none = ["early", "bytes", "packets"].every((name) => sum[name] === "0");
+    NONE = { lost: none, marked: sum.mark === "0" };
+    const shared = ask(about("explain", "--flows", "10", "--csv"), { rows: MANY });
+    await Promise.all([look(part, isWhole(part) ? sum : null), fill(), shared.then(({ rows }) => flows(objects(rows)))]);
 }
 
 // ----- The time in the charts
@@ -434,6 +446,7 @@ function placed(rows, length) {
 
 // Shows this time: its charts at once by the points there are, then finer ones, and its sums.
 async function look(part, sum = null) {
+    clearTimeout(waiting);
     const span = Math.min(Math.max(part.to - part.from, 1e-3), whole().to);
     const from = Math.min(Math.max(part.from, 0), whole().to - span);
     view = { from, to: from + span };
@@ -715,7 +728,7 @@ async function fill(more = 500) {
     let match = cause ? { column: "cause", value: cause } : undefined;
     if (flow) match = /^(0x[0-9a-f]{1,8}|\d{1,10})$/i.test(flow) ? { column: "tag", flow: Number(flow) } : { column: "tag", value: "none" };
     if (tag) match = { column: "tag", value: tag };
-    const which = ["lost", "marked"].filter((id) => element(id).checked);
+    const which = ["lost", "marked"].filter((id) => element(id).checked && !NONE[id]);
     try {
         const found = await Promise.all(which.map((it) => ask(about("explain", `--${it}`, "--csv", ...times), { group: it, rows: { limit, match } })));
         const both = found.flatMap(({ rows }) => objects(rows)).filter((it) => (!cause || it.cause === cause) && (!tag || it.tag === tag));
@@ -982,7 +995,7 @@ const KEYS = [
     ["o", "open a file", () => element("file").click()], ["+", "zoom in", () => zoom(0.5)], ["-", "zoom out", () => zoom(2)], ["0", "the whole time", () => look(whole())],
     ["n", "next packet of the list", () => next(1)], ["p", "previous packet", () => next(-1)], ["/", "search by tag", () => element("tag").focus()],
     ["w", "what if", () => SLIDERS[0].number.focus()], [":", "ask with a command", () => element("command").focus()], ["?", "these keys", () => element("keys").showModal()],
-    ["Escape", "cancel", () => pool.cancel()],
+    ["Escape", "cancel", cancel],
 ];
 
 function chartKey(event) {
@@ -1009,7 +1022,7 @@ function listen() {
         add(row, "td", text);
     }
     const buttons = { in: () => zoom(0.5), out: () => zoom(2), back: () => pan(-0.5), on: () => pan(0.5), whole: () => look(whole()), help: () => element("keys").showModal(),
-        open: () => element("file").click(), cancel: () => pool.cancel(), more: () => fill(2 * limit), unchanged: forget };
+        open: () => element("file").click(), cancel, more: () => fill(2 * limit), unchanged: forget };
     new ResizeObserver(() => CHARTS.forEach(({ graph }) => graph?.resize())).observe(element("charts"));
     for (const [id, act] of Object.entries(buttons)) element(id).addEventListener("click", act);
     for (const id of ["tag", "flow", "cause", "lost", "marked", "within"]) element(id).addEventListener("change", () => fill());
@@ -1042,11 +1055,11 @@ function forget() {
 // Opens the history inside this file, which pie-report puts here, or waits for one.
 async function begin() {
     const source = URL.createObjectURL(new Blob([element("engine").textContent], { type: "text/javascript" }));
-    pool = new Pool(2, source);
-    pool.program = await WebAssembly.compile(await unzipped(bytesOf("module")).arrayBuffer());
+    pool = new Pool(3, source);
+    pool.program = await WebAssembly.compile(await unzipped(new Blob([bytesOf("module")])).arrayBuffer());
     makeSliders();
     listen();
-    const examples = await unzipped(bytesOf("examples")).json();
+    const examples = await unzipped(new Blob([bytesOf("examples")])).json();
     for (const name of Object.keys(examples)) add(element("example"), "option", name, { value: name });
     element("example").addEventListener("change", ({ target }) => target.value && openText(target.value, new Blob([examples[target.value]])));
     const version = await ask(["--version"], { files: {} });

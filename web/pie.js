@@ -14,11 +14,13 @@ export class Exit {
 /** Returns a function that returns at most `room` bytes of a source from `at` on. A Blob is read in blocks, by a worker. */
 function reader(source) {
     if (source instanceof Uint8Array) return (at, room) => source.subarray(at, at + room);
-    const files = new FileReaderSync();
+    const files = new FileReaderSync(), { port1: away, port2: closed } = new MessageChannel();
+    closed.close();
     let from = 0, block = new Uint8Array(0);
     return (at, room) => {
         if (at < from || at >= from + block.length) {
             from = at;
+            away.postMessage(null, [block.buffer]); // (frees the last block now: a collector would keep some hundred of them)
             block = new Uint8Array(files.readAsArrayBuffer(source.slice(at, at + BLOCK)));
         }
         return block.subarray(at - from, at - from + room);

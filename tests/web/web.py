@@ -272,6 +272,26 @@ class Chromium:
     def act(self, sources):
         self.driver.execute("actions", {"actions": sources})
 
+    def schemes(self):
+        """Yields the colour schemes, each once it is set."""
+        for scheme in ("dark", "light"):
+            self.driver.execute_cdp_cmd("Emulation.setEmulatedMedia", {"features": [{"name": "prefers-color-scheme", "value": scheme}]})
+            yield scheme
+
+    def check_alone(self, page):
+        """Checks the names that the browser gives to controls, and the page without scripts."""
+        nodes = self.driver.execute_cdp_cmd("Accessibility.getFullAXTree", {})["nodes"]
+        named = [it for it in nodes if not it.get("ignored") and {"name": "focusable", "value": {"type": "booleanOrUndefined", "value": True}} in it.get("properties", [])]
+        silent = [it["role"]["value"] for it in named if not it.get("name", {}).get("value") and it["role"]["value"] != "RootWebArea"]
+        page.says(len(named) > 30 and not silent, f"controls without a name: {silent} of {len(named)}")
+        self.driver.execute_cdp_cmd("Emulation.setScriptExecutionDisabled", {"value": True})
+        self.open(page.place_of_file)
+        shown = [it["name"]["value"] for it in self.driver.execute_cdp_cmd("Accessibility.getFullAXTree", {})["nodes"] if it.get("name")]
+        page.says(any("needs JavaScript and WebAssembly" in it for it in shown), f"without scripts the page says {shown[:12]}")
+        self.driver.execute_cdp_cmd("Emulation.setScriptExecutionDisabled", {"value": False})
+        self.open(page.place_of_file)
+        page.js("await ready();")
+
     def console(self):
         return self.driver.get_log("browser")
 
@@ -340,6 +360,12 @@ class Firefox:
 
     def act(self, sources):
         self.send("WebDriver:PerformActions", {"actions": sources})
+
+    def schemes(self):
+        return ["light"]
+
+    def check_alone(self, page):
+        pass
 
     def console(self):
         return []
@@ -565,6 +591,58 @@ def check_touch(page):
     page.js("await until(() => element('words').textContent.startsWith('event 349'), 'the words of a tap');")
 
 
+ACCESS = """const shown = (it) => it.checkVisibility({ visibilityProperty: true }) && it.getClientRects().length > 0;
+const parts = (text) => { const made = text.match(/[\\d.]+/g).map(Number); return made.length < 4 ? [...made, 1] : made; };
+const over = (top, below) => [0, 1, 2].map((at) => top[at] * top[3] + below[at] * (1 - top[3]));
+const light = (color) => color.map((it) => it / 255).map((it) => (it <= 0.03928 ? it / 12.92 : ((it + 0.055) / 1.055) ** 2.4)).reduce((sum, it, at) => sum + it * [0.2126, 0.7152, 0.0722][at], 0);
+const behind = (it) => { const color = it ? parts(getComputedStyle(it).backgroundColor) : [...given[0], 1]; return color[3] === 1 ? color.slice(0, 3) : over(color, behind(it.parentElement)); };
+const problems = [];
+const compared = (what, it, color, style) => {
+    const below = behind(it), [one, two] = [light(over(parts(color), below)), light(below)].sort((a, b) => b - a);
+    const isLarge = parseFloat(style.fontSize) >= 24 || (parseFloat(style.fontSize) >= 18.66 && style.fontWeight >= 700);
+    if ((one + 0.05) / (two + 0.05) < (isLarge ? 3 : 4.5)) problems.push(`${what}: a contrast of ${((one + 0.05) / (two + 0.05)).toFixed(2)}`);
+};
+const texts = document.createTreeWalker(document.body, NodeFilter.SHOW_TEXT);
+let count = 0;
+for (let text = texts.nextNode(); text; text = texts.nextNode()) {
+    const it = text.parentElement;
+    if (!text.data.trim() || !shown(it)) continue;
+    count++;
+    compared(text.data.trim().slice(0, 30), it, getComputedStyle(it).color, getComputedStyle(it));
+}
+const controls = [...document.querySelectorAll("button, input, select, textarea, a[href], [tabindex='0']")].filter((it) => shown(it) && !it.disabled);
+for (const it of controls) {
+    if (it.placeholder) compared(`${it.id}: ${it.placeholder}`, it, getComputedStyle(it, "::placeholder").color, getComputedStyle(it));
+    const labels = [...(it.labels ?? [])].map((label) => label.textContent).join("");
+    const isText = it.matches("button, a");
+    if (!(it.getAttribute("aria-label") || labels.trim() || (isText && it.textContent.trim()))) problems.push(`${it.outerHTML.slice(0, 60)} has no name`);
+    if (!it.matches("button, input, select, textarea, a") && !it.getAttribute("role") && !it.matches("pre")) problems.push(`${it.outerHTML.slice(0, 60)} has no role`);
+}
+if (document.getAnimations().length > 0) problems.push("something moves");
+const ids = [...document.querySelectorAll("[id]")].map((it) => it.id);
+if (new Set(ids).size !== ids.length) problems.push("an id occurs twice");
+window.focused = [];
+document.addEventListener("focusin", ({ target }) => focused.push([target, target.matches(":focus-visible"), getComputedStyle(target).outlineStyle, parseFloat(getComputedStyle(target).outlineWidth)]));
+window.reached = () => [controls.filter((it) => !focused.some(([target]) => target === it)).map((it) => it.outerHTML.slice(0, 80)),
+    focused.filter(([, isVisible, style, width]) => !isVisible || style === "none" || width < 2).map(([it]) => it.outerHTML.slice(0, 80))];
+return [count, controls.length, problems];"""
+
+
+def check_access(page, text):
+    """Checks contrasts, names and roles, that each control is reached by the key Tab and shows it, and that a page without scripts says what is needed."""
+    page.show("burst.history", text)
+    page.js("element('link').requestSubmit(); element('list').tBodies[0].rows[0]?.click(); element('target').value = 5; element('target').dispatchEvent(new Event('change')); "
+            "await until(() => element('advised').textContent !== '' && element('deciding').textContent.startsWith('decided')); document.activeElement.blur();")
+    for scheme in page.browser.schemes():
+        count, controls, problems = page.js(ACCESS, [255, 255, 255]) or (0, 0, ["no answer"])
+        page.says(not problems and count > 100, f"{scheme}: {problems[:8]} of {count} texts and {controls} controls")
+    page.type(*["Tab"] * (controls + 12))
+    missing, plain = page.js("return reached();")
+    page.says(not missing, f"the key Tab does not reach {missing[:5]}")
+    page.says(not plain, f"no visible focus: {plain[:5]}")
+    page.browser.check_alone(page)
+
+
 def check_cancel(page, text):
     """Cancels a request about many events. The next text must be shown."""
     found = page.js("""const opening = openText('large', blobOf(given[0])); await until(() => !element('working').hidden && element('doing').textContent.startsWith('deciding'));
@@ -642,6 +720,7 @@ def check_browsers(work, wasm, given, wanted, text):
             check_page(page, given)
             seconds = check_hands(page, given["overload.history"])
             check_widths(page, given["overload.history"])
+            check_access(page, given["burst.history"])
             check_cancel(page, text)
             told = browser.console()
             page.says(not told, f"on its console: {told}")

@@ -1,18 +1,17 @@
 #!/usr/bin/env bash
 # Downloads Debian's kernel headers for another processor, and for aarch64 also its kernel and the programs that boot.sh
-# runs in it; or the kernel 6.12 of Debian 12's backports, or 7.3 of Debian 13's, with its headers. It unpacks them to a folder. apt uses lists and a state of its own, so the packages and the architectures
+# runs in it; or the kernel 6.12 of Debian 12's backports, with its headers. It unpacks them to a folder. apt uses lists and a state of its own, so the packages and the architectures
 # of this machine stay as they are. Debian 12 has no packages for riscv64, so these headers are Debian 13's, with the
 # programs of kbuild that Debian 12 has in its backports. The archive is that of apt's own sources.
 #
-# usage: bindings/kernel/packages.sh aarch64|riscv64|6.12|7.3 [FOLDER]      FOLDER: build/debian-aarch64 and so on
+# usage: bindings/kernel/packages.sh aarch64|riscv64|6.12 [FOLDER]      FOLDER: build/debian-aarch64 and so on
 set -eu
 . "$(dirname "$0")/../../tests/shared/apt_uri.sh"
 case ${1-} in
     aarch64) debian=arm64 sources='' ;;
     riscv64) debian=riscv64 sources='trixie bookworm-backports' ;;
     6.12) debian=amd64 sources=bookworm-backports ;;
-    7.3) debian=amd64 sources=trixie-backports ;;
-    *) echo "usage: bindings/kernel/packages.sh aarch64|riscv64|6.12|7.3 [FOLDER]" >&2 && exit 2 ;;
+    *) echo "usage: bindings/kernel/packages.sh aarch64|riscv64|6.12 [FOLDER]" >&2 && exit 2 ;;
 esac
 folder=$(realpath -m "${2:-$(dirname "$0")/../../build/debian-$1}")
 here=$(dpkg --print-architecture)
@@ -41,14 +40,14 @@ depends() {
 }
 {
     apt-get --quiet update
-    headers=$(depends "linux-headers-$debian" | grep '^linux-headers')
+    headers=$(depends "linux-headers-$debian")
     kbuild=$(depends "$headers" | grep '^linux-kbuild')
     runs=$kbuild
     [ $debian != riscv64 ] || runs=$(apt-cache search --names-only "^${kbuild%%.[0-9]*+*}.*+deb12$" | cut -d' ' -f1 | sort -V | tail -n 1)
     cd "$work/archives"
     # (the programs of kbuild run on this machine)
     apt-get --quiet download "$headers" "${headers%-"$debian"}-common" "$runs:$here"
-    [ $debian = riscv64 ] || apt-get --quiet download "$(depends "linux-image-$debian" | grep '^linux-image')"
+    [ $debian = riscv64 ] || apt-get --quiet download "$(depends "linux-image-$debian")"
     if [ $debian = arm64 ]; then
         apt-get --quiet --yes --no-install-recommends --download-only install busybox-static iproute2 iperf3
     fi

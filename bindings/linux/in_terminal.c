@@ -1,5 +1,5 @@
-/* Runs a program in a terminal of 24 lines and 80 columns, for summed_init.sh: in_terminal SECONDS KEYS PROGRAM [WORD..]. One of KEYS is typed each second after
- * SECONDS; `~` is Enter. All output of the program is written to standard output. */
+/* Runs a program in a terminal of 24 lines and 80 columns, for summed_init.sh: in_terminal SECONDS KEYS PROGRAM [WORD..]. One of KEYS is typed each second,
+ * SECONDS after the first output; `~` is Enter, and `.` a second without a key. All output of the program is written to standard output. */
 #include <pty.h>
 #include <poll.h>
 #include <stdio.h>
@@ -13,11 +13,10 @@ int main(int count, char **words) {
     const char *keys = count > 3 ? words[2] : "";
     char bytes[4096];
     int terminal, status = 1;
-    time_t next;
+    time_t next = 0;
     pid_t child;
     if (count < 4)
         return 2;
-    next = time(NULL) + atoi(words[1]);
     child = forkpty(&terminal, NULL, NULL, &size);
     if (child == 0) {
         setenv("TERM", "vt100", 1);
@@ -30,9 +29,11 @@ int main(int count, char **words) {
         if (got < 0)
             break;
         fwrite(bytes, 1, (size_t)got, stdout);
-        if (*keys != '\0' && time(NULL) >= next) {
+        if (got > 0 && next == 0)
+            next = time(NULL) + atoi(words[1]);
+        if (*keys != '\0' && next != 0 && time(NULL) >= next) {
             next = time(NULL) + 1;
-            if (write(terminal, *keys == '~' ? "\r" : keys, 1) != 1)
+            if (*keys != '.' && write(terminal, *keys == '~' ? "\r" : keys, 1) != 1)
                 break;
             keys++;
         }

@@ -244,6 +244,9 @@ static int write_text(const struct options *options) {
     if (!close_output(&output))
         fail("the output is not complete: ", strerror(errno));
     u64 lost = text.lost + text.missing;
+    if (lost != 0)
+        fprintf(stderr, PROGRAM ": %s: %llu steps were lost, in which the kernel dropped %llu packets\n", options->steps, (unsigned long long)lost,
+                (unsigned long long)text.dropped);
     watch_text_end(&text);
     return lost != 0 || read != 0 ? 2 : 0;
 }
@@ -413,6 +416,8 @@ static int report(const struct recording *recording) {
     unsigned queues = recording->bpf->bss->queues_seen, queues_missed = recording->bpf->bss->queues_missed;
     fprintf(stderr, PROGRAM ": %u queue%s, %llu steps, %llu lost\n", queues, queues == 1 ? "" : "s", (unsigned long long)text->steps,
             (unsigned long long)lost);
+    if (text->dropped != 0)
+        fprintf(stderr, PROGRAM ": the kernel dropped %llu packets in lost steps, before others of the same queue\n", (unsigned long long)text->dropped);
     if (missing != 0)
         fprintf(stderr, PROGRAM ": %llu steps are missing without a row; please report this\n", (unsigned long long)missing);
     if (queues_missed != 0)

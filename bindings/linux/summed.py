@@ -113,8 +113,8 @@ def screen(path):
     return re.sub(r"\x1b[\[(][0-9;?]*[A-Za-z0-9]?|\x1b[=>78]|\x0f|\x0e", " ", path.read_text(errors="replace"))
 
 
-def main():
-    folder, leaves = Path(sys.argv[1]), int(sys.argv[2])
+def compare_few(folder):
+    """Compares the modes beside queues that are created and removed."""
     drops = Drops(folder / "drops.csv")
     expect("created queues", len(drops.counts), 3)
     names = ["running", "limit", "last"]
@@ -155,19 +155,29 @@ def main():
     for part in ("DEVICE", "rb", "1:1", "by wait", "by drops", "limit: 25 of 25 packets", "10.0.2.9", "AGO"):
         expect(f"top shows {part}", part in text, True)
 
+
+def compare_many(folder, leaves):
+    """Compares the metrics of two devices with many leaves."""
+    values = metrics(folder / "many.metrics")
+    told = {(prefix + device, parent): it for name, prefix in (("r", ""), ("b", "b/"))
+            for (device, parent), it in queues(folder / f"many_{name}.json").items()}
+    expect("queues", values["pie_host_queues"], 2 * leaves)
+    used = 0
+    for (link, parent), it in told.items():
+        if it["pkts_in"]:
+            compare_metrics(values, link, parent, "", it)
+            used += 1
+    compare_host("many", values)
+    print(f"  {len(told)} queues, {used} with traffic, {sum(it['pkts_in'] for it in told.values())} packets, "
+          f"{sum(it['dropped'] for it in told.values())} dropped; lost events {json.loads((folder / 'many_health.json').read_text())}")
+
+
+def main():
+    folder, leaves = Path(sys.argv[1]), int(sys.argv[2])
     if leaves:
-        values = metrics(folder / "many.metrics")
-        told = {(prefix + device, parent): it for name, prefix in (("r", ""), ("b", "b/"))
-                for (device, parent), it in queues(folder / f"many_{name}.json").items()}
-        expect("queues", values["pie_host_queues"], 2 * leaves)
-        used = 0
-        for (link, parent), it in told.items():
-            if it["pkts_in"]:
-                compare_metrics(values, link, parent, "", it)
-                used += 1
-        compare_host("many", values)
-        print(f"  {len(told)} queues, {used} with traffic, {sum(it['pkts_in'] for it in told.values())} packets, "
-              f"{sum(it['dropped'] for it in told.values())} dropped; lost events {json.loads((folder / 'many_health.json').read_text())}")
+        compare_many(folder, leaves)
+    else:
+        compare_few(folder)
     for fault in faults[:20]:
         print(f"DIFFERENT: {fault}")
     sys.exit(bool(faults))

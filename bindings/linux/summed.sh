@@ -1,8 +1,10 @@
 #!/usr/bin/env bash
 # Boots a kernel of Debian under qemu with two processors, and sums its queues in the kernel (summed_init.sh): `pie-watch --drops`, `serve` and `top` beside
 # queues of pie and fq_pie that work, are created and removed, in two network namespaces. summed.py compares the rows and metrics with the counters of tc.
-# With LEAVES, as many pie leaves below htb on each of two devices in two namespaces are served too, with traffic to 500 of them: it prints the memory and
-# the time of a scrape. It takes two minutes of a processor, and with 5000 leaves ten.
+# It takes two minutes of a processor.
+#
+# With LEAVES, as many pie leaves below htb on each of two devices in two namespaces are served instead, with traffic to 500 of them: it prints the memory
+# and the time of a scrape. (Their tupdate is 500 ms: the emulated processor has no time for the kernel's timers at the default.)
 #
 # ROOT and HEADERS are those of boot.sh; --kernel 6.12 or 7.3 boots that kernel of Debian
 # needs: a request
@@ -11,13 +13,9 @@
 set -eu
 cd "$(dirname "$0")/../.."
 me=bindings/linux/summed.sh
-if [ "${1-}" = --kernel ]; then
-    version=${2:?}
-    shift 2
-    [ $# != 0 ] || set -- "$PWD/build/debian-$version"
-    [ -e "$1" ] || bindings/kernel/packages.sh "$version" "$1"
-    HEADERS=${HEADERS:-$1/usr/src}
-fi
+# shellcheck source=kernel.sh
+. bindings/linux/kernel.sh "$@"
+set -- ${root_of:+"$root_of"}
 for program in clang bpftool; do
     PATH=$PATH:/usr/sbin command -v $program > /dev/null || { echo "NOT RUN: $me: no $program here (bindings/linux/install.sh)"; exit 0; }
 done

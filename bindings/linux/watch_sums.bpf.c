@@ -11,6 +11,8 @@
 
 #include "watch_sums.h"
 
+#define MARKS 4096 /* a power of two */
+
 char LICENSE[] SEC("license") = "Dual MIT/GPL";
 
 /* The program in user space sets these before it loads the programs. */
@@ -27,6 +29,7 @@ u32 slice;          /* the number of readings */
 struct sums_counts gone; /* of removed queues */
 u64 gone_waits[SUMS_WAITS];
 u32 gone_number;
+u64 marks[MARKS]; /* a part of a queue's key, and its counter of marks at the last packet */
 
 struct {
     __uint(type, BPF_MAP_TYPE_HASH);
@@ -220,25 +223,20 @@ int BPF_PROG(fq_pie_leaves, struct Qdisc *sch) {
 
 /* ---- departures */
 
-/* Returns the bucket of a wait. */
+/* Returns the bucket of a wait. Short waits need few instructions. */
 static __always_inline u32 bucket_of(u64 ticks) {
-    u64 rest = ((ticks << 6) - (ticks != 0)) / SUMS_FIRST;
-    u32 bucket = 0;
-    if (rest >= 1 << (SUMS_WAITS - 2))
-        return SUMS_WAITS - 1;
-    if (rest >= 256) {
-        bucket += 8;
-        rest >>= 8;
+    u64 ns = ticks << 6;
+#pragma clang loop unroll(full)
+    for (u32 i = 0; i < SUMS_WAITS - 1; i++) {
+        if (ns <= (u64)SUMS_FIRST << i)
+            return i;
     }
-    if (rest >= 16) {
-        bucket += 4;
-        rest >>= 4;
-    }
-    if (rest >= 4) {
-        bucket += 2;
-        rest >>= 2;
-    }
-    return bucket + (rest >= 2) + (rest >= 1);
+    return SUMS_WAITS - 1;
+}
+
+/* Returns the moment at which the kernel enqueued a packet. (With the address as a number, the compiler knows no alignment, and would load it in parts.) */
+static __always_inline u64 enqueued_at(struct sk_buff *skb) {
+    return *(u64 *)((void *)skb->cb + OFFSET(qdisc_skb_cb, data) + OFFSET(pie_skb_cb, enqueue_time));
 }
 
 /* With the rate estimator the kernel keeps no time of the enqueue, so that the wait is the estimated delay. */
@@ -246,14 +244,12 @@ SEC("fexit/pie_process_dequeue")
 int BPF_PROG(sums_departure, struct sk_buff *skb, struct pie_params *params, struct pie_vars *vars) {
     u64 key = (u64)params, wait;
     struct sums_queue *queue = bpf_map_lookup_elem(&sums, &key);
-    struct qdisc_skb_cb *cb;
     u32 bucket;
     if (queue == NULL)
         return 0;
-    cb = (struct qdisc_skb_cb *)skb->cb;
-    wait = params->dq_rate_estimator ? vars->qdelay : vars->dq_tstamp - ((struct pie_skb_cb *)cb->data)->enqueue_time;
+    wait = params->dq_rate_estimator ? vars->qdelay : vars->dq_tstamp - enqueued_at(skb);
     queue->counts.departed++;
-    queue->counts.departed_bytes += cb->pkt_len;
+    queue->counts.departed_bytes += ((struct qdisc_skb_cb *)skb->cb)->pkt_len;
     queue->counts.waited += wait;
     bucket = bucket_of(wait);
     if (bucket < SUMS_WAITS)
@@ -364,11 +360,22 @@ static __always_inline void tell_packet(u64 key, struct sums_queue *queue, struc
     end_event(event);
 }
 
+/* Returns false if the queue's counter of marks is the one of its last packet, as far as `marks` has it. A search in the map would need ten times the
+ * instructions. */
+static __always_inline bool may_be_marked(u64 key, u32 marked) {
+    u64 last = (u64)(u32)(key >> 3) << 32 | marked;
+    u64 *at = &marks[(u32)(key >> 3) * 0x9e3779b1u >> 20 & (MARKS - 1)];
+    if (*at == last)
+        return false;
+    *at = last;
+    return true;
+}
+
 SEC("fexit/pie_qdisc_enqueue")
 int BPF_PROG(pie_arrival, struct sk_buff *skb, struct Qdisc *sch, struct sk_buff **to_free, int ret) {
     struct sums_queue *queue;
     u64 key = PIE_KEY(sch);
-    if (ret == 0 && !PIE_OF(sch)->params.ecn)
+    if (ret == 0 && (!PIE_OF(sch)->params.ecn || !may_be_marked(key, PIE_OF(sch)->stats.ecn_mark)))
         return 0;
     queue = bpf_map_lookup_elem(&sums, &key);
     if (queue == NULL)
@@ -386,7 +393,7 @@ SEC("fexit/fq_pie_qdisc_enqueue")
 int BPF_PROG(fq_pie_arrival, struct sk_buff *skb, struct Qdisc *sch, struct sk_buff **to_free, int ret) {
     struct sums_queue *queue;
     u64 key = FQ_PIE_KEY(sch);
-    if (ret == 0 && !FQ_PIE_OF(sch)->p_params.ecn)
+    if (ret == 0 && (!FQ_PIE_OF(sch)->p_params.ecn || !may_be_marked(key, FQ_PIE_OF(sch)->stats.ecn_mark)))
         return 0;
     queue = bpf_map_lookup_elem(&sums, &key);
     if (queue == NULL)

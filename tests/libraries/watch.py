@@ -10,10 +10,12 @@ watch_made.c. bindings/linux/summed.sh compares them with the kernel's queues.
 - The screen in tmux at 80 by 24: orders, filter, last drops with their causes, an empty page, and 10,000 queues.
 - Each row of --drops has each column.
 
-With --mutants, each wrong line of watch_mutants.txt must be noticed.
+With --mutants, each wrong line of watch_mutants.txt must be noticed; FIRST is the number of the first one.
 
-usage: tests/libraries/watch.py [--mutants]
+usage: tests/libraries/watch.py [--mutants [FIRST]]
 needs: nothing"""
+import calendar
+import contextlib
 import csv
 import http.client
 import json
@@ -77,13 +79,16 @@ class Server:
     def __enter__(self):
         return self
 
-    def __exit__(self, *_):
+    def __exit__(self, kind, *_):
+        children = Path(f"/proc/{self.process.pid}/task/{self.process.pid}/children").read_text().split()
         self.process.send_signal(signal.SIGTERM)
-        try:
+        with contextlib.suppress(subprocess.TimeoutExpired):
             self.process.wait(PATIENCE)
-        except subprocess.TimeoutExpired:
+        if self.process.poll() is None:
             self.process.kill()
-            if sys.exc_info()[0] is None:
+            for child in children:
+                os.kill(int(child), signal.SIGKILL)
+            if kind is None:
                 fault("the server does not end")
 
     def get(self, path, method="GET"):
@@ -365,8 +370,8 @@ def check_drops(program, work):
     expect("sums", [rows[7][it] for it in ("arrived", "early", "over", "marked", "departed", "departed_bytes", "waited_ms", "packets", "limit", "size")],
            ["2000000", "200000", "50000", "0", "1749998", "1749998000", "5687493.500", "2", "1000", ""])
     now = time.time()
-    begun = [time.mktime(time.strptime(row["time"].split(".")[0], "%Y-%m-%dT%H:%M:%S")) - time.timezone for row in rows if row["event"] == "sums"][-1]
-    expect("wall-clock time", abs(now - begun) < 60, True)
+    offsets = {round((calendar.timegm(time.strptime(row["time"].split(".")[0], "%Y-%m-%dT%H:%M:%S")) - int(row["ns"]) / 1e9) / 10) for row in rows}
+    expect("wall-clock time", offsets <= {round((now - time.monotonic()) / 10) + it for it in (-1, 0, 1)}, True)
     moments = [int(row["ns"]) for row in rows[:7]]
     expect("moments", moments, [4 * 10**9] + [5 * 10**9] * 5 + [6 * 10**9])
     expect("a file that exists", subprocess.run([program, "drops", file], capture_output=True, timeout=PATIENCE).returncode, 1)
@@ -398,13 +403,15 @@ def check(planted=None):
             check_drops(program, work)
             check_server(program, work)
             check_screen(program, work)
-        except Noticed:
-            pass
+        except (Noticed, subprocess.TimeoutExpired) as found:
+            if not is_planted:
+                raise
+            faults.append(str(found))
     return list(faults)
 
 
-def mutants():
-    """Plants each wrong line, and prints those that are not noticed."""
+def mutants(first=1):
+    """Plants each wrong line from this number on, and prints those that are not noticed."""
     global is_planted, PATIENCE
     is_planted, PATIENCE = True, 12
     missed, number = 0, 0
@@ -412,6 +419,8 @@ def mutants():
         if not line or line.startswith("#"):
             continue
         number += 1
+        if number < first:
+            continue
         file, old, new = line.split("\t")
         with tempfile.TemporaryDirectory() as name:
             text = (LINUX / file).read_text()
@@ -433,8 +442,8 @@ def main():
     with tempfile.TemporaryDirectory() as name:
         global OBJECTS
         OBJECTS = Path(name)
-        if sys.argv[1:] == ["--mutants"]:
-            sys.exit(mutants())
+        if sys.argv[1:2] == ["--mutants"]:
+            sys.exit(mutants(*map(int, sys.argv[2:])))
         for it in check():
             print(f"{ME}: {it}", file=sys.stderr)
     print(f"{ME}: {len(faults)} faults")

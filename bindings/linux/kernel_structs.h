@@ -19,7 +19,7 @@ typedef _Bool bool;
 enum { false, true };
 
 enum bpf_map_type { BPF_MAP_TYPE_HASH = 1, BPF_MAP_TYPE_ARRAY = 2, BPF_MAP_TYPE_RINGBUF = 27 };
-enum { BPF_ANY, BPF_NOEXIST };
+enum { BPF_ANY, BPF_NOEXIST, BPF_F_NO_PREALLOC = 1 };
 enum { BPF_RB_NO_WAKEUP = 1 };
 enum { BPF_RB_AVAIL_DATA, BPF_RB_RING_SIZE };
 
@@ -36,6 +36,7 @@ struct sk_buff {
     u16 mac_len;
     u32 priority;
     u32 hash;
+    u32 mark;
     __be16 protocol;
     u16 network_header;
     u32 tail;
@@ -144,6 +145,20 @@ struct fq_pie_sched_data {
     u32 ecn_prob, flows_cnt, flows_cursor, quantum, memory_limit, new_flow_count, memory_usage, overmemory;
     struct pie_stats stats;
     struct timer_list adapt_timer;
+};
+
+struct seq_file;
+struct bpf_map;
+
+struct bpf_iter_meta {
+    struct seq_file *seq;
+};
+
+struct bpf_iter__bpf_map_elem {
+    struct bpf_iter_meta *meta;
+    struct bpf_map *map;
+    void *key;
+    void *value;
 };
 
 #pragma clang attribute pop

@@ -1,11 +1,11 @@
 #!/usr/bin/env bash
 # Counts instructions of enqueue and dequeue (bindings/kernel/measure/pie_measure.c) of the kernel's own pie and fq_pie, without pie-watch and with it.
 # Under qemu -icount one instruction is one tick of the time stamp counter. Arrivals are in a burst allowance, or considered for an early drop. Prints a
-# table, and fails if an enqueue and a dequeue with pie-watch need more than MOST instructions, or more than MOST_FLOWS if sch_fq_pie is loaded. ROOT and
-# HEADERS are those of boot.sh. It takes a minute of one processor.
+# table, and fails if an enqueue and a dequeue with pie-watch need more than MOST instructions, more than MOST_FLOWS if sch_fq_pie is loaded, or more than
+# MOST_SUMS with --drops or serve. ROOT and HEADERS are those of boot.sh. It takes a minute of one processor.
 # needs: a request
 #
-# usage: [MOST=2300] [MOST_FLOWS=2750] [HEADERS=folder] [KEEP=folder for all files] bindings/linux/measure.sh [ROOT]
+# usage: [MOST=2300] [MOST_FLOWS=2750] [MOST_SUMS=1200] [HEADERS=folder] [KEEP=folder for all files] bindings/linux/measure.sh [ROOT]
 set -eu
 cd "$(dirname "$0")/../.."
 me=bindings/linux/measure.sh
@@ -44,6 +44,16 @@ watches both --all --compact -o /dev/null --force
 measured fq_pie_recorded fq_pie ecn
 measured pie_recorded_beside_fq_pie pie ecn
 ends 0
+watches drops --drops --all -o /dev/null --force
+measured pie_drops pie
+measured pie_ecn_drops pie ecn
+measured fq_pie_drops fq_pie ecn
+ends 0
+/bin/ip link set lo up
+/bin/pie-watch serve :9464 2> /tmp/serve.said &
+until $box grep -q '^pie-watch: serving' /tmp/serve.said; do $box sleep 0.2; done
+measured pie_served pie ecn
+$box kill -INT $($box pidof pie-watch)
 $box dmesg | $box grep -o 'COUNT.*'
 echo ended
 $box poweroff -f
@@ -55,4 +65,6 @@ boot "clocksource=tsc tsc=reliable" $SIMULATED
 echo "$me: instructions of enqueue and dequeue, Linux $release"
 grep -E '^TOLD' "$work/console" | tr -d '\r' | sed 's/^TOLD/ /'
 sed -n 's/^COUNT/ /p' "$work/console" | tr -d '\r'
-awk -v most="${MOST:-2300}" -v most_flows="${MOST_FLOWS:-2750}" '/^COUNT .*recorded/ && $5 + $7 > ($2 == "pie_recorded" ? most : most_flows) { print "too many: " $0; bad = 1 } END { exit bad }' "$work/console"
+awk -v most="${MOST:-2300}" -v most_flows="${MOST_FLOWS:-2750}" -v most_sums="${MOST_SUMS:-1200}" '
+    /^COUNT .*(recorded|drops|served)/ && $5 + $7 > ($2 == "pie_recorded" ? most : $2 ~ /recorded/ ? most_flows : most_sums) { print "too many: " $0; bad = 1 }
+    END { exit bad }' "$work/console"

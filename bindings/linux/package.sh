@@ -1,7 +1,8 @@
 #!/usr/bin/env bash
 # Boots an unmodified Debian 12 under qemu with two processors, installs the packages juniperbowls and juniperbowls-watch there by `apt install`, and records
 # the traffic of eth0 through the kernel's own pie and fq_pie (package_init.sh). The installed pie must find each step clean and name the cause of each drop.
-# sums.py compares the steps with the counters of tc. mmdebstrap makes the system; it has iproute2, and so the library that pie-watch needs, and perl and python3, which the package juniperbowls needs.
+# sums.py compares the steps with the counters of tc. mmdebstrap makes the system; it has the libraries that pie-watch needs (iproute2 needs one of
+# them), and perl and python3, which the package juniperbowls needs.
 #
 # --kernel 6.12
 #           boots the kernel of Debian 12's backports, as boot.sh does
@@ -37,7 +38,7 @@ fi
 # shellcheck source=../../tests/shared/apt_uri.sh
 . tests/shared/apt_uri.sh
 archive=$(apt_uri) security=$(apt_uri security)
-mmdebstrap --quiet --mode=root --variant=minbase --include="linux-image-$release,iproute2,iperf3,kmod,perl,python3" \
+mmdebstrap --quiet --mode=root --variant=minbase --include="linux-image-$release,iproute2,iperf3,kmod,perl,python3,libmicrohttpd12,libncursesw6" \
     bookworm "$work/system" "deb $archive bookworm main" "deb $archive bookworm-updates main" "deb $security bookworm-security main" \
     "deb $archive bookworm-backports main" > "$work/system.log" 2>&1 || { cat "$work/system.log" >&2; exit 1; }
 cp "$packages"/juniperbowls_*_amd64.deb "$packages"/juniperbowls-watch_*_amd64.deb "$work/system/root/"

@@ -2,8 +2,12 @@
  * `pie-watch --help` has the options. */
 #define _GNU_SOURCE
 #include "watch_check.h"
+#include "watch_drops.h"
+#include "watch_load.h"
 #include "watch_output.h"
 #include "watch_queue.h"
+#include "watch_serve.h"
+#include "watch_top.h"
 
 #include "pie_watch.skel.h"
 #include "pie.h"
@@ -29,17 +33,21 @@
 #define LEAST_SEGMENT 65536 /* bytes */
 #define MOST_SEGMENT (1ull << 50)
 #define SECOND 1000000000ull /* in nanoseconds */
-#define VERIFIER_COUNTS 4 /* log level: the verifier prints the instructions that it processed */
 
 static const char usage[] =
     "Records each step of the kernel's queue disciplines pie and fq_pie\n"
     "\n"
     "Usage: pie-watch [OPTIONS] DEVICE\n"
     "       pie-watch [OPTIONS] --all\n"
+    "       pie-watch serve [OPTIONS] [ADDRESS]:PORT [DEVICE]\n"
+    "       pie-watch top [OPTIONS] [DEVICE]\n"
     "       pie-watch text [--force] [-o FILE] STEPS\n"
     "\n"
     "Nothing is loaded or changed but BPF programs, which end with pie-watch. A queue is recorded from its creation on, or from its next enqueue; also if its\n"
     "device or the kernel's module comes later. A signal ends the recording (INT, TERM or HUP). `pie-watch text` writes a compact file of steps as text.\n"
+    "\n"
+    "`pie-watch serve :9464` serves the sums of all queues by HTTP, on 127.0.0.1 unless there is an ADDRESS: /metrics for Prometheus, /health and /queues (JSON).\n"
+    "`pie-watch top` shows them in the terminal. The kernel sums; no step leaves it.\n"
     "\n"
     "  -q, --queue HANDLE  Record only the queue with this handle, such as 8001:\n"
     "  -a, --all           Record the queues of all devices of this network namespace\n"
@@ -48,6 +56,12 @@ static const char usage[] =
     "  -e, --rate-estimator\n"
     "                      Read the clock from the beginning, as queues with dq_rate_estimator need it. Otherwise their first steps are lost\n"
     "  -c, --compact       Write compact steps, of which `pie-watch text` makes text\n"
+    "      --drops         Record only dropped and marked packets with the state of their queue, and the sums of each queue at the end, as CSV\n"
+    "      --no-addresses  With --drops, or top: without addresses and ports of packets\n"
+    "      --namespaces    With --drops, serve or top: the queues of all network namespaces\n"
+    "      --labels FILE   With serve or top: labels of queues. A line of FILE is DEVICE CLASS NAME=VALUE .., such as eth0 1:10 subscriber=4711. CLASS * is each\n"
+    "                      class of the device\n"
+    "      --most N        With serve: at most this many queues have metrics of their own, those with the most drops and marks. Default: 1000\n"
     "      --rotate SIZE   Write in segments of this size (64mb), FILE.1, FILE.2 and so on; each can be read alone\n"
     "      --segments N    Keep N segments, and remove older ones. Default: all\n"
     "  -d, --duration SECONDS\n"
@@ -67,15 +81,21 @@ static const char usage[] =
     "are missing.\n";
 
 #define MOST_PROGRAMS 64
+#define SUMS_RING 4 /* MiB, by default */
+
+enum mode { RECORD, TEXT, DROPS, SERVE, TOP };
 
 struct options {
-    const char *device, *output, *steps;
+    enum mode mode;
+    const char *device, *output, *steps, *address, *labels;
+    u64 most;
+    bool has_no_addresses, is_every_namespace;
     unsigned handle, ring, part;
     u64 rotate, segments; /* bytes of a segment, and the number of last ones that are kept; 0: one file, and all */
     u64 duration; /* in seconds; 0: until a signal */
     u64 after;    /* in seconds, from the trigger to the end */
     u64 most_wait; /* the trigger: a packet that waited more nanoseconds than this, or else a dropped one */
-    bool has_trigger, is_drop, is_all, is_compact, is_anyway, is_forced, is_verbose, is_text, has_clock;
+    bool has_trigger, is_drop, is_all, is_compact, is_anyway, is_forced, is_verbose, has_clock;
 };
 
 /* A recording. */
@@ -224,24 +244,14 @@ static int write_text(const struct options *options) {
     if (!close_output(&output))
         fail("the output is not complete: ", strerror(errno));
     u64 lost = text.lost + text.missing;
+    if (lost != 0)
+        fprintf(stderr, PROGRAM ": %s: %llu steps were lost, in which the kernel dropped %llu packets\n", options->steps, (unsigned long long)lost,
+                (unsigned long long)text.dropped);
     watch_text_end(&text);
     return lost != 0 || read != 0 ? 2 : 0;
 }
 
 /* ---- BPF */
-
-static char last_warning[256]; /* of libbpf */
-static bool is_verbose;
-
-static int note_libbpf(enum libbpf_print_level level, const char *format, va_list arguments) {
-    va_list again;
-    va_copy(again, arguments);
-    if (level == LIBBPF_WARN)
-        vsnprintf(last_warning, sizeof last_warning, format, again);
-    va_end(again);
-    last_warning[strcspn(last_warning, "\n")] = '\0';
-    return is_verbose ? vfprintf(stderr, format, arguments) : 0;
-}
 
 /* The programs that only fq_pie needs, those that only the rate estimator needs, and those that serve pie and fq_pie. */
 static bool is_of_fq_pie(const struct bpf_program *program) {
@@ -315,7 +325,7 @@ static struct pie_watch_bpf *open_programs(const struct options *options, bool h
 
 static void load_programs(struct pie_watch_bpf *bpf) {
     if (pie_watch_bpf__load(bpf) != 0) {
-        fprintf(stderr, PROGRAM ": the kernel refuses the BPF programs: %s (%s)\n", strerror(errno), last_warning);
+        fprintf(stderr, PROGRAM ": the kernel refuses the BPF programs: %s (%s)\n", strerror(errno), watch_last_warning);
         exit(1);
     }
 }
@@ -406,6 +416,8 @@ static int report(const struct recording *recording) {
     unsigned queues = recording->bpf->bss->queues_seen, queues_missed = recording->bpf->bss->queues_missed;
     fprintf(stderr, PROGRAM ": %u queue%s, %llu steps, %llu lost\n", queues, queues == 1 ? "" : "s", (unsigned long long)text->steps,
             (unsigned long long)lost);
+    if (text->dropped != 0)
+        fprintf(stderr, PROGRAM ": the kernel dropped %llu packets in lost steps, before others of the same queue\n", (unsigned long long)text->dropped);
     if (missing != 0)
         fprintf(stderr, PROGRAM ": %llu steps are missing without a row; please report this\n", (unsigned long long)missing);
     if (queues_missed != 0)
@@ -575,16 +587,28 @@ static void read_options(struct options *options, int count, char **words) {
                                           {"duration", required_argument, NULL, 'd'},
                                           {"trigger", required_argument, NULL, 't'},
                                           {"after", required_argument, NULL, 'A'},
+                                          {"drops", no_argument, NULL, 'D'},
+                                          {"no-addresses", no_argument, NULL, 'N'},
+                                          {"namespaces", no_argument, NULL, 'S'},
+                                          {"labels", required_argument, NULL, 'L'},
+                                          {"most", required_argument, NULL, 'M'},
                                           {"anyway", no_argument, NULL, 'w'},
                                           {"force", no_argument, NULL, 'f'},
                                           {"verbose", no_argument, NULL, 'v'},
                                           {"help", no_argument, NULL, 'h'},
                                           {"version", no_argument, NULL, 'V'},
                                           {NULL, 0, NULL, 0}};
-    int letter;
-    *options = (struct options){.part = 1, .after = 1};
-    if (count > 1 && strcmp(words[1], "text") == 0) {
-        options->is_text = true;
+    static const struct {
+        const char *name;
+        enum mode mode;
+    } modes[] = {{"text", TEXT}, {"serve", SERVE}, {"top", TOP}};
+    int letter, most;
+    *options = (struct options){.part = 1, .after = 1, .most = SERVE_MOST};
+    for (size_t i = 0; i < sizeof modes / sizeof *modes && count > 1; i++) {
+        if (strcmp(words[1], modes[i].name) == 0)
+            options->mode = modes[i].mode;
+    }
+    if (options->mode != RECORD) {
         words++;
         count--;
     }
@@ -626,6 +650,23 @@ static void read_options(struct options *options, int count, char **words) {
         case 'A':
             options->after = read_number(optarg, UINT32_MAX, "--after is a number of seconds from 1 on: ");
             break;
+        case 'D':
+            if (options->mode != RECORD && options->mode != DROPS)
+                fail("--drops is for a recording", "");
+            options->mode = DROPS;
+            break;
+        case 'N':
+            options->has_no_addresses = true;
+            break;
+        case 'S':
+            options->is_every_namespace = true;
+            break;
+        case 'L':
+            options->labels = optarg;
+            break;
+        case 'M':
+            options->most = read_number(optarg, UINT32_MAX, "--most is a number from 1 on: ");
+            break;
         case 'w':
             options->is_anyway = true;
             break;
@@ -645,12 +686,55 @@ static void read_options(struct options *options, int count, char **words) {
             exit(1);
         }
     }
-    if (count - optind > 1)
-        fail("one device is recorded, or --all: ", words[optind + 1]);
-    if (options->is_text)
+    most = options->mode == SERVE ? 2 : 1;
+    if (count - optind > most)
+        fail("one device is recorded, or --all: ", words[optind + most]);
+    if (options->mode == SERVE) {
+        options->address = words[optind];
+        options->device = options->address != NULL ? words[optind + 1] : NULL;
+    } else if (options->mode == TEXT) {
         options->steps = words[optind];
-    else
+    } else {
         options->device = words[optind];
+    }
+}
+
+/* Refuses options that other modes have. */
+static void check_mode(const struct options *options) {
+    bool is_summed = options->mode == DROPS || options->mode == SERVE || options->mode == TOP;
+    if (options->mode == SERVE && options->address == NULL)
+        fail("an address is missing, such as :9464; --help", "");
+    if (options->mode == TEXT && options->steps == NULL)
+        fail("a file of steps is missing; --help", "");
+    if ((options->mode == RECORD || options->mode == DROPS) && (options->device != NULL) == options->is_all)
+        fail("a device, or --all, is missing; --help", "");
+    if (is_summed && (options->is_compact || options->rotate != 0 || options->has_trigger || options->has_clock || options->part != 1))
+        fail("--compact, --rotate, --trigger, --rate-estimator and --every are for a recording of all steps", "");
+    if ((options->mode == SERVE || options->mode == TOP) && (options->output != NULL || options->duration != 0))
+        fail("--output and --duration are for a recording", "");
+    if (!is_summed && (options->is_every_namespace || options->has_no_addresses))
+        fail("--namespaces and --no-addresses need --drops, serve or top", "");
+    if (options->labels != NULL && options->mode != SERVE && options->mode != TOP)
+        fail("--labels needs serve or top", "");
+    if (options->most != SERVE_MOST && options->mode != SERVE)
+        fail("--most needs serve", "");
+}
+
+/* Sums the queues in the kernel: --drops, serve and top. Returns the status. */
+static int sum(const struct options *options) {
+    struct totals_options totals = {.device = options->device,
+                                    .handle = options->handle,
+                                    .ring = options->ring != 0 ? options->ring : SUMS_RING,
+                                    .has_events = options->mode != SERVE,
+                                    .has_addresses = !options->has_no_addresses,
+                                    .is_every_namespace = options->is_every_namespace,
+                                    .is_anyway = options->is_anyway,
+                                    .is_verbose = options->is_verbose};
+    if (options->mode == SERVE)
+        return serve(&totals, &(struct serve_options){.address = options->address, .labels = options->labels, .most = options->most}, &is_ended);
+    if (options->mode == TOP)
+        return top(&totals, options->labels, &is_ended);
+    return drops_record(&totals, options->output, options->duration, options->is_forced, &is_ended);
 }
 
 /* Checks the names of all files before any is opened. */
@@ -660,7 +744,7 @@ static bool are_files_usable(const struct options *options) {
         fail("--segments needs --rotate", "");
     if (options->rotate == 0)
         return check_files(PROGRAM, (struct file_name[]){{options->steps, FILE_READ}, {options->output, FILE_WRITTEN}}, 2, options->is_forced);
-    if (options->output == NULL || strcmp(options->output, "-") == 0 || options->is_text)
+    if (options->output == NULL || strcmp(options->output, "-") == 0 || options->mode == TEXT)
         fail("--rotate needs -o FILE, for a recording", "");
     if (strlen(options->output) + 32 > sizeof name)
         fail("the name is too long: ", options->output);
@@ -670,37 +754,28 @@ static bool are_files_usable(const struct options *options) {
     return check_files(PROGRAM, &(struct file_name){name, FILE_WRITTEN}, 1, options->is_forced);
 }
 
-/* Waits until the module sch_pie is loaded. Returns false if a signal comes before. */
-static bool wait_for_module(void) {
-    if (watch_is_loaded("sch_pie"))
-        return true;
-    fprintf(stderr, PROGRAM ": the module sch_pie is not loaded, so there is no queue to record; waiting (`tc qdisc add .. pie` loads it)\n");
-    while (!is_ended && !watch_is_loaded("sch_pie"))
-        nanosleep(&(struct timespec){.tv_nsec = 20000000}, NULL);
-    return !is_ended;
-}
-
 int main(int count, char **words) {
     struct options options;
     struct watch_checked checked;
     read_options(&options, count, words);
-    if (options.is_text ? options.steps == NULL : (options.device != NULL) == options.is_all)
-        fail(options.is_text ? "a file of steps is missing; --help" : "a device, or --all, is missing; --help", "");
+    check_mode(&options);
     if (!are_files_usable(&options))
         return 1;
-    if (options.is_text)
+    if (options.mode == TEXT)
         return write_text(&options);
-    if (options.device != NULL && if_nametoindex(options.device) == 0)
+    if (options.device != NULL && !options.is_every_namespace && if_nametoindex(options.device) == 0)
         fail("there is no such device in this network namespace: ", options.device);
-    is_verbose = options.is_verbose;
-    libbpf_set_print(note_libbpf);
     signal(SIGINT, end);
     signal(SIGTERM, end);
     signal(SIGHUP, end);
     signal(SIGPIPE, SIG_IGN);
+    if (options.mode != RECORD)
+        return sum(&options);
+    watch_is_verbose = options.is_verbose;
+    libbpf_set_print(watch_note);
     if (options.ring == 0)
         options.ring = ring_for(options.device);
-    if (!watch_can_record() || !wait_for_module())
+    if (!watch_can_record() || !watch_wait_for_module(&is_ended))
         return 1;
     if (!watch_check(&checked, options.is_anyway))
         return 1;

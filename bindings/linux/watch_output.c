@@ -69,20 +69,19 @@ static bool add_queue(struct watch_output *output, const struct watch_queue *rec
     return true;
 }
 
-/* Writes what is in memory to a file. If that fails, the file ends with the last record or row that is complete, so that it can be read. */
-static void flush_file(struct watch_output *output, FILE *file) {
+void watch_flush(FILE *file, int *fault) {
     off_t written = file != NULL && __fpending(file) != 0 ? ftello(file) - (off_t)__fpending(file) : 0;
-    if (file == NULL || output->fault != 0 || fflush(file) == 0)
+    if (file == NULL || *fault != 0 || fflush(file) == 0)
         return;
-    output->fault = errno;
+    *fault = errno;
     __fpurge(file);
     if (written > 0 && (ftruncate(fileno(file), written) != 0 || lseek(fileno(file), written, SEEK_SET) < 0))
-        output->fault = errno;
+        *fault = errno;
 }
 
 void watch_output_flush(struct watch_output *output) {
-    flush_file(output, output->before.file);
-    flush_file(output, output->output.file);
+    watch_flush(output->before.file, &output->fault);
+    watch_flush(output->output.file, &output->fault);
 }
 
 /* Writes a record to a file. Returns false if it contradicts the records before it. */
@@ -100,7 +99,7 @@ static bool write_to(struct watch_output *output, FILE *file, const void *record
     }
     output->bytes += bytes;
     if (__fpending(file) + MOST_ROW > __fbufsize(file))
-        flush_file(output, file);
+        watch_flush(file, &output->fault);
     return true;
 }
 

@@ -41,6 +41,10 @@ int watch_output_turn(struct watch_output *output);
 /* Writes what is in memory to the files, whole records or rows alone. */
 void watch_output_flush(struct watch_output *output);
 
+/* Writes what is in memory to a file (NULL: none). If that fails, `fault` becomes the error, and the file ends with the last record or row that is complete, so
+ * that it can be read. Does nothing if `fault` is not 0. */
+void watch_flush(FILE *file, int *fault);
+
 /* Closes the files. Returns false with errno if something was not written. */
 bool watch_output_close(struct watch_output *output);
 

@@ -7,6 +7,8 @@ struct text_queue {
     bool is_there;
     u32 kind;
     u32 seq; /* of the next step */
+    u32 dropped; /* the kernel's counter after the last record that has it */
+    bool is_known, is_gap; /* `dropped` is known; steps were lost since */
     char name[48];
     struct watch_base base;
     u32 memory;
@@ -374,6 +376,26 @@ static void count_step(struct watch_text *text, struct text_queue *queue, u32 se
     text->steps++;
 }
 
+/* Follows the kernel's counter of dropped packets. After lost steps, its increase is added to `text->dropped`. */
+static void count_dropped(struct watch_text *text, struct text_queue *queue, const struct watch_head *head) {
+    u32 now;
+    if (head->type == WATCH_ENQUEUE) {
+        queue->dropped += (head->counts & WATCH_COUNT_DROPPED) != 0;
+        return;
+    }
+    if (head->type == WATCH_BASE)
+        now = ((const struct watch_base *)head)->stats.dropped;
+    else if (watch_bytes(head) == sizeof(struct watch_whole))
+        now = ((const struct watch_whole *)head)->stats.dropped;
+    else
+        return;
+    if (queue->is_gap && queue->is_known)
+        text->dropped += now - queue->dropped;
+    queue->dropped = now;
+    queue->is_known = true;
+    queue->is_gap = false;
+}
+
 bool watch_text_count(struct watch_text *text, const void *record) {
     const struct watch_head *head = record;
     struct text_queue *queue = head->queue < text->count ? &text->queues[head->queue] : NULL;
@@ -384,9 +406,11 @@ bool watch_text_count(struct watch_text *text, const void *record) {
     if (head->type == WATCH_LOST) {
         text->lost += ((const struct watch_base *)record)->lost;
         queue->seq += ((const struct watch_base *)record)->lost;
+        queue->is_gap = true;
     } else if (head->type != WATCH_BASE && head->type != WATCH_FLOW && head->type != WATCH_WAIT) {
         count_step(text, queue, head->seq);
     }
+    count_dropped(text, queue, head);
     return true;
 }
 

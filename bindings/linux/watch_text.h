@@ -14,6 +14,7 @@ struct watch_text {
     struct text_queue *queues; /* by their numbers */
     size_t count;
     u64 steps, lost;
+    u64 dropped; /* packets that the kernel dropped in the lost steps, by its counters before and after them */
     u64 missing; /* steps whose numbers are neither written nor counted as lost: an error of the recorder */
 };
 

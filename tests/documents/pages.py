@@ -45,7 +45,7 @@ NOT_RUN = {
     "dist/README.md": {"dist/make.sh": "proves and builds every library"},
     "docs/DEVELOPING.md": {"rt check": "a list, which proves", ".ci/quick": "a list; the gate runs its scripts"},
     "docs/OPERATING.md": {
-        "pie-watch eth0": KERNEL, "pie-metrics --again": "needs a text of pie-watch that is written", "pie audit north.history": "writes to a folder of the system",
+        "pie-watch eth0": KERNEL, "pie-watch --drops": KERNEL, "pie-metrics --again": "needs a text of pie-watch that is written", "pie audit north.history": "writes to a folder of the system",
         "pie-tap follow": KERNEL, "export DASK_CONFIG": MACHINES, "python3 -m pie_fleet": MACHINES, "parallel -X": MACHINES, "cd histories": MACHINES,
     },
     "docs/RESULTS.md": {"bindings/ns3/scenarios.sh": "simulates for hours"},

@@ -59,11 +59,13 @@ root/usr/bin/pie audit < "$repository/bindings/c/example.history" | grep '^clean
 root/usr/bin/pie-tap --help > tap
 [ "$(root/usr/bin/pie-watch --version)" = "pie-watch $version" ] || fail "pie-watch has another version than $version"
 [ "$(root/usr/sbin/pie-qdisc --version)" = "pie-qdisc $version" ] || fail "pie-qdisc has another version than $version"
-cmp root/usr/share/bash-completion/completions/pie-qdisc "$repository/completions/pie-qdisc.bash"
+for completed in pie-qdisc pie-watch; do
+    cmp root/usr/share/bash-completion/completions/$completed "$repository/completions/$completed.bash"
+done
 ! root/usr/sbin/pie-qdisc attach no_such_device 2> refused || fail "pie-qdisc attaches to a device that does not exist"
 ! root/usr/bin/pie-watch no_such_device 2> refused || fail "pie-watch records a device that does not exist"
 root/usr/bin/pie audit "$repository/tests/rows/linux_steps.csv" > found 2> lost || fail "the program does not audit recorded steps of Linux: $(cat found lost)"
-for depends in libbpf1 juniperbowls; do
+for depends in libbpf1 libmicrohttpd12 libncursesw6 juniperbowls; do
     dpkg-deb --field juniperbowls-watch_*.deb Depends | grep -q -w "$depends" || fail "juniperbowls-watch does not depend on $depends"
 done
 cc -o example "$repository/bindings/c/example.c" -Iroot/usr/include "$library/libpie.so"

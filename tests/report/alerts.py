@@ -47,6 +47,7 @@ WITHOUT_PERIODS = {"pie_period_wait_99_seconds": None}
 CASES = [
     ("PieLongWaits", "warning", {"pie_period_wait_99_seconds": "0.025x9 0.031x50"}, 15),
     ("PieLongWaits", "warning", {**WITHOUT_PERIODS, **LONG}, 6),
+    ("PieLongMeanWaits", "warning", {**WITHOUT_PERIODS, "pie_wait_seconds_sum": "0+1600x60", "pie_wait_seconds_count": "0+50000x60"}, 6),
     ("PieTailDrops", "warning", {"pie_byte_limit_drops_total": "0+0x9 0+600x50"}, 20),
     ("PieTailDrops", "warning", {"pie_packet_limit_drops_total": "0+0x9 0+600x50"}, 20),
     ("PieDropsForMarks", "info", {"pie_probability_ratio": "0.11x60", "pie_marked_packets_total": "0+10x60"}, 6),
@@ -57,10 +58,14 @@ CASES = [
     ("PieEventsLost", "warning", {"pie_unseen_events_total": "0x9 1x50"}, 10),
     ("PieStale", "critical", {"pie_target_seconds": "0.015x9 stale"}, 12),
     ("PieNoUpdates", "critical", {"pie_updates_total": "0+4000x9 stale"}, 19),
+    ("PieWatchStale", "critical", {"pie_host_queues": "5x9 stale"}, 12),
+    ("PieWatchMissesQueues", "warning", {"pie_host_missed_queues_total": "0x9 2x50"}, 10),
     ("PieAuditDiffers", "critical", {"pie_audit_status": "0x9 2x50"}, 10),
     ("PieAuditFailed", "warning", {"pie_audit_status": "0x9 1x50"}, 10),
 ]
 SILENT = [("as in `four`", {}), ("with a histogram of short waits", {**WITHOUT_PERIODS, **SHORT}), ("with marks below the threshold", {"pie_marked_packets_total": "0+125x60"}),
+          ("with a removed queue of pie-watch", {"pie_host_queues": "5x60", "pie_target_seconds": "0.015x9 stale"}),
+          ("with the mean of short waits", {**WITHOUT_PERIODS, "pie_wait_seconds_sum": "0+1450x60", "pie_wait_seconds_count": "0+50000x60"}),
           ("with few tail drops", {"pie_byte_limit_drops_total": "0+400x60"}), ("at twice the target", {"pie_period_wait_99_seconds": "0.03x60"})]
 
 
@@ -94,6 +99,7 @@ def main():
     expressions = re.findall(r"^        expr: ((?:.*\n)(?:          .*\n)*)", text, re.M)
     metrics = {re.sub("_(bucket|sum|count)$", "", name) for expr in expressions for name in re.findall(r"\bpie_\w+", expr)}
     written = (ROOT / "examples/shared/metrics.c").read_text() + (ROOT / "report/pie-metrics").read_text() + (ROOT / "docs/OPERATING.md").read_text()
+    written += (ROOT / "bindings/linux/watch_serve_text.c").read_text()
     for name in sorted(metrics):
         check(re.search(rf"\b(pie_)?{name.removeprefix('pie_')}\b", written), f"nobody writes {name}")
     if shutil.which("promtool") is None:

@@ -1,0 +1,211 @@
+#!/usr/bin/env python3
+"""Checks the runner of the plan's runs (bench/uml/queues.py) and the answers (docs/questions.py), without a run.
+
+The runner is killed at a random moment, with a run in place of network.py that takes 30 ms, and begun again until it ends: each run of the plan then has
+one row, also after a last line that was written in part, and no run that has a row was made again. SIGTERM keeps the runs that are complete. Rows of
+another version and two rows of one run are refused. The waits of a run are those of its two files of packets.
+
+The answers come from invented rows of which each verdict is known, with Holm's correction; rows of two versions, a run that is missing, and a run that
+is there twice are refused.
+needs: nothing"""
+import csv
+import itertools
+import json
+import os
+import random
+import signal
+import subprocess
+import sys
+import tempfile
+import time
+from pathlib import Path
+
+HERE = Path(__file__).resolve().parent
+sys.path[:0] = [str(HERE.parent / "shared"), str(HERE.parents[1] / "docs"), str(HERE.parents[1] / "bench/uml")]
+sys.dont_write_bytecode = True
+from checks import check, finish  # noqa: E402
+import queues  # noqa: E402
+import questions  # noqa: E402
+
+VERSION = "commit 0 linux 0"
+NAMES, BLOCKS, PAUSE = ["one", "two", "step"], 3, 0.03
+
+# what runs in place of network.py: it leaves a file for each run, and a line in `made`
+STAND_IN = """
+import json, sys, time
+from pathlib import Path
+place = Path(sys.argv[1])
+for name in json.loads((place / "block.json").read_text())["order"]:
+    time.sleep(float(sys.argv[2]))
+    (place / name).mkdir()
+    (place / name / "run.json").write_text("{}")
+"""
+
+
+def child(folder):
+    """Runs the batch with the stand-in."""
+    class Batch(queues.Batch):
+        def boot(self, place):
+            it = subprocess.Popen([sys.executable, "-c", STAND_IN, place, str(PAUSE)])
+            self.linux.add(it)
+            if self.stopped:
+                it.terminate()
+            it.wait()
+            self.linux.discard(it)
+            return 1.0
+
+    def row_of(scenario, block, place, program):
+        with open(folder / "made", "a") as out:
+            out.write(f"{scenario['name']} {place.name}\n")
+        return dict.fromkeys(queues.FIELDS, "1")
+
+    queues.row_of, queues.STORED = row_of, folder / "none.xz"
+    batch = Batch("", folder, queues.Rows(folder, VERSION), NAMES, BLOCKS)
+    signal.signal(signal.SIGTERM, batch.stop)
+    queues.run_all(batch, 2)
+
+
+def begun(folder):
+    return subprocess.Popen([sys.executable, __file__, "--child", str(folder)], stdout=subprocess.DEVNULL, start_new_session=True)
+
+
+def rows_in(folder):
+    file = folder / "queues.csv"
+    return list(csv.DictReader(open(file))) if file.exists() else []
+
+
+def check_runner(folder):
+    dice, kills = random.Random(7), 0
+    for turn in itertools.count():
+        it = begun(folder)
+        try:
+            it.wait(timeout=dice.uniform(0.3, 0.7) if turn < 4 else None)
+            break
+        except subprocess.TimeoutExpired:
+            os.killpg(it.pid, signal.SIGTERM if turn == 1 else signal.SIGKILL)
+            kills += 1
+            it.wait()
+            with open(folder / "queues.csv", "a") as out:
+                out.write("one,stamp,1,9.5")        # (a line that was written in part)
+    planned = {(name, queue, block) for name in NAMES for queue in queues.SCENARIOS[name].queues
+               for block in range(1, min(BLOCKS, queues.SCENARIOS[name].blocks_of(queue)) + 1)}
+    found = [queues.key_of(row) for row in rows_in(folder)]
+    check(kills > 1, f"the runner was killed {kills} times only")
+    check(len(found) == len(set(found)), "a run has two rows after the runner was killed")
+    check(set(found) == planned, f"after the runner was killed, {len(planned - set(found))} runs are lost, and {len(set(found) - planned)} were not planned")
+    made = (folder / "made").read_text().split("\n")[:-1]
+    check(len(made) <= len(planned) + kills * 2, f"{len(made)} runs were read for {len(planned)} rows and {kills} interruptions")
+    check(begun(folder).wait() == 0 and len((folder / "made").read_text().split("\n")[:-1]) == len(made), "a run that has a row was made again")
+
+
+def check_stop(folder):
+    """SIGTERM keeps the rows of the runs that are complete in the Linux that it ends."""
+    it = begun(folder)
+    while not any(folder.glob("one-1/*/run.json")):
+        time.sleep(0.01)
+    it.terminate()
+    it.wait()
+    check(0 < len(rows_in(folder)) < 20, f"after SIGTERM the runner has {len(rows_in(folder))} rows")
+
+
+def refused(call, *words):
+    """Returns what a call says as it ends the program, or nothing."""
+    try:
+        call(*words)
+    except SystemExit as why:
+        return str(why.code)
+    return ""
+
+
+def check_rows(folder):
+    queues.STORED = folder / "none.xz"
+    row = dict.fromkeys(queues.FIELDS, "1") | {"scenario": "one", "queue": "stamp", "block": "1", "version": VERSION}
+    for rows, word in (([row, row], "two rows"), ([row, row | {"block": "2", "version": "commit 1 linux 0"}], "the version")):
+        (folder / "queues.csv").write_text(queues.text_of(rows))
+        check(word in refused(queues.Rows, folder, VERSION), f"the runner takes {word}")
+    (folder / "queues.csv").write_text(queues.text_of([row]))
+    check("the version" in refused(queues.Rows, folder, "commit 1 linux 0"), "the runner adds to rows of another version")
+    rows = queues.Rows(folder, VERSION)
+    check("two rows" in refused(rows.add, row), "the runner adds a row twice")
+    rows.add(row | {"block": "2"})
+    check([it["block"] for it in rows_in(folder)] == ["1", "2"], "the runner loses a row")
+    check("does not name" in refused(queues.store, folder), "rows are stored whose version the plan does not name")
+
+
+def check_waits(folder):
+    """Three flows: one packet is dropped, one comes before the window, and an identification comes again."""
+    def file(name, packets):
+        (folder / name).write_bytes(b"".join(queues.RECORD.pack(moment, source, 1500, port, identification, 6) for moment, source, port, identification in packets))
+    ms = 1_000_000
+    file("arrivals", [(0, 1, 7, 1), (1000 * ms, 1, 7, 2), (1001 * ms, 1, 7, 3), (1002 * ms, 2, 7, 3), (1003 * ms, 2, 8, 3), (1500 * ms, 1, 7, 1), (1600 * ms, 1, 7, 2)])
+    file("departures", [(5 * ms, 1, 7, 1), (1010 * ms, 1, 7, 2), (1031 * ms, 2, 8, 3), (1042 * ms, 2, 7, 3), (1501 * ms, 1, 7, 1)])
+    found = queues.crossed(folder, 1, 2)
+    check(sorted(found[0]) == [1, 10, 28, 40] and found[1] == 2, f"the waits and losses of packets are {found}")
+
+
+def invented(change=lambda name, queue, block, measure, value: value):
+    """Returns rows of the whole plan: every queue alike, with a difference of each block that all share and one of its own, and `change`."""
+    rows, dice = [], random.Random(3)
+    for name, queue, block in sorted(queues.expected_keys()):
+        same = random.Random(f"{name}-{block}")
+        row = {"scenario": name, "queue": queue, "block": str(block), "version": VERSION, "lost": "10", "packets": "990"}
+        for measure, mean in (("goodput", 9.5), ("wait", 15), ("wait99", 25), ("short", 200)):
+            part = queues.MARGINS[measure][0] * mean
+            row[measure] = str(change(name, queue, block, measure, mean + part * (same.uniform(-2, 2) + dice.uniform(-0.2, 0.2))))
+        rows.append(row)
+    return rows
+
+
+def verdicts_of(rows, number):
+    question = next(it for it in queues.QUESTIONS if it.number == number)
+    return {(it.one, it.scenario, it.measure): it for it in questions.compared(questions.checked(rows), question)}
+
+
+def check_answers():
+    plain = invented()
+    for question in queues.QUESTIONS:
+        found = verdicts_of(plain, question.number)
+        check(all(it.verdict == "same" for it in found.values()), f"equal queues are not all `same`: question {question.number}")
+    check("**Yes.**" in questions.sentence(queues.QUESTIONS[0], list(verdicts_of(plain, 1).values())), "equal queues are not the same")
+
+    def change(name, queue, block, measure, value):
+        """`codel` has a better goodput in `one`, a worse wait in `two`; its 99th percentile in `four` is at the margin, in `far` wild, and its short flows
+        in `short` take longer."""
+        if queue != "codel":
+            return value
+        return {("one", "goodput"): value + 0.4, ("two", "wait"): value + 9, ("four", "wait99"): value + 2.78, ("short", "short"): value + 100,
+                ("far", "wait99"): value + 40 * (-1) ** block}.get((name, measure), value)
+    found = verdicts_of(invented(change), 2)
+    wanted = {("one", "goodput"): "worse", ("two", "wait"): "better", ("four", "wait99"): "open", ("far", "wait99"): "open", ("short", "short"): "better"}
+    for (_, name, measure), it in found.items():
+        check(it.verdict == wanted.get((name, measure), "same"), f"{name}, {measure}: {it.verdict}, {it.difference} with margin {it.margin}")
+    text = questions.sentence(queues.QUESTIONS[1], list(found.values()))
+    check("**It depends.** Of 56 comparisons 2 are `better`, 1 `worse`, 51 `same` and 2 `open`" in text, text)
+    it = found["stamp", "two", "wait"]
+    check(abs(it.margin - 0.1 * it.theirs) < 1e-9 and abs(it.difference + 9) < 0.5 and it.reach < 0.5, "the numbers of a comparison")
+    check("6 would if the queues were equal" in questions.chance(list(found.values())), questions.chance(list(found.values())))
+
+    # a difference beyond its margin that Holm's correction over 56 comparisons does not confirm, and that a comparison of its own would
+    def weak(name, queue, block, measure, value):
+        return value + 2.3 + 1.1 * (-1) ** block if (name, queue, measure) == ("one", "codel", "wait") else value
+    it = verdicts_of(invented(weak), 2)["stamp", "one", "wait"]
+    check(0.001 < it.share < 0.05 and it.verdict == "open", f"without the correction: {it.share}, {it.verdict}")
+    alone = questions.Comparison("one", "wait", "stamp", "codel", [1, 1.1, 0.9, 1], [4, 4.1, 3.9, 4.3])
+    questions.judge([alone])
+    check(alone.verdict == "better", f"a difference of three margins is {alone.verdict}")
+
+    text, pictures = questions.page(questions.checked(plain))
+    check(text.count("\n|`") > 150 and len(pictures) == 8 and all("<svg" in it for it in pictures.values()), "the page lacks tables or pictures")
+    check("`half` is `better` in the goodput of `far`" in text and "PIE here is `same`" not in text.split("did not happen")[1], "the predictions are not compared")
+    for rows, word in ((plain[1:], "missing"), (plain + plain[:1], "two rows"), ([plain[0] | {"version": "commit 1"}, *plain[1:]], "versions")):
+        check(word in refused(questions.checked, rows), f"rows pass: {word}")
+
+
+if sys.argv[1:2] == ["--child"]:
+    child(Path(sys.argv[2]))
+    sys.exit()
+for case in (check_runner, check_stop, check_rows, check_waits):
+    with tempfile.TemporaryDirectory() as folder:
+        case(Path(folder))
+check_answers()
+finish()

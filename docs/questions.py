@@ -22,7 +22,7 @@ sys.path[:0] = [str(ROOT / "docs"), str(ROOT / "bench"), str(ROOT / "bench/uml")
 sys.dont_write_bytecode = True
 from curves import text_at  # noqa: E402
 from equivalence import LEVEL, student, student_quantile  # noqa: E402
-from queues import MARGINS, QUESTIONS, SCENARIOS, expected_keys, key_of, measures_of  # noqa: E402
+from queues import ALL, MARGINS, QUESTIONS, SCENARIOS, expected_keys, key_of, measures_of  # noqa: E402
 
 NAMES = {"stamp": "PIE here", "ecn": "PIE here with ECN", "half": "PIE here, `--decay half`", "rate": "PIE here, `--delay rate`", "pie": "`pie`",
          "codel": "`codel`", "red": "`red adaptive`", "fq_codel": "`fq_codel`", "cake": "`cake besteffort`", "fq_pie": "`fq_pie`"}
@@ -32,8 +32,8 @@ REACH = 4       # margins that a picture reaches to each side
 
 
 class Comparison:
-    """A measure of two queues in a scenario: the difference, its interval and its margin. `share` is the probability of such a difference or a greater
-    one if the queues differ by the margin."""
+    """A measure of two queues in a scenario: the difference, its interval and its margin. `share` is the probability of such a difference or a
+    greater one if the queues differ by the margin."""
 
     def __init__(self, scenario, measure, one, other, ours, theirs):
         self.scenario, self.measure, self.one, self.other = scenario, measure, one, other
@@ -55,8 +55,8 @@ class Comparison:
 
 
 def judge(comparisons):
-    """Gives `better` and `worse` by Holm's correction: the least share is compared with 5 % over the number of comparisons, the next with 5 % over one
-    less, and so on until one is greater."""
+    """Gives `better` and `worse` by Holm's correction: the least share is compared with 5 % over the number of comparisons, the next with 5 % over
+    one less, and so on until one is greater."""
     for place, it in enumerate(sorted(comparisons, key=lambda it: it.share)):
         if it.share > LEVEL / (len(comparisons) - place):
             return
@@ -107,6 +107,10 @@ def cell(it):
     return f"{digits[0]} and {digits[1]}: {digits[2]}±{digits[3]}, margin {digits[4]}, **{it.verdict}**"
 
 
+def name_of(queue):
+    return NAMES.get(queue, f"`{queue}`")
+
+
 def names(found, verdict):
     """Returns the scenarios with a verdict, each with its measures, in words."""
     these = {}
@@ -122,16 +126,17 @@ def sentence(question, found):
     if question.is_sameness:
         answer = "No" if counts["better"] or counts["worse"] else "Yes" if not counts["open"] else "Not decided"
     else:
-        answer = {(True, True): "It depends", (True, False): "Yes", (False, True): "No"}.get((counts["better"] > 0, counts["worse"] > 0), "No difference was found")
+        answers = {(True, True): "It depends", (True, False): "Yes", (False, True): "No"}
+        answer = answers.get((counts["better"] > 0, counts["worse"] > 0), "No difference was found")
     which = "; ".join(f"`{verdict}`: {names(found, verdict)}" for verdict in ("better", "worse") if counts[verdict])
-    return (f"**{answer}.** Of {len(found)} comparisons {counts['better']} are `better`, {counts['worse']} `worse`, {counts['same']} `same` and {counts['open']} "
-            f"`open`{'. ' + which if which else ''}.")
+    return (f"**{answer}.** Of {len(found)} comparisons {counts['better']} are `better`, {counts['worse']} `worse`, {counts['same']} `same` and "
+            f"{counts['open']} `open`{'. ' + which if which else ''}.")
 
 
 def chance(found):
     """Returns the number of intervals that exclude 0, and the number that would by chance, in words."""
-    return (f"{sum(it.excludes_0() for it in found)} of {len(found)} intervals exclude 0; about {0.1 * len(found):.0f} would if the queues were equal. `better` and "
-            f"`worse` hold together with a chance of 95 % (Holm's correction over {len(found)} comparisons).")
+    return (f"{sum(it.excludes_0() for it in found)} of {len(found)} intervals exclude 0; about {0.1 * len(found):.0f} would if the queues were equal. "
+            f"`better` and `worse` hold together with a chance of 95 % (Holm's correction over {len(found)} comparisons).")
 
 
 def table(found):
@@ -141,7 +146,8 @@ def table(found):
     for key in dict.fromkeys((it.one, it.other, it.scenario) for it in found):
         cells = {it.measure: it for it in found if (it.one, it.other, it.scenario) == key}
         first = next(iter(cells.values()))
-        lines.append(f"|`{key[2]}`|{NAMES[key[0]]} and {NAMES[key[1]]}|{first.blocks}|{'|'.join(cell(cells[it]) if it in cells else '' for it in columns)}|")
+        words = "|".join(cell(cells[it]) if it in cells else "" for it in columns)
+        lines.append(f"|`{key[2]}`|{name_of(key[0])} and {name_of(key[1])}|{first.blocks}|{words}|")
     return "\n".join(lines)
 
 
@@ -163,9 +169,11 @@ def picture(found):
         y, sign = top + line * place + 4, 1 if it.measure == "goodput" else -1
         ends = [middle + unit * max(-REACH, min(REACH, sign * (it.difference + side * it.reach) / it.margin)) for side in (-1, 1)]
         dot, colour = middle + unit * max(-REACH, min(REACH, sign * it.difference / it.margin)), COLOURS[it.verdict]
-        parts.append(text_at(left - 8, y + 4, f"{it.scenario} {it.one if it.one != 'stamp' else ''} {it.measure}".replace("  ", " "), size=11, anchor="end"))
-        parts.append(f'<path d="M{ends[0]:.1f} {y} H{ends[1]:.1f}" stroke="{colour}" stroke-width="2"/><circle cx="{dot:.1f}" cy="{y}" r="3" fill="{colour}"/>'
-                     + text_at(left + width + 8, y + 4, it.verdict, size=11, colour=colour))
+        several = len({it.other for it in found}) > 1
+        words = [it.scenario, *([it.one] if it.one != "stamp" else [f"{it.one}/{it.other}"] if several else []), it.measure]
+        parts.append(text_at(left - 8, y + 4, " ".join(words), size=11, anchor="end"))
+        parts.append(f'<path d="M{ends[0]:.1f} {y} H{ends[1]:.1f}" stroke="{colour}" stroke-width="2"/>'
+                     f'<circle cx="{dot:.1f}" cy="{y}" r="3" fill="{colour}"/>' + text_at(left + width + 8, y + 4, it.verdict, size=11, colour=colour))
     return "\n".join([*parts, "</svg>"]) + "\n"
 
 
@@ -191,6 +199,10 @@ EXPECTED = [
     ("waits with ECN are `same`", 7, lambda found: all_of("same", found, ("wait", "wait99"))),
     ("`half` is `better` in the goodput of `far`", 8,
      lambda found: all_of("better", [it for it in found if it.one == "half" and it.scenario == "far"], ("goodput",))),
+    ("`pie` with all rules exchanged is `same` as PIE here", 9,
+     lambda found: all_of("same", [it for it in found if it.one == "stamp" and it.other == "pie-all"])),
+    ("the waits of `slow` differ by the rule `small`", 9,
+     lambda found: all_of("better", [it for it in found if it.one == "pie-small" and it.scenario == "slowrules"], ("wait",))),
 ]
 
 
@@ -212,9 +224,9 @@ def lost_text(rows):
 def calibration(rows):
     """Returns the table of tail drop at both bottlenecks."""
     lines = ["|scenario|measure|blocks|tail drop, here|`pfifo`|difference|", "|---" * 6 + "|"]
-    for name, scenario in SCENARIOS.items():
-        blocks = range(1, min(scenario.blocks_of("tail"), scenario.blocks_of("pfifo")) + 1)
-        for measure in ("goodput", "wait", "wait99") if len(blocks) > 1 else ():
+    for name in ALL:
+        blocks = range(1, SCENARIOS[name].blocks_of("tail") + 1)
+        for measure in ("goodput", "wait", "wait99"):
             ours, theirs = ([float(rows[name, queue, block][measure]) for block in blocks] for queue in ("tail", "pfifo"))
             it = Comparison(name, measure, "tail", "pfifo", ours, theirs)
             lines.append(f"|`{name}`|{WORDS[measure]}|{it.blocks}|{shown(it.ours, it.margin)}|{shown(it.theirs, it.margin)}|"
@@ -229,7 +241,8 @@ def page(rows):
     for question in QUESTIONS:
         found = every[question.number]
         pictures[f"question_{question.number}.svg"] = picture(found)
-        parts += [f"## {question.words}", sentence(question, found), chance(found), table(found), f"![{question.words}](question_{question.number}.svg)"]
+        parts += [f"## {question.words}", sentence(question, found), chance(found), table(found),
+                  f"![{question.words}](question_{question.number}.svg)"]
         if question.number == 7:
             parts.append(lost_text(rows))
     wrong = missed(every)

@@ -7,9 +7,9 @@ usage: bench/uml/beside.py PIE FOLDER [--blocks FIRST-LAST] [--kept COUNT] [NAME
        bench/uml/beside.py PIE FOLDER --queues stamp,pie [--blocks 1-2] OPTIONS         one scenario by options, as scenarios.py has them
   PIE        the built program; build/pie is what make builds
   --queues   of the link: tail, stamp, rate (the delay by the departure rate), half (the other decay), wide (a target of 20 ms), marks (ECN up to any
-             probability), slowwide (a target of 30 ms), mtu (a mean_pkt of 1514 bytes), ecn (TCP and the queue use ECN), limit20 (a limit of 20 ms at the first rate, in bytes; any
-             number of ms); of the kernel: pfifo, pie, pie-rate (dq_rate_estimator), pie-low and pie-high (targets of 12.5 and 17.5 ms), fq_codel,
-             cake, codel, red (adaptive), fq_pie. NAME-again runs the queue once more, with other random words
+             probability), slowwide (a target of 30 ms), mtu (a mean_pkt of 1514 bytes), ecn (TCP and the queue use ECN), limit20 (a limit of
+             20 ms at the first rate, in bytes; any number of ms); of the kernel: pfifo, pie, pie-rate (dq_rate_estimator), pie-low and pie-high (targets of
+             12.5 and 17.5 ms), fq_codel, cake, codel, red (adaptive), fq_pie, and of rules.sh pie-RULE. NAME-again runs the queue once more, with other random words
   --blocks   the blocks of the scenario, as 1-2; all by default
   --kept     the number of blocks of each scenario whose files stay in the folder; 1 by default
   --late     also runs whose traffic began late: for a test in real time on a busy machine
@@ -62,6 +62,8 @@ THEIRS = {
     "fq_codel": "fq_codel",
     "cake": "cake unlimited besteffort",
 }
+# rules of Linux's pie that can be exchanged, in the order of rules.sed; pie-all has all of this project's, pie-all-NAME has all except one
+RULES = ["decay", "small", "holds", "far", "delay", "burst", "calm"]
 RED_WAIT = 0.0075           # seconds: the time that RED's least queue takes at the first rate
 UNITS = {"ns": 1e-9, "us": 1e-6, "ms": 1e-3, "s": 1, "bit": 1, "kbit": 1e3, "mbit": 1e6, "gbit": 1e9}
 FIELDS = ["scenario", "queue", "block", "from", "to", "goodput", "groups", "jain", "wait", "wait95", "wait99", "probe", "probe95", "probe99",
@@ -174,6 +176,9 @@ def queue_of(name, words):
     if name in OURS:
         more = ["--tupdate", "15ms"] + ["--ecn"] * words.ecn + (["--grant", words.grant] if words.grant else [])
         return {"kind": "ours", "words": OURS[name] + more, "ecn": int(words.ecn or name == "ecn")}
+    if found := re.fullmatch(rf"pie-(all-)?({'|'.join([*RULES, 'all'])})", name):
+        every, one = (1 << len(RULES)) - 1, 1 << RULES.index(found[2]) if found[2] in RULES else 0
+        return queue_of("pie", words) | {"rules": every - one if found[1] or not one else one}
     if name not in THEIRS:
         sys.exit(f"bench/uml/beside.py: {name}: no queue of {', '.join([*OURS, *THEIRS])}")
     text = THEIRS[name]

@@ -31,6 +31,7 @@ BUCKET = 4e-6               # seconds: htb's least bucket
 PORT = 5201
 RECEIVER = "10.2.0.1"
 SPACES = ("senders", "bottleneck", "receivers")
+RULES = Path("/sys/module/sch_pie/parameters/rules")     # of a Linux whose pie exchanges rules
 
 
 @contextlib.contextmanager
@@ -150,6 +151,8 @@ class Run:
         table = "" if self.scenario["offload"] else "stab overhead -14 linklayer ethernet"
         do(f"tc qdisc add dev far root handle 1: {table} htb default 1", "bottleneck")
         self.set_rate(self.rates[0][1], "add")
+        if RULES.exists() or self.queue.get("rules"):
+            RULES.write_text(str(self.queue.get("rules", 0)))
         words = [str(word).format(packets=self.scenario["packets"]) for word in self.queue["words"]]
         do(["tc", "qdisc", "add", "dev", "far", "parent", "1:1", "handle", "10:", *words], "bottleneck")
         self.begun = time.time()

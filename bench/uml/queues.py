@@ -16,6 +16,7 @@ wait has the same meaning for every queue. Means and percentiles are over the pa
 import argparse
 import csv
 import fcntl
+import functools
 import hashlib
 import io
 import json
@@ -41,43 +42,47 @@ import beside  # noqa: E402
 
 STORED = HERE / "queues.csv.xz"
 PLAN = HERE / "PLAN.md"
-# the queues of each scenario; those after a colon are compared with `stamp` in this scenario only
+# the queues of each scenario, and those of them that only compare the bottlenecks
 SINGLE = ["stamp", "pie", "codel", "red", "fq_pie", "fq_codel", "cake", "tail", "pfifo"]
-CALIBRATION, CALIBRATION_BLOCKS = ("tail", "pfifo"), 4
+CALIBRATION, CALIBRATION_BLOCKS = ("tail", "pfifo"), 3
 # name, section of RFC 7928, traffic in words, blocks, more queues, options
 TABLE = [
-    ("one", "8", "1 CUBIC", 24, "", "--flows 1:cubic:20ms"),
-    ("four", "5.1", "4 CUBIC", 24, "ecn", "--flows 4:cubic:20ms"),
-    ("reno", "5.1", "4 Reno", 24, "", "--flows 4:reno:50ms"),
-    ("bbrcubic", "5.2", "2 CUBIC, 2 BBR", 40, "", "--flows 2:cubic:20ms 2:bbr:20ms"),
-    ("udp", "5.3", "4 CUBIC, UDP of 12 Mbit/s", 24, "ecn", "--flows 4:cubic:20ms 1:udp=12mbit:20ms"),
-    ("trips", "6", "2 CUBIC each at 10, 50, 200 ms", 24, "half", "--flows 2:cubic:10ms 2:cubic:50ms 2:cubic:200ms"),
-    ("far", "6", "4 CUBIC, 100 ms", 40, "ecn,half", "--flows 4:cubic:100ms"),
-    ("burst", "7", "1 CUBIC, bursts of 40 packets", 24, "", "--flows 1:cubic:20ms 1:burst=40x1s:20ms"),
-    ("short", "7", "1 CUBIC, short flows", 24, "", "--flows 1:cubic:20ms --short 1460x2,14600x2,146000x0.5,730000x0.1"),
-    ("slow", "8", "0.5 Mbit/s, 4 CUBIC, limit 1 s", 24, "", "--rate 500kbit --limit 1s --seconds 40 --flows 4:cubic:20ms"),
-    ("two", "8", "2 Mbit/s, 4 CUBIC", 24, "", "--rate 2mbit --seconds 25 --flows 4:cubic:20ms"),
-    ("many", "8", "64 CUBIC", 24, "ecn", "--flows 64:cubic:20ms"),
-    ("fast", "8", "100 Mbit/s, 4 CUBIC", 24, "", "--rate 100mbit --seconds 10 --flows 4:cubic:20ms"),
-    ("gigabit", "8", "1 Gbit/s, 16 CUBIC", 24, "", "--rate 1gbit --seconds 2 --flows 16:cubic:20ms"),
-    ("onoff", "8.2.5", "2 CUBIC, 16 more for 5 s", 40, "", "--flows 2:cubic:20ms 16:cubic:20ms:8s-13s"),
-    ("step", "8.2.6", "10, 2 and 10 Mbit/s, 4 CUBIC", 40, "rate", "--rate 10mbit,10s:2mbit,25s:10mbit --seconds 40 --flows 4:cubic:20ms"),
-    ("mixed", "9.1", "2 CUBIC, 2 voice, DNS, web", 24, "", "--flows 2:cubic:20ms 2:voice:20ms 1:dns=5:20ms --short 14600x3,146000x0.5"),
-    ("back", "9.2", "4 CUBIC each way", 40, "", "--seconds 60 --reverse 10mbit --flows 4:cubic:20ms back:4:cubic:20ms"),
+    ("one", "8", "1 CUBIC", 12, "", "--flows 1:cubic:20ms"),
+    ("four", "5.1", "4 CUBIC", 16, "ecn", "--flows 4:cubic:20ms"),
+    ("reno", "5.1", "4 Reno", 16, "", "--flows 4:reno:50ms"),
+    ("bbrcubic", "5.2", "2 CUBIC, 2 BBR", 24, "", "--flows 2:cubic:20ms 2:bbr:20ms"),
+    ("udp", "5.3", "4 CUBIC, UDP of 12 Mbit/s", 20, "ecn", "--flows 4:cubic:20ms 1:udp=12mbit:20ms"),
+    ("trips", "6", "2 CUBIC each at 10, 50, 200 ms", 16, "half", "--flows 2:cubic:10ms 2:cubic:50ms 2:cubic:200ms"),
+    ("far", "6", "4 CUBIC, 100 ms", 24, "ecn,half", "--flows 4:cubic:100ms"),
+    ("burst", "7", "1 CUBIC, bursts of 40 packets", 12, "", "--flows 1:cubic:20ms 1:burst=40x1s:20ms"),
+    ("short", "7", "1 CUBIC, short flows", 16, "", "--flows 1:cubic:20ms --short 1460x2,14600x2,146000x0.5,730000x0.1"),
+    ("slow", "8", "0.5 Mbit/s, 4 CUBIC, limit 1 s", 8, "", "--rate 500kbit --limit 1s --seconds 40 --flows 4:cubic:20ms"),
+    ("two", "8", "2 Mbit/s, 4 CUBIC", 12, "", "--rate 2mbit --seconds 25 --flows 4:cubic:20ms"),
+    ("many", "8", "64 CUBIC", 16, "ecn", "--flows 64:cubic:20ms"),
+    ("fast", "8", "100 Mbit/s, 4 CUBIC", 8, "", "--rate 100mbit --seconds 5 --flows 4:cubic:20ms"),
+    ("gigabit", "8", "1 Gbit/s, 16 CUBIC", 4, "", "--rate 1gbit --seconds 2 --flows 16:cubic:20ms"),
+    ("onoff", "8.2.5", "2 CUBIC, 16 more for 5 s", 20, "", "--flows 2:cubic:20ms 16:cubic:20ms:8s-13s"),
+    ("step", "8.2.6", "10, 2 and 10 Mbit/s, 4 CUBIC", 12, "rate", "--rate 10mbit,10s:2mbit,25s:10mbit --seconds 40 --flows 4:cubic:20ms"),
+    ("mixed", "9.1", "2 CUBIC, 2 voice, DNS, web", 16, "", "--flows 2:cubic:20ms 2:voice:20ms 1:dns=5:20ms --short 14600x3,146000x0.5"),
+    ("back", "9.2", "4 CUBIC each way", 12, "", "--reverse 10mbit --flows 4:cubic:20ms back:4:cubic:20ms"),
 ]
+# the scenarios in which rules of Linux's pie are exchanged, in a Linux of their own
+EXCHANGES = ["udp", "two", "slow"]
+EXCHANGE_BLOCKS = 8
+EXCHANGED = ["stamp", "pie", *(f"pie-{it}" for it in beside.RULES), "pie-all", *(f"pie-all-{it}" for it in beside.RULES)]
 FIELDS = ["scenario", "queue", "block", "goodput", "groups", "wait", "wait99", "short", "packets", "lost", "early", "tail", "marks", "late", "audit",
           "processor", "version"]
-VERSIONED = ["bench/uml/build.sh", "bench/uml/network.py", "bench/uml/traffic.c", "bench/uml/beside.py", "bench/uml/queues.py", "examples/link",
-             "examples/shared", "dist/x86_64"]
+SCRIPTS = [f"bench/uml/{it}" for it in ("rules.sh", "rules.sed", "network.py", "traffic.c", "beside.py", "queues.py")]
+VERSIONED = ["bench/uml/build.sh", *SCRIPTS, "examples/link", "examples/shared", "dist/x86_64"]
 RECORD = struct.Struct("=qIIHHI")       # struct record of traffic.c
-MOST_KEPT = 65536                       # packets of a flow, after which an identification may come again
+BUILDING = threading.Lock()
 
 
 class Scenario:
-    def __init__(self, name, section, words, blocks, more, options):
-        self.name, self.section, self.words, self.blocks = name, section, words, blocks
+    def __init__(self, name, section, words, blocks, more, options, queues=SINGLE, linux="build.sh"):
+        self.name, self.section, self.words, self.blocks, self.linux = name, section, words, blocks, linux
         self.options = beside.options(shlex.split(f"--seconds 20 --from 0 {options}"))
-        self.queues = [*SINGLE, *filter(None, more.split(","))]
+        self.queues = [*queues, *filter(None, more.split(","))]
 
     def blocks_of(self, queue):
         """Returns the number of blocks of a queue. Queues that only compare the bottlenecks need few."""
@@ -85,12 +90,15 @@ class Scenario:
 
     def block(self, number, queues):
         """Returns a block for network.py, with its queues in a random order."""
-        found = beside.scenario_of(self.name, self.options, dict.fromkeys(queues, number), [number]) | {"watch": 1}
+        found = beside.scenario_of(self.name, self.options, dict.fromkeys(queues, number), [number]) | {"watch": 1, "linux": self.linux}
         random.Random(f"{self.name}-{number}-order").shuffle(queues)
         return found | {"order": [f"{number}-{queue}" for queue in queues]}
 
 
 SCENARIOS = {row[0]: Scenario(*row) for row in TABLE}
+ALL, RULES_SCENARIOS = list(SCENARIOS), [f"{it}rules" for it in EXCHANGES]
+SCENARIOS |= {f"{row[0]}rules": Scenario(f"{row[0]}rules", row[1], row[2], EXCHANGE_BLOCKS, "", row[5], EXCHANGED, "rules.sh")
+              for row in TABLE if row[0] in EXCHANGES}
 
 
 class Question:
@@ -100,7 +108,6 @@ class Question:
         self.number, self.words, self.pairs, self.is_sameness = number, words, pairs, is_sameness
 
 
-ALL = list(SCENARIOS)
 QUESTIONS = [
     Question(1, "Is this PIE Linux's `pie`?", ("stamp", "pie", ALL), is_sameness=True),
     Question(2, "This PIE in place of `codel`?", ("stamp", "codel", ALL)),
@@ -110,8 +117,12 @@ QUESTIONS = [
     Question(6, "This PIE in place of `fq_pie`?", ("stamp", "fq_pie", ALL)),
     Question(7, "Is a mark better than a drop?", ("ecn", "stamp", ["four", "far", "many", "udp"])),
     Question(8, "Do optional elements help?", ("half", "stamp", ["far", "trips"]), ("rate", "stamp", ["step"])),
+    Question(9, "Which rule makes the difference to `pie`?",
+             *((queue, "pie-all" if "all-" in queue else "pie", RULES_SCENARIOS) for queue in EXCHANGED if queue != "pie"),
+             ("stamp", "pie-all", RULES_SCENARIOS)),
 ]
-MARGINS = {"goodput": (0.01, 0), "wait": (0.1, 1), "wait99": (0.1, 2), "short": (0.1, 0)}     # a share of the other queue's mean, and the least margin in ms
+# a share of the other queue's mean, and the least margin in ms
+MARGINS = {"goodput": (0.01, 0), "wait": (0.1, 1), "wait99": (0.1, 2), "short": (0.1, 0)}
 
 
 def measures_of(name):
@@ -129,12 +140,12 @@ def git(*words):
 
 
 def version():
-    """Returns the version that rows have: the commit that last changed one of the files, the kernel's source and build.sh, the assembly of our queue, the
-    link, and the scripts. A `+` follows if a file has a change that is not committed."""
+    """Returns the version that rows have: the commit that last changed one of the files, the kernel's source and build.sh, the assembly of our queue,
+    the link, and the scripts. A `+` follows if a file has a change that is not committed."""
     package = subprocess.run(["dpkg-query", "--show", "--showformat", "${Version}", "linux-source-6.1"], capture_output=True, text=True).stdout
     name = {it: git("rev-parse", f"HEAD:{it}")[:8] for it in VERSIONED}
     assembly = hashlib.sha256((TOP / "dist/x86_64/pie_c.S").read_bytes()).hexdigest()[:8]
-    scripts = hashlib.sha256("".join(name[it] for it in VERSIONED[1:5]).encode()).hexdigest()[:8]
+    scripts = hashlib.sha256("".join(name[it] for it in SCRIPTS).encode()).hexdigest()[:8]
     changed = "+" if git("status", "--porcelain", "--", *VERSIONED) else ""
     return (f"commit {git('log', '-1', '--format=%h', '--abbrev=8', '--', *VERSIONED)} linux {package}/{name[VERSIONED[0]]} assembly {assembly} "
             f"link {name['examples/link']}/{name['examples/shared']} scripts {scripts}{changed}")
@@ -228,7 +239,8 @@ class Batch:
     """The runs of a call: blocks of scenarios whose rows are missing."""
 
     def __init__(self, program, folder, rows, names, last):
-        self.program, self.folder, self.rows, self.linux, self.stopped, self.failed = program, folder, rows, set(), False, []
+        self.program, self.folder, self.rows = program, folder, rows
+        self.linux, self.stopped, self.failed = set(), False, []
         self.lock = threading.Lock()
         every = [(block, name, queue) for name in names for queue in SCENARIOS[name].queues
                  for block in range(1, min(last, SCENARIOS[name].blocks_of(queue)) + 1)]
@@ -267,9 +279,10 @@ class Batch:
 
     def boot(self, place):
         """Boots a Linux that makes the runs of a block. Returns its processor seconds."""
+        linux = linux_by(json.loads((place / "block.json").read_text())["linux"])
         with open(place / "said", "w") as said:
-            it = subprocess.Popen([str(HERE / "run.sh"), sys.executable, str(HERE / "network.py"), str(place / "block.json")], stderr=said, stdout=said,
-                                  start_new_session=True)
+            it = subprocess.Popen([str(HERE / "run.sh"), sys.executable, str(HERE / "network.py"), str(place / "block.json")],
+                                  stderr=said, stdout=said, start_new_session=True, env=os.environ | {"UML_LINUX": linux})
             self.linux.add(it)
             if self.stopped:
                 it.terminate()
@@ -295,6 +308,13 @@ class Batch:
                                  "version": self.rows.version})
             done += 1
         return done
+
+
+@functools.cache
+def linux_by(script):
+    """Returns the Linux that a script builds in the user's cache."""
+    with BUILDING:
+        return subprocess.run([HERE / script, *["--kept"] * (script == "build.sh")], stdout=subprocess.PIPE, text=True, check=True).stdout.strip()
 
 
 def busy():

@@ -1,12 +1,12 @@
 #!/usr/bin/env python3
 """Checks the runner of the plan's runs (bench/uml/queues.py) and the answers (docs/questions.py), without a run.
 
-The runner is killed at a random moment, with a run in place of network.py that takes 30 ms, and begun again until it ends: each run of the plan then has
-one row, also after a last line that was written in part, and no run that has a row was made again. SIGTERM keeps the runs that are complete. Rows of
+The runner is killed at a random moment, with a run in place of network.py that takes 30 ms, and begun again until it ends: each run of the plan then
+has one row, also after a last line that was written in part, and no run that has a row was made again. SIGTERM keeps the runs that are complete. Rows of
 another version and two rows of one run are refused. The waits of a run are those of its two files of packets.
 
-The answers come from invented rows of which each verdict is known, with Holm's correction; rows of two versions, a run that is missing, and a run that
-is there twice are refused.
+The answers come from invented rows of which each verdict is known, with Holm's correction; rows of two versions, a run that is missing, and a run
+that is there twice are refused.
 needs: nothing"""
 import csv
 import itertools
@@ -92,7 +92,7 @@ def check_runner(folder):
     found = [queues.key_of(row) for row in rows_in(folder)]
     check(kills > 1, f"the runner was killed {kills} times only")
     check(len(found) == len(set(found)), "a run has two rows after the runner was killed")
-    check(set(found) == planned, f"after the runner was killed, {len(planned - set(found))} runs are lost, and {len(set(found) - planned)} were not planned")
+    check(set(found) == planned, f"after the runner was killed, {len(planned - set(found))} runs are lost, {len(set(found) - planned)} were not planned")
     made = (folder / "made").read_text().split("\n")[:-1]
     check(len(made) <= len(planned) + kills * 2, f"{len(made)} runs were read for {len(planned)} rows and {kills} interruptions")
     check(begun(folder).wait() == 0 and len((folder / "made").read_text().split("\n")[:-1]) == len(made), "a run that has a row was made again")
@@ -135,10 +135,10 @@ def check_rows(folder):
 def check_waits(folder):
     """Three flows: one packet is dropped, one comes before the window, and an identification comes again."""
     def file(name, packets):
-        (folder / name).write_bytes(b"".join(queues.RECORD.pack(moment, source, 1500, port, identification, 6) for moment, source, port, identification in packets))
-    ms = 1_000_000
-    file("arrivals", [(0, 1, 7, 1), (1000 * ms, 1, 7, 2), (1001 * ms, 1, 7, 3), (1002 * ms, 2, 7, 3), (1003 * ms, 2, 8, 3), (1500 * ms, 1, 7, 1), (1600 * ms, 1, 7, 2)])
-    file("departures", [(5 * ms, 1, 7, 1), (1010 * ms, 1, 7, 2), (1031 * ms, 2, 8, 3), (1042 * ms, 2, 7, 3), (1501 * ms, 1, 7, 1)])
+        records = (queues.RECORD.pack(ms * 1_000_000, source, 1500, port, identification, 6) for ms, source, port, identification in packets)
+        (folder / name).write_bytes(b"".join(records))
+    file("arrivals", [(0, 1, 7, 1), (1000, 1, 7, 2), (1001, 1, 7, 3), (1002, 2, 7, 3), (1003, 2, 8, 3), (1500, 1, 7, 1), (1600, 1, 7, 2)])
+    file("departures", [(5, 1, 7, 1), (1010, 1, 7, 2), (1031, 2, 8, 3), (1042, 2, 7, 3), (1501, 1, 7, 1)])
     found = queues.crossed(folder, 1, 2)
     check(sorted(found[0]) == [1, 10, 28, 40] and found[1] == 2, f"the waits and losses of packets are {found}")
 
@@ -169,14 +169,15 @@ def check_answers():
     check("**Yes.**" in questions.sentence(queues.QUESTIONS[0], list(verdicts_of(plain, 1).values())), "equal queues are not the same")
 
     def change(name, queue, block, measure, value):
-        """`codel` has a better goodput in `one`, a worse wait in `two`; its 99th percentile in `four` is at the margin, in `far` wild, and its short flows
-        in `short` take longer."""
+        """`codel` has a better goodput in `one`, a worse wait in `two`; its 99th percentile in `four` is at the margin, in `far` wild, and its short
+        flows in `short` take longer."""
         if queue != "codel":
             return value
         return {("one", "goodput"): value + 0.4, ("two", "wait"): value + 9, ("four", "wait99"): value + 2.78, ("short", "short"): value + 100,
                 ("far", "wait99"): value + 40 * (-1) ** block}.get((name, measure), value)
     found = verdicts_of(invented(change), 2)
-    wanted = {("one", "goodput"): "worse", ("two", "wait"): "better", ("four", "wait99"): "open", ("far", "wait99"): "open", ("short", "short"): "better"}
+    wanted = {("one", "goodput"): "worse", ("two", "wait"): "better", ("four", "wait99"): "open", ("far", "wait99"): "open",
+              ("short", "short"): "better"}
     for (_, name, measure), it in found.items():
         check(it.verdict == wanted.get((name, measure), "same"), f"{name}, {measure}: {it.verdict}, {it.difference} with margin {it.margin}")
     text = questions.sentence(queues.QUESTIONS[1], list(found.values()))
@@ -187,16 +188,17 @@ def check_answers():
 
     # a difference beyond its margin that Holm's correction over 56 comparisons does not confirm, and that a comparison of its own would
     def weak(name, queue, block, measure, value):
-        return value + 2.3 + 1.1 * (-1) ** block if (name, queue, measure) == ("one", "codel", "wait") else value
-    it = verdicts_of(invented(weak), 2)["stamp", "one", "wait"]
+        return value + 2.3 + 1.1 * (-1) ** block if (name, queue, measure) == ("four", "codel", "wait") else value
+    it = verdicts_of(invented(weak), 2)["stamp", "four", "wait"]
     check(0.001 < it.share < 0.05 and it.verdict == "open", f"without the correction: {it.share}, {it.verdict}")
     alone = questions.Comparison("one", "wait", "stamp", "codel", [1, 1.1, 0.9, 1], [4, 4.1, 3.9, 4.3])
     questions.judge([alone])
     check(alone.verdict == "better", f"a difference of three margins is {alone.verdict}")
 
     text, pictures = questions.page(questions.checked(plain))
-    check(text.count("\n|`") > 150 and len(pictures) == 8 and all("<svg" in it for it in pictures.values()), "the page lacks tables or pictures")
-    check("`half` is `better` in the goodput of `far`" in text and "PIE here is `same`" not in text.split("did not happen")[1], "the predictions are not compared")
+    check(text.count("\n|`") > 150 and len(pictures) == 9 and all("<svg" in it for it in pictures.values()), "the page lacks tables or pictures")
+    check("`half` is `better` in the goodput of `far`" in text and "PIE here is `same`" not in text.split("did not happen")[1],
+          "the predictions are not compared")
     for rows, word in ((plain[1:], "missing"), (plain + plain[:1], "two rows"), ([plain[0] | {"version": "commit 1"}, *plain[1:]], "versions")):
         check(word in refused(questions.checked, rows), f"rows pass: {word}")
 

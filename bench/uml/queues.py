@@ -48,11 +48,11 @@ CALIBRATION, CALIBRATION_BLOCKS = ("tail", "pfifo"), 3
 # name, section of RFC 7928, traffic in words, blocks, more queues, options
 TABLE = [
     ("one", "8", "1 CUBIC", 12, "", "--flows 1:cubic:20ms"),
-    ("four", "5.1", "4 CUBIC", 16, "ecn", "--flows 4:cubic:20ms"),
-    ("reno", "5.1", "4 Reno", 16, "", "--flows 4:reno:50ms"),
+    ("four", "5.1", "4 CUBIC", 12, "ecn", "--flows 4:cubic:20ms"),
+    ("reno", "5.1", "4 Reno", 12, "", "--flows 4:reno:50ms"),
     ("bbrcubic", "5.2", "2 CUBIC, 2 BBR", 24, "", "--flows 2:cubic:20ms 2:bbr:20ms"),
     ("udp", "5.3", "4 CUBIC, UDP of 12 Mbit/s", 20, "ecn", "--flows 4:cubic:20ms 1:udp=12mbit:20ms"),
-    ("trips", "6", "2 CUBIC each at 10, 50, 200 ms", 16, "half", "--flows 2:cubic:10ms 2:cubic:50ms 2:cubic:200ms"),
+    ("trips", "6", "2 CUBIC each at 10, 50, 200 ms", 12, "half", "--flows 2:cubic:10ms 2:cubic:50ms 2:cubic:200ms"),
     ("far", "6", "4 CUBIC, 100 ms", 24, "ecn,half", "--flows 4:cubic:100ms"),
     ("burst", "7", "1 CUBIC, bursts of 40 packets", 12, "", "--flows 1:cubic:20ms 1:burst=40x1s:20ms"),
     ("short", "7", "1 CUBIC, short flows", 16, "", "--flows 1:cubic:20ms --short 1460x2,14600x2,146000x0.5,730000x0.1"),

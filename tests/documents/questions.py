@@ -188,8 +188,8 @@ def check_answers():
 
     # a difference beyond its margin that Holm's correction over 56 comparisons does not confirm, and that a comparison of its own would
     def weak(name, queue, block, measure, value):
-        return value + 2.3 + 1.1 * (-1) ** block if (name, queue, measure) == ("four", "codel", "wait") else value
-    it = verdicts_of(invented(weak), 2)["stamp", "four", "wait"]
+        return value + 2.3 + 1.1 * (-1) ** block if (name, queue, measure) == ("mixed", "codel", "wait") else value
+    it = verdicts_of(invented(weak), 2)["stamp", "mixed", "wait"]
     check(0.001 < it.share < 0.05 and it.verdict == "open", f"without the correction: {it.share}, {it.verdict}")
     alone = questions.Comparison("one", "wait", "stamp", "codel", [1, 1.1, 0.9, 1], [4, 4.1, 3.9, 4.3])
     questions.judge([alone])

@@ -188,7 +188,7 @@ def check_answers():
 
     # a difference beyond its margin that Holm's correction over 56 comparisons does not confirm, and that a comparison of its own would
     def weak(name, queue, block, measure, value):
-        return value + 2.3 + 1.1 * (-1) ** block if (name, queue, measure) == ("mixed", "codel", "wait") else value
+        return value + 2.45 + 1.1 * (-1) ** block if (name, queue, measure) == ("mixed", "codel", "wait") else value
     it = verdicts_of(invented(weak), 2)["stamp", "mixed", "wait"]
     check(0.001 < it.share < 0.05 and it.verdict == "open", f"without the correction: {it.share}, {it.verdict}")
     alone = questions.Comparison("one", "wait", "stamp", "codel", [1, 1.1, 0.9, 1], [4, 4.1, 3.9, 4.3])
@@ -203,6 +203,15 @@ def check_answers():
         check(word in refused(questions.checked, rows), f"rows pass: {word}")
 
 
+def check_stored():
+    """The stored rows are runs of the plan, in the version that the plan names, which is one."""
+    stored = Path(__file__).resolve().parents[2] / "bench/uml/queues.csv.xz"
+    rows = questions.read(stored) if stored.exists() else []
+    found = [queues.key_of(row) for row in rows]
+    check(len(found) == len(set(found)) and set(found) <= queues.expected_keys(), "a stored run is there twice, or is not of the plan")
+    check(len({row["version"] for row in rows}) <= 1 and all(row["version"] in queues.PLAN.read_text() for row in rows), "stored runs of another version")
+
+
 if sys.argv[1:2] == ["--child"]:
     child(Path(sys.argv[2]))
     sys.exit()
@@ -210,4 +219,5 @@ for case in (check_runner, check_stop, check_rows, check_waits):
     with tempfile.TemporaryDirectory() as folder:
         case(Path(folder))
 check_answers()
+check_stored()
 finish()

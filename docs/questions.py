@@ -127,7 +127,7 @@ def sentence(question, found):
         answer = "No" if counts["better"] or counts["worse"] else "Yes" if not counts["open"] else "Not decided"
     else:
         answers = {(True, True): "It depends", (True, False): "Yes", (False, True): "No"}
-        answer = answers.get((counts["better"] > 0, counts["worse"] > 0), "No difference was found")
+        answer = answers.get((counts["better"] > 0, counts["worse"] > 0), "Not decided" if counts["open"] else "No difference was found")
     which = "; ".join(f"`{verdict}`: {names(found, verdict)}" for verdict in ("better", "worse") if counts[verdict])
     return (f"**{answer}.** Of {len(found)} comparisons {counts['better']} are `better`, {counts['worse']} `worse`, {counts['same']} `same` and "
             f"{counts['open']} `open`{'. ' + which if which else ''}.")

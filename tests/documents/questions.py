@@ -129,7 +129,9 @@ def check_rows(folder):
     check("two rows" in refused(rows.add, row), "the runner adds a row twice")
     rows.add(row | {"block": "2"})
     check([it["block"] for it in rows_in(folder)] == ["1", "2"], "the runner loses a row")
+    known, queues.version = queues.version, lambda: VERSION
     check("does not name" in refused(queues.store, folder), "rows are stored whose version the plan does not name")
+    queues.version = known
 
 
 def check_waits(folder):
@@ -166,7 +168,13 @@ def check_answers():
     for question in queues.QUESTIONS:
         found = verdicts_of(plain, question.number)
         check(all(it.verdict == "same" for it in found.values()), f"equal queues are not all `same`: question {question.number}")
-    check("**Yes.**" in questions.sentence(queues.QUESTIONS[0], list(verdicts_of(plain, 1).values())), "equal queues are not the same")
+    for change, number, word in (
+            (None, 1, "Yes"), (lambda it, _: it, 2, "No difference was found"), (lambda it, _: it + 9, 2, "Yes"), (lambda it, _: it - 9, 2, "No"),
+            (lambda it, wave: it + 1.7 + wave, 2, "Not decided"), (lambda it, _: it + 9, 1, "No"), (lambda it, wave: it + 1.7 + wave, 1, "Not decided")):
+        def changed(name, queue, block, measure, value):
+            return change(value, (-1) ** block) if change and (name, queue, measure) == ("two", {1: "pie", 2: "codel"}[number], "wait") else value
+        text = questions.sentence(queues.QUESTIONS[number - 1], list(verdicts_of(invented(changed), number).values()))
+        check(text.startswith(f"**{word}.**"), f"question {number} is answered with {text}, and not with {word}")
 
     def change(name, queue, block, measure, value):
         """`codel` has a better goodput in `one`, a worse wait in `two`; its 99th percentile in `four` is at the margin, in `far` wild, and its short

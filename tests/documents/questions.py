@@ -6,19 +6,20 @@ has one row, also after a last line that was written in part, and no run that ha
 another version and two rows of one run are refused. The waits of a run are those of its two files of packets.
 
 The answers come from invented rows of which each verdict is known, with Holm's correction; rows of two versions, a run that is missing, and a run
-that is there twice are refused.
+that is there twice are refused. Each number of the tables is computed again from the rows.
 needs: nothing"""
 import csv
 import itertools
-import json
 import os
 import random
+import re
 import signal
 import subprocess
 import sys
 import tempfile
 import time
 from pathlib import Path
+from statistics import fmean, stdev
 
 HERE = Path(__file__).resolve().parent
 sys.path[:0] = [str(HERE.parent / "shared"), str(HERE.parents[1] / "docs"), str(HERE.parents[1] / "bench/uml")]
@@ -211,6 +212,43 @@ def check_answers():
         check(word in refused(questions.checked, rows), f"rows pass: {word}")
 
 
+CELL = re.compile(r"(-?[\d.]+) and (-?[\d.]+): (-?[\d.]+)±([\d.]+), margin ([\d.]+), \*\*(\w+)\*\*")
+QUANTILES = {7: 1.894579, 11: 1.795885, 15: 1.753050, 19: 1.729133, 23: 1.713872, 3: 2.353363}     # of Student's t at 95 %, by degrees of freedom
+
+
+def check_page():
+    """Computes each number of the tables again from the rows: means, difference, half the interval, and margin."""
+    def change(name, queue, block, measure, value):
+        return value * {"fq_codel": 0.5, "red": 1.3}.get(queue, 1) if measure != "goodput" else value
+    rows = invented(change)
+    text, _ = questions.page(questions.checked(rows))
+    queue_of = {word: queue for queue, word in questions.NAMES.items()}
+    columns = {words: measure for measure, words in questions.WORDS.items()}
+    count, heads = 0, []
+    for line in text.split("## Tail drop")[0].splitlines():
+        cells = line.strip("|").split("|") if line.startswith("|") else []
+        if cells[:1] == ["scenario"]:
+            heads = [columns[it] for it in cells[3:]]
+        elif len(cells) > 3 and CELL.search(line):
+            name, (one, other) = cells[0].strip("`"), (queue_of.get(it, it.strip("`")) for it in cells[1].split(" and "))
+            for measure, cell in zip(heads, cells[3:]):
+                if not cell:
+                    continue
+                values = [[float(row[measure]) for row in rows if (row["scenario"], row["queue"]) == (name, queue)] for queue in (one, other)]
+                differences = [it - their for it, their in zip(*values)]
+                margin = max({"goodput": 0.01}.get(measure, 0.1) * fmean(values[1]), {"wait": 1, "wait99": 2}.get(measure, 0))
+                reach = QUANTILES[len(differences) - 1] * stdev(differences) / len(differences) ** 0.5
+                wanted = [fmean(values[0]), fmean(values[1]), fmean(differences), reach, margin]
+                *printed, verdict = CELL.fullmatch(cell).groups()
+                halves = [0.51 * 10 ** -len(it.partition(".")[2]) for it in printed]
+                check(all(abs(float(it) - number) <= half for it, number, half in zip(printed, wanted, halves)),
+                      f"{name}, {one} and {other}, {measure}: the page has {cell}, and the rows give {wanted}")
+                check(verdict == "same" if abs(wanted[2]) + reach < margin else verdict != "same", f"{name}, {measure}: {cell}")
+                count += 1
+    wanted = sum(len(scenarios) * 3 + sum(name in ("short", "mixed") for name in scenarios) for it in queues.QUESTIONS for _, _, scenarios in it.pairs)
+    check(count == wanted, f"the tables have {count} comparisons, and the plan {wanted}")
+
+
 def check_stored():
     """The stored rows are runs of the plan, in the version that the plan names, which is one."""
     stored = Path(__file__).resolve().parents[2] / "bench/uml/queues.csv.xz"
@@ -227,5 +265,6 @@ for case in (check_runner, check_stop, check_rows, check_waits):
     with tempfile.TemporaryDirectory() as folder:
         case(Path(folder))
 check_answers()
+check_page()
 check_stored()
 finish()

@@ -9,7 +9,6 @@ The answers come from invented rows of which each verdict is known, with Holm's 
 that is there twice are refused. Each number of the tables is computed again from the rows.
 needs: nothing"""
 import csv
-import itertools
 import os
 import random
 import re
@@ -40,6 +39,8 @@ for name in json.loads((place / "block.json").read_text())["order"]:
     time.sleep(float(sys.argv[2]))
     (place / name).mkdir()
     (place / name / "run.json").write_text("{}")
+    with open(place.parent / "steps", "a") as out:
+        out.write("1\\n")
 """
 
 
@@ -75,23 +76,28 @@ def rows_in(folder):
     return list(csv.DictReader(open(file))) if file.exists() else []
 
 
+def progress(folder):
+    """Returns the number of runs that were made so far."""
+    return sum(1 for _ in open(folder / "steps")) if (folder / "steps").exists() else 0
+
+
 def check_runner(folder):
-    dice, kills = random.Random(7), 0
-    for turn in itertools.count():
-        it = begun(folder)
-        try:
-            it.wait(timeout=dice.uniform(0.3, 0.7) if turn < 4 else None)
-            break
-        except subprocess.TimeoutExpired:
-            os.killpg(it.pid, signal.SIGTERM if turn == 1 else signal.SIGKILL)
-            kills += 1
-            it.wait()
-            with open(folder / "queues.csv", "a") as out:
-                out.write("one,stamp,1,9.5")        # (a line that was written in part)
+    dice, kills = random.Random(7), 4
+    for turn in range(kills):
+        it, least = begun(folder), progress(folder) + dice.randint(3, 14)
+        while progress(folder) < least:
+            check(it.poll() is None, "the runner ended before it was killed")
+            if it.poll() is not None:
+                return
+            time.sleep(0.01)
+        os.killpg(it.pid, signal.SIGTERM if turn == 1 else signal.SIGKILL)
+        it.wait()
+        with open(folder / "queues.csv", "a") as out:
+            out.write("one,stamp,1,9.5")        # (a line that was written in part)
+    begun(folder).wait()
     planned = {(name, queue, block) for name in NAMES for queue in queues.SCENARIOS[name].queues
                for block in range(1, min(BLOCKS, queues.SCENARIOS[name].blocks_of(queue)) + 1)}
     found = [queues.key_of(row) for row in rows_in(folder)]
-    check(kills > 1, f"the runner was killed {kills} times only")
     check(len(found) == len(set(found)), "a run has two rows after the runner was killed")
     check(set(found) == planned, f"after the runner was killed, {len(planned - set(found))} runs are lost, {len(set(found) - planned)} were not planned")
     made = (folder / "made").read_text().split("\n")[:-1]
@@ -102,7 +108,7 @@ def check_runner(folder):
 def check_stop(folder):
     """SIGTERM keeps the rows of the runs that are complete in the Linux that it ends."""
     it = begun(folder)
-    while not any(folder.glob("one-1/*/run.json")):
+    while progress(folder) < 1:
         time.sleep(0.01)
     it.terminate()
     it.wait()

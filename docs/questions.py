@@ -22,13 +22,42 @@ sys.path[:0] = [str(ROOT / "docs"), str(ROOT / "bench"), str(ROOT / "bench/uml")
 sys.dont_write_bytecode = True
 from curves import text_at  # noqa: E402
 from equivalence import LEVEL, student, student_quantile  # noqa: E402
-from queues import ALL, MARGINS, QUESTIONS, SCENARIOS, expected_keys, key_of, measures_of  # noqa: E402
+from queues import ALL, EXCHANGED, RULES_SCENARIOS, SCENARIOS, expected_keys, key_of  # noqa: E402
 
 NAMES = {"stamp": "PIE here", "ecn": "PIE here with ECN", "half": "PIE here, `--decay half`", "rate": "PIE here, `--delay rate`", "pie": "`pie`",
          "codel": "`codel`", "red": "`red adaptive`", "fq_codel": "`fq_codel`", "cake": "`cake besteffort`", "fq_pie": "`fq_pie`"}
 WORDS = {"goodput": "goodput, Mbit/s", "wait": "mean wait, ms", "wait99": "99th percentile of waits, ms", "short": "median time of a short flow, ms"}
 COLOURS = {"better": "#2e7d32", "worse": "#b03030", "same": "#2060a0", "open": "#999999"}
 REACH = 4       # margins that a picture reaches to each side
+
+
+class Question:
+    """A question of the plan: pairs of queues, the first of which is judged, each with its scenarios."""
+
+    def __init__(self, number, words, *pairs, is_sameness=False):
+        self.number, self.words, self.pairs, self.is_sameness = number, words, pairs, is_sameness
+
+
+QUESTIONS = [
+    Question(1, "Is this PIE Linux's `pie`?", ("stamp", "pie", ALL), is_sameness=True),
+    Question(2, "This PIE in place of `codel`?", ("stamp", "codel", ALL)),
+    Question(3, "This PIE in place of RED?", ("stamp", "red", ALL)),
+    Question(4, "This PIE in place of `fq_codel`?", ("stamp", "fq_codel", ALL)),
+    Question(5, "This PIE in place of `cake`?", ("stamp", "cake", ALL)),
+    Question(6, "This PIE in place of `fq_pie`?", ("stamp", "fq_pie", ALL)),
+    Question(7, "Is a mark better than a drop?", ("ecn", "stamp", ["four", "far", "many", "udp"])),
+    Question(8, "Do optional elements help?", ("half", "stamp", ["far", "trips"]), ("rate", "stamp", ["step"])),
+    Question(9, "Which rule makes the difference to `pie`?",
+             *((queue, "pie-all" if "all-" in queue else "pie", RULES_SCENARIOS) for queue in EXCHANGED if queue != "pie"),
+             ("stamp", "pie-all", RULES_SCENARIOS)),
+]
+# a share of the other queue's mean, and the least margin in ms
+MARGINS = {"goodput": (0.01, 0), "wait": (0.1, 1), "wait99": (0.1, 2), "short": (0.1, 0)}
+
+
+def measures_of(name):
+    """Returns the measures that are compared in a scenario."""
+    return [it for it in MARGINS if it != "short" or SCENARIOS[name].options.short]
 
 
 class Comparison:

@@ -3,7 +3,7 @@
 A run that has a row is not made again, so a batch that was stopped continues.
 
 usage: bench/uml/queues.py PIE FOLDER [--jobs N] [--blocks LAST] [--trial] [NAME..]    all scenarios if none is named
-       bench/uml/queues.py --store FOLDER       adds the rows of FOLDER/queues.csv to bench/uml/queues.csv.xz
+       bench/uml/queues.py --store FOLDER       moves the rows of FOLDER/queues.csv to bench/uml/queues.csv.xz
        bench/uml/queues.py --version            prints the version of these files
   PIE       the built program; build/pie is what make builds
   --jobs    the number of runs at a time, 1 by default
@@ -99,35 +99,6 @@ SCENARIOS = {row[0]: Scenario(*row) for row in TABLE}
 ALL, RULES_SCENARIOS = list(SCENARIOS), [f"{it}rules" for it in EXCHANGES]
 SCENARIOS |= {f"{row[0]}rules": Scenario(f"{row[0]}rules", row[1], row[2], EXCHANGE_BLOCKS, "", row[5], EXCHANGED, "rules.sh")
               for row in TABLE if row[0] in EXCHANGES}
-
-
-class Question:
-    """A question of the plan: pairs of queues, the first of which is judged, each with its scenarios."""
-
-    def __init__(self, number, words, *pairs, is_sameness=False):
-        self.number, self.words, self.pairs, self.is_sameness = number, words, pairs, is_sameness
-
-
-QUESTIONS = [
-    Question(1, "Is this PIE Linux's `pie`?", ("stamp", "pie", ALL), is_sameness=True),
-    Question(2, "This PIE in place of `codel`?", ("stamp", "codel", ALL)),
-    Question(3, "This PIE in place of RED?", ("stamp", "red", ALL)),
-    Question(4, "This PIE in place of `fq_codel`?", ("stamp", "fq_codel", ALL)),
-    Question(5, "This PIE in place of `cake`?", ("stamp", "cake", ALL)),
-    Question(6, "This PIE in place of `fq_pie`?", ("stamp", "fq_pie", ALL)),
-    Question(7, "Is a mark better than a drop?", ("ecn", "stamp", ["four", "far", "many", "udp"])),
-    Question(8, "Do optional elements help?", ("half", "stamp", ["far", "trips"]), ("rate", "stamp", ["step"])),
-    Question(9, "Which rule makes the difference to `pie`?",
-             *((queue, "pie-all" if "all-" in queue else "pie", RULES_SCENARIOS) for queue in EXCHANGED if queue != "pie"),
-             ("stamp", "pie-all", RULES_SCENARIOS)),
-]
-# a share of the other queue's mean, and the least margin in ms
-MARGINS = {"goodput": (0.01, 0), "wait": (0.1, 1), "wait99": (0.1, 2), "short": (0.1, 0)}
-
-
-def measures_of(name):
-    """Returns the measures that are compared in a scenario."""
-    return [it for it in MARGINS if it != "short" or SCENARIOS[name].options.short]
 
 
 def expected_keys():
@@ -282,7 +253,7 @@ class Batch:
         linux = linux_by(json.loads((place / "block.json").read_text())["linux"])
         with open(place / "said", "w") as said:
             it = subprocess.Popen([str(HERE / "run.sh"), sys.executable, str(HERE / "network.py"), str(place / "block.json")],
-                                  stderr=said, stdout=said, start_new_session=True, env=os.environ | {"UML_LINUX": linux})
+                                  stderr=said, stdout=said, start_new_session=True, env=os.environ | {"UML_LINUX": linux, "UML_SECONDS": "100000"})
             self.linux.add(it)
             if self.stopped:
                 it.terminate()
@@ -348,7 +319,7 @@ def run_all(batch, jobs):
 
 
 def store(folder):
-    """Adds the rows of a folder to those that are stored."""
+    """Moves the rows of a folder to those that are stored."""
     now = version()
     if now not in PLAN.read_text() or now.endswith("+"):
         sys.exit(f"bench/uml/queues.py: PLAN.md does not name this version: {now}")
@@ -356,6 +327,7 @@ def store(folder):
     names = list(SCENARIOS)
     rows.all.sort(key=lambda row: (int(row["block"]), names.index(row["scenario"]), SCENARIOS[row["scenario"]].queues.index(row["queue"])))
     STORED.write_bytes(lzma.compress(text_of(rows.all).encode(), preset=9))
+    rows.file.write_text(text_of([]))
     print(f"{len(rows.all)} rows in {STORED.relative_to(TOP)}")
 
 

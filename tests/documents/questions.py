@@ -136,9 +136,15 @@ def check_rows(folder):
     check("two rows" in refused(rows.add, row), "the runner adds a row twice")
     rows.add(row | {"block": "2"})
     check([it["block"] for it in rows_in(folder)] == ["1", "2"], "the runner loses a row")
-    known, queues.version = queues.version, lambda: VERSION
+    known, known_plan, known_top, queues.version = queues.version, queues.PLAN, queues.TOP, lambda: VERSION
     check("does not name" in refused(queues.store, folder), "rows are stored whose version the plan does not name")
-    queues.version = known
+    queues.PLAN = folder / "PLAN.md"
+    queues.PLAN.write_text(f"This plan names {VERSION}.")
+    queues.TOP = folder
+    queues.store(folder)
+    queues.PLAN, queues.TOP, queues.version = known_plan, known_top, known
+    check(not rows_in(folder) and len(questions.read(queues.STORED)) == 2, "rows are not moved to those that are stored")
+    check(queues.Rows(folder, VERSION).keys == {("one", "stamp", 1), ("one", "stamp", 2)}, "a stored run would be made again")
 
 
 def check_waits(folder):
@@ -159,20 +165,20 @@ def invented(change=lambda name, queue, block, measure, value: value):
         same = random.Random(f"{name}-{block}")
         row = {"scenario": name, "queue": queue, "block": str(block), "version": VERSION, "lost": "10", "packets": "990"}
         for measure, mean in (("goodput", 9.5), ("wait", 15), ("wait99", 25), ("short", 200)):
-            part = queues.MARGINS[measure][0] * mean
+            part = questions.MARGINS[measure][0] * mean
             row[measure] = str(change(name, queue, block, measure, mean + part * (same.uniform(-2, 2) + dice.uniform(-0.2, 0.2))))
         rows.append(row)
     return rows
 
 
 def verdicts_of(rows, number):
-    question = next(it for it in queues.QUESTIONS if it.number == number)
+    question = next(it for it in questions.QUESTIONS if it.number == number)
     return {(it.one, it.scenario, it.measure): it for it in questions.compared(questions.checked(rows), question)}
 
 
 def check_answers():
     plain = invented()
-    for question in queues.QUESTIONS:
+    for question in questions.QUESTIONS:
         found = verdicts_of(plain, question.number)
         check(all(it.verdict == "same" for it in found.values()), f"equal queues are not all `same`: question {question.number}")
     for change, number, word in (
@@ -180,7 +186,7 @@ def check_answers():
             (lambda it, wave: it + 1.7 + wave, 2, "Not decided"), (lambda it, _: it + 9, 1, "No"), (lambda it, wave: it + 1.7 + wave, 1, "Not decided")):
         def changed(name, queue, block, measure, value):
             return change(value, (-1) ** block) if change and (name, queue, measure) == ("two", {1: "pie", 2: "codel"}[number], "wait") else value
-        text = questions.sentence(queues.QUESTIONS[number - 1], list(verdicts_of(invented(changed), number).values()))
+        text = questions.sentence(questions.QUESTIONS[number - 1], list(verdicts_of(invented(changed), number).values()))
         check(text.startswith(f"**{word}.**"), f"question {number} is answered with {text}, and not with {word}")
 
     def change(name, queue, block, measure, value):
@@ -195,7 +201,7 @@ def check_answers():
               ("short", "short"): "better"}
     for (_, name, measure), it in found.items():
         check(it.verdict == wanted.get((name, measure), "same"), f"{name}, {measure}: {it.verdict}, {it.difference} with margin {it.margin}")
-    text = questions.sentence(queues.QUESTIONS[1], list(found.values()))
+    text = questions.sentence(questions.QUESTIONS[1], list(found.values()))
     check("**It depends.** Of 56 comparisons 2 are `better`, 1 `worse`, 51 `same` and 2 `open`" in text, text)
     it = found["stamp", "two", "wait"]
     check(abs(it.margin - 0.1 * it.theirs) < 1e-9 and abs(it.difference + 9) < 0.5 and it.reach < 0.5, "the numbers of a comparison")
@@ -251,7 +257,7 @@ def check_page():
                       f"{name}, {one} and {other}, {measure}: the page has {cell}, and the rows give {wanted}")
                 check(verdict == "same" if abs(wanted[2]) + reach < margin else verdict != "same", f"{name}, {measure}: {cell}")
                 count += 1
-    wanted = sum(len(scenarios) * 3 + sum(name in ("short", "mixed") for name in scenarios) for it in queues.QUESTIONS for _, _, scenarios in it.pairs)
+    wanted = sum(len(scenarios) * 3 + sum(name in ("short", "mixed") for name in scenarios) for it in questions.QUESTIONS for _, _, scenarios in it.pairs)
     check(count == wanted, f"the tables have {count} comparisons, and the plan {wanted}")
 
 

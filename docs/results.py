@@ -24,6 +24,7 @@ sys.path[:0] = [str(ROOT / "bench"), str(ROOT / "bench/uml"), str(ROOT / "bindin
 sys.dont_write_bytecode = True
 from equivalence import compare, compare_pairs, power  # noqa: E402
 import beside  # noqa: E402
+import queues as planned  # noqa: E402
 import sparse  # noqa: E402
 from rfc7928 import estimate  # noqa: E402
 from scenarios import FIVE, SAME_BLOCKS, SCENARIOS, TWICE, queues_of  # noqa: E402
@@ -492,6 +493,12 @@ def versions():
     return (f"All {len(made)} runs, without those of [Limits](../../docs/RESULTS.md#limits), have one version of network.py ({network}) and traffic.c "
             f"({traffic}). **They mix {len(others)} versions of examples/link and dist/** ({pairs} runs); {several} of {len(queues)} queues of a scenario have "
             "runs of several versions.")
+
+
+def planned_runs():
+    """Returns the number of runs of PLAN.md's section Queues that are stored, and the number of all."""
+    stored = planned.STORED.relative_to(ROOT)
+    return f"{len(read(str(stored))) if (ROOT / stored).exists() else 0} of {len(planned.expected_keys())} runs"
 
 
 def mixed_versions():

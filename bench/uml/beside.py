@@ -7,9 +7,9 @@ usage: bench/uml/beside.py PIE FOLDER [--blocks FIRST-LAST] [--kept COUNT] [NAME
        bench/uml/beside.py PIE FOLDER --queues stamp,pie [--blocks 1-2] OPTIONS         one scenario by options, as scenarios.py has them
   PIE        the built program; build/pie is what make builds
   --queues   of the link: tail, stamp, rate (the delay by the departure rate), half (the other decay), wide (a target of 20 ms), marks (ECN up to any
-             probability), slowwide (a target of 30 ms), mtu (a mean_pkt of 1514 bytes), limit20 (a limit of 20 ms at the first rate, in bytes; any
-             number of ms); of the kernel: pfifo, pie, pie-rate (dq_rate_estimator), pie-low and pie-high (targets of 12.5 and 17.5 ms), fq_codel,
-             cake. NAME-again runs the queue once more, with other random words
+             probability), slowwide (a target of 30 ms), mtu (a mean_pkt of 1514 bytes), ecn (TCP and the queue use ECN), limit20 (a limit of
+             20 ms at the first rate, in bytes; any number of ms); of the kernel: pfifo, pie, pie-rate (dq_rate_estimator), pie-low and pie-high (targets of
+             12.5 and 17.5 ms), fq_codel, cake, codel, red (adaptive), fq_pie, and of rules.sh pie-RULE. NAME-again runs the queue once more, with other random words
   --blocks   the blocks of the scenario, as 1-2; all by default
   --kept     the number of blocks of each scenario whose files stay in the folder; 1 by default
   --late     also runs whose traffic began late: for a test in real time on a busy machine
@@ -45,6 +45,7 @@ OURS = {
     "slowwide": ["--target", "30ms"],
     "mtu": ["--mean_pkt", "1514b"],
     "marks": ["--mark_ecnth", "100%"],
+    "ecn": ["--ecn"],
     # wrong bottlenecks, which tests/program/beside.sh must find
     "late": ["--queue", "tail", "--delivery", "end"],
     "fast": ["--queue", "tail", "--rate", "10020kbit"],
@@ -55,9 +56,15 @@ THEIRS = {
     "pie-rate": "pie limit {packets} target 15ms tupdate 15ms dq_rate_estimator",
     "pie-low": "pie limit {packets} target 12500us tupdate 15ms",
     "pie-high": "pie limit {packets} target 17500us tupdate 15ms",
+    "codel": "codel limit {packets}",
+    "red": "red limit {bytes} min {least} max {most} avpkt 1000 probability 0.02 adaptive bandwidth {rate}bit",
+    "fq_pie": "fq_pie target 15ms tupdate 15ms",
     "fq_codel": "fq_codel",
     "cake": "cake unlimited besteffort",
 }
+# rules of Linux's pie that can be exchanged, in the order of rules.sed; pie-all has all of this project's, pie-all-NAME has all except one
+RULES = ["decay", "small", "holds", "far", "delay", "burst", "calm"]
+RED_WAIT = 0.0075           # seconds: the time that RED's least queue takes at the first rate
 UNITS = {"ns": 1e-9, "us": 1e-6, "ms": 1e-3, "s": 1, "bit": 1, "kbit": 1e3, "mbit": 1e6, "gbit": 1e9}
 FIELDS = ["scenario", "queue", "block", "from", "to", "goodput", "groups", "jain", "wait", "wait95", "wait99", "probe", "probe95", "probe99",
           "probes", "lost", "over150", "share", "voice", "voice99", "voice_lost", "dns", "dns99", "early", "tail", "marks", "sent", "prob", "base",
@@ -168,7 +175,10 @@ def queue_of(name, words):
         return {"kind": "ours", "words": ["--limit", f"{bytes_of_limit}b", "--tupdate", "15ms"]}
     if name in OURS:
         more = ["--tupdate", "15ms"] + ["--ecn"] * words.ecn + (["--grant", words.grant] if words.grant else [])
-        return {"kind": "ours", "words": OURS[name] + more}
+        return {"kind": "ours", "words": OURS[name] + more, "ecn": int(words.ecn or name == "ecn")}
+    if found := re.fullmatch(rf"pie-(all-)?({'|'.join([*RULES, 'all'])})", name):
+        every, one = (1 << len(RULES)) - 1, 1 << RULES.index(found[2]) if found[2] in RULES else 0
+        return queue_of("pie", words) | {"rules": every - one if found[1] or not one else one}
     if name not in THEIRS:
         sys.exit(f"bench/uml/beside.py: {name}: no queue of {', '.join([*OURS, *THEIRS])}")
     text = THEIRS[name]
@@ -176,6 +186,10 @@ def queue_of(name, words):
         text += " ecn" * words.ecn
     if name == "fq_codel":
         text += " ecn" if words.ecn else " noecn"
+    if name == "red":
+        rate = rates_of(words.rate)[0][1]
+        least = max(1500, round(rate / 8 * RED_WAIT))
+        text = text.format(bytes=int(rate / 8 * number(words.limit, "ms", "s")), least=least, most=3 * least, rate=rate)
     return {"kind": "theirs", "words": text.split()}
 
 
@@ -299,7 +313,11 @@ class Found:
         ends = [0, drops, 0]
         if kind == "pie":
             ends = [it["dropped"] - it["overlimit"], it["overlimit"], it["ecn_mark"]]
-        elif kind == "fq_codel":
+        elif kind == "fq_pie":
+            ends = [it["dropped"], it["overlimit"] + it["overmemory"], it["ecn_mark"]]
+        elif kind == "red":
+            ends = [it["early"], it["pdrop"], it["marked"]]
+        elif kind in ("codel", "fq_codel"):
             ends = [drops - it["drop_overlimit"], it["drop_overlimit"], it["ecn_mark"]]
         elif kind == "cake":
             ends = [drops, 0, sum(tin["ecn_mark"] for tin in it["tins"])]

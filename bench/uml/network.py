@@ -31,6 +31,7 @@ BUCKET = 4e-6               # seconds: htb's least bucket
 PORT = 5201
 RECEIVER = "10.2.0.1"
 SPACES = ("senders", "bottleneck", "receivers")
+RULES = Path("/sys/module/sch_pie/parameters/rules")     # of a Linux whose pie exchanges rules
 
 
 @contextlib.contextmanager
@@ -83,7 +84,7 @@ class Run:
         self.scenario, self.queue, self.folder = scenario, queue, folder
         self.delays, self.plan = block["delays"], block["plan"]
         self.rates = scenario["rates"]          # pairs of a moment of the traffic, in seconds, and bits a second
-        self.started, self.files, self.counters = [], [], []
+        self.started, self.files, self.counters, self.watchers = [], [], [], []
 
     def start(self, words, name, space=None):
         file = open(self.folder / name, "w")
@@ -97,7 +98,7 @@ class Run:
         for space in SPACES:
             do(f"ip netns add {space}")
             do("ip link set lo up", space)
-            set_number(space, "tcp_ecn", self.scenario["ecn"])
+            set_number(space, "tcp_ecn", self.queue.get("ecn", self.scenario["ecn"]))
             set_number(space, "tcp_no_metrics_save", 1)
             self.set_memory(space)
         (self.set_up_link if self.is_ours() else self.set_up_router)()
@@ -150,6 +151,8 @@ class Run:
         table = "" if self.scenario["offload"] else "stab overhead -14 linklayer ethernet"
         do(f"tc qdisc add dev far root handle 1: {table} htb default 1", "bottleneck")
         self.set_rate(self.rates[0][1], "add")
+        if RULES.exists() or self.queue.get("rules"):
+            RULES.write_text(str(self.queue.get("rules", 0)))
         words = [str(word).format(packets=self.scenario["packets"]) for word in self.queue["words"]]
         do(["tc", "qdisc", "add", "dev", "far", "parent", "1:1", "handle", "10:", *words], "bottleneck")
         self.begun = time.time()
@@ -181,6 +184,7 @@ class Run:
         ends = [("senders", "10.1.0.1", "back", self.plan["back"])] if self.plan["back"] else []
         ends.append(("receivers", RECEIVER, "there", self.plan["there"]))
         receivers, senders = [], []
+        self.watch(begin)
         for space, address, name, _ in ends:
             receivers.append(self.start([str(TRAFFIC), "receive", address, str(begin), str(self.folder / f"{name}.received")], name, space))
             wait_for(lambda there=space: listens(there, PORT), f"a receiver of {name}")
@@ -204,15 +208,22 @@ class Run:
                 it.terminate()
             if it.wait(timeout=600):
                 raise RuntimeError(f"a sender failed: {(self.folder / 'there.sender').read_text().strip()}")
-        for it in receivers:
+        for it in receivers + self.watchers:
             it.terminate()
-            it.wait()
+            if it.wait() and it in self.watchers:
+                raise RuntimeError("a watcher failed")
         if self.is_ours():
             self.link.terminate()
             self.link.wait()
         else:
             (self.folder / "queue.json").write_text(json.dumps(self.counters))
         (self.folder / "run.json").write_text(json.dumps({"begin": begin, "linux": os.uname().release}))
+
+    def watch(self, begin):
+        """Starts the watchers of the bottleneck: of its packets to the receiver, one notes those that the senders' device sends, the other those that the
+        receivers' device receives."""
+        for space, name in (("senders", "arrivals"), ("receivers", "departures")) if self.scenario.get("watch") else ():
+            self.watchers.append(self.start([str(TRAFFIC), "watch", space, str(begin), RECEIVER, str(self.folder / name)], f"{name}.watcher", space))
 
     def moments(self):
         """When a kernel's queue is changed or read: at the changes of the rate, and at the bounds of the table's rows."""

@@ -1,8 +1,10 @@
 /* Sends and receives the traffic of a run (network.py): TCP that always has data, TCP flows of a given size, UDP at a constant rate, and probes.
+ * It also notes the packets that cross a device.
  * Sender and receiver run under one kernel, so one clock measures the delay of a probe in one direction.
  *
  * usage: traffic receive ADDRESS BEGIN FILE     counts until SIGTERM, then writes FILE
  *        traffic send ADDRESS BEGIN PLAN FILE   sends what PLAN says, one flow a line, and ends after the last flow
+ *        traffic watch DEVICE BEGIN TO FILE     until SIGTERM, writes a record to FILE for each IPv4 packet to TO that crosses DEVICE
  *   BEGIN    the run's time 0, in nanoseconds since 1970; all other times are nanoseconds after it, and may be negative
  *   PLAN     tcp FLOW SINCE UNTIL SOURCE CONTROL         sends from SINCE until UNTIL; CONTROL is the congestion control
  *            short FLOW SINCE BYTES SOURCE CONTROL       sends BYTES, and waits until the receiver has all of them
@@ -10,12 +12,17 @@
  *            probe FLOW SINCE UNTIL SOURCE PERIOD BYTES TOS  the same, and the receiver notes the delay of each
  *   FILE     of the receiver: `bytes FLOW INTERVAL COUNT`, by intervals of 100 ms; `probe FLOW NUMBER SENT DELAY`
  *            of the sender: `sent FLOW COUNT` of probes and UDP; `took FLOW BYTES SINCE TIME`, with `-` for a flow that did not end;
- *            `failed FLOW` for a TCP flow whose connection broke */
+ *            `failed FLOW` for a TCP flow whose connection broke
+ *            of the watcher: struct record, in the order of the packets. A packet is sent and received with the same source, port and identification */
 #define _GNU_SOURCE
 #include <arpa/inet.h>
 #include <errno.h>
 #include <fcntl.h>
 #include <inttypes.h>
+#include <linux/filter.h>
+#include <linux/if_ether.h>
+#include <linux/if_packet.h>
+#include <net/if.h>
 #include <netinet/tcp.h>
 #include <poll.h>
 #include <signal.h>
@@ -24,6 +31,7 @@
 #include <stdio.h>
 #include <stdlib.h>
 #include <string.h>
+#include <sys/mman.h>
 #include <sys/prctl.h>
 #include <sys/socket.h>
 #include <time.h>
@@ -372,6 +380,83 @@ static int send_all(char **words) {
     return fclose(out) == 0 ? 0 : 1;
 }
 
+/* ---- the watcher ---- */
+
+#define SPACE 262144    /* bytes of a block of the ring */
+#define SPACES 64       /* blocks of the ring */
+#define RETIRED 200     /* ms after which a block that is not full is readable */
+#define HEADERS 64      /* bytes that are kept of a packet */
+
+/* A packet that crossed the device. All fields are in the byte order of this machine. */
+struct record {
+    int64_t moment;
+    uint32_t source, length;
+    uint16_t port, identification;
+    uint32_t protocol;
+};
+
+/* Lets IPv4 packets to `to` pass. */
+static void filter(int file, uint32_t to) {
+    struct sock_filter code[] = {
+        BPF_STMT(BPF_LD | BPF_H | BPF_ABS, (uint32_t)(SKF_AD_OFF + SKF_AD_PROTOCOL)), BPF_JUMP(BPF_JMP | BPF_JEQ | BPF_K, ETH_P_IP, 0, 3),
+        BPF_STMT(BPF_LD | BPF_W | BPF_ABS, 16), BPF_JUMP(BPF_JMP | BPF_JEQ | BPF_K, to, 0, 1), BPF_STMT(BPF_RET | BPF_K, HEADERS), BPF_STMT(BPF_RET | BPF_K, 0),
+    };
+    struct sock_fprog program = {.len = sizeof code / sizeof *code, .filter = code};
+    if (setsockopt(file, SOL_SOCKET, SO_ATTACH_FILTER, &program, sizeof program) < 0)
+        die("the filter");
+}
+
+static uint16_t half(const uint8_t *from) {
+    return (uint16_t)(from[0] << 8 | from[1]);
+}
+
+/* Writes the packets of a block. */
+static void note_block(const struct tpacket_block_desc *block, FILE *out) {
+    const uint8_t *at = (const uint8_t *)block + block->hdr.bh1.offset_to_first_pkt;
+    for (uint32_t left = block->hdr.bh1.num_pkts; left > 0; left--) {
+        const struct tpacket3_hdr *it = (const struct tpacket3_hdr *)at;
+        const uint8_t *ip = at + it->tp_net, *ports = ip + 4 * (ip[0] & 15);
+        struct record record = {.moment = (int64_t)it->tp_sec * 1000000000 + it->tp_nsec - begin, .source = (uint32_t)half(ip + 12) << 16 | half(ip + 14),
+                                .port = half(ports), .identification = half(ip + 4), .length = half(ip + 2), .protocol = ip[9]};
+        if (fwrite(&record, sizeof record, 1, out) != 1)
+            die("the record of a packet");
+        at += it->tp_next_offset;
+    }
+}
+
+static int watch(char **words) {
+    FILE *out = open_file(words[5], "w");
+    int file = socket(AF_PACKET, SOCK_DGRAM, 0), version = TPACKET_V3;
+    struct tpacket_req3 ring = {.tp_block_size = SPACE, .tp_block_nr = SPACES, .tp_frame_size = 2048, .tp_frame_nr = SPACE / 2048 * SPACES,
+                                .tp_retire_blk_tov = RETIRED};
+    struct sockaddr_ll place = {.sll_family = AF_PACKET, .sll_protocol = htons(ETH_P_ALL), .sll_ifindex = (int)if_nametoindex(words[2])};
+    if (file < 0 || setsockopt(file, SOL_PACKET, PACKET_VERSION, &version, sizeof version) < 0 ||
+        setsockopt(file, SOL_PACKET, PACKET_RX_RING, &ring, sizeof ring) < 0)
+        die("the ring");
+    filter(file, ntohl(place_of(words[4], 0).sin_addr.s_addr));
+    uint8_t *blocks = mmap(NULL, (size_t)SPACE * SPACES, PROT_READ | PROT_WRITE, MAP_SHARED, file, 0);
+    if (blocks == MAP_FAILED || place.sll_ifindex == 0 || bind(file, (struct sockaddr *)&place, sizeof place) < 0)
+        die(words[2]);
+    struct pollfd files = {.fd = file, .events = POLLIN};
+    for (size_t next = 0;;) {
+        struct tpacket_block_desc *block = (struct tpacket_block_desc *)(blocks + next * SPACE);
+        if ((__atomic_load_n(&block->hdr.bh1.block_status, __ATOMIC_ACQUIRE) & TP_STATUS_USER) != 0) {
+            note_block(block, out);
+            __atomic_store_n(&block->hdr.bh1.block_status, TP_STATUS_KERNEL, __ATOMIC_RELEASE);
+            next = (next + 1) % SPACES;
+        } else if (is_stopped) {
+            break;
+        } else if (poll(&files, 1, 1000) < 0 && errno != EINTR) {
+            die("poll");
+        }
+    }
+    struct tpacket_stats_v3 counts_of_ring;
+    socklen_t length = sizeof counts_of_ring;
+    if (getsockopt(file, SOL_PACKET, PACKET_STATISTICS, &counts_of_ring, &length) < 0 || counts_of_ring.tp_drops != 0)
+        die("the ring missed packets");
+    return fclose(out) == 0 ? 0 : 1;
+}
+
 int main(int words_count, char **words) {
     struct sigaction action = {.sa_handler = stop};
     if (sigaction(SIGTERM, &action, NULL) < 0 || signal(SIGPIPE, SIG_IGN) == SIG_ERR)
@@ -387,6 +472,10 @@ int main(int words_count, char **words) {
         begin = strtoll(words[3], NULL, 10);
         return send_all(words);
     }
-    fputs("usage: traffic receive ADDRESS BEGIN FILE\n       traffic send ADDRESS BEGIN PLAN FILE\n", stderr);
+    if (words_count == 6 && strcmp(words[1], "watch") == 0) {
+        begin = strtoll(words[3], NULL, 10);
+        return watch(words);
+    }
+    fputs("usage: traffic receive ADDRESS BEGIN FILE\n       traffic send ADDRESS BEGIN PLAN FILE\n       traffic watch DEVICE BEGIN TO FILE\n", stderr);
     return 1;
 }

@@ -13,7 +13,7 @@ use Rattle.pie_linux_history.specs.Decided.{dropped_in, last_in, taken_in}
 use Rattle.pie_linux_history.specs.LookBack.{Entry, Followed, counts_of, entry_in, followed, latest, name_of}
 
 abbrev pub tracked : Known → Followed
-tracked known = record { last = known.last; queue = known.queue }
+tracked known = record { last = known.last; queue = known.queue; differs = known.differs }
 
 -- the first queue with this name
 unfoldable pub looked_up : List ℕ → List Known → Option Followed

@@ -235,7 +235,9 @@ pub fn cut<R: Read + Drop, W: Write>(
     match (page.flush(), outcome, cutter.difference) {
         (_, Err(why), _) => Err(why),
         (Err(_), Ok(()), _) => Err(StepsFault::Trace(TraceFault::Write)),
-        (Ok(()), Ok(()), Some(found)) => Ok((cutter.written, StepsFinding::Differs(found))),
+        (Ok(()), Ok(()), Some(first)) => {
+            Ok((cutter.written, StepsFinding::Differs { first, count: 1 }))
+        }
         (Ok(()), Ok(()), None) => Ok((cutter.written, StepsFinding::Clean(queues.counts))),
     }
 }

@@ -139,17 +139,19 @@ fn audit_named<H: NamedFiles + Screen, R: Read + Drop, E: Write>(
 /// Writes the lines of a result, each after the name of the file if there is one, and flushes the writer.
 fn write_lines<W: Write>(name: Option<&str>, joined: Joined, output: &mut W) -> io::Result<()> {
     write_name(name, output)?;
-    match joined.finding {
-        Finding::Clean { events } => writeln!(output, "clean,{events}")?,
-        Finding::Differs { event } => writeln!(output, "differs,{event}")?,
-    }
+    let written = match joined.finding {
+        Finding::Clean { events } => writeln!(output, "clean,{events}"),
+        Finding::Differs { event } => writeln!(output, "differs,{event}"),
+    };
+    written?;
     if let Some(joint) = joined.joint {
         write_name(name, output)?;
-        match joint {
-            Joint::Follows => writeln!(output, "follows")?,
-            Joint::Gap { last, first } => writeln!(output, "gap,{last},{first}")?,
-            Joint::Unlike { last, .. } => writeln!(output, "unlike,{last}")?,
-        }
+        let written = match joint {
+            Joint::Follows => writeln!(output, "follows"),
+            Joint::Gap { last, first } => writeln!(output, "gap,{last},{first}"),
+            Joint::Unlike { last, .. } => writeln!(output, "unlike,{last}"),
+        };
+        written?;
     }
     output.flush()
 }

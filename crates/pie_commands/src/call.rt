@@ -4,23 +4,23 @@ use crate::difference::report_difference;
 use crate::end::{End, end_failed, fault, named_fault};
 use crate::files::NamedFiles;
 use crate::name::InCommand;
-use crate::options::{HelpPage, file};
+use crate::options::{Subcommand, Work, file};
 use crate::progress::Screen;
 use crate::steps_fault::report_field;
 use clap::ArgMatches;
 use pie_linux_history::{StepDifference, StepsFault};
 use pie_trace::TraceFault;
-use pie_trace::diagnosis::{find_cause, write_cause};
+use pie_trace::diagnosis::{Cause, TextKind, find_cause, write_cause};
 use std::alloc::Global;
 use std::fmt::Display;
 use std::io::{Read, Write};
 
-/// A call of a subcommand: the system, memory, the page and the options of the subcommand, and the standard streams.
+/// A call of a subcommand: the system, memory, the subcommand and its options, and the standard streams.
 #[derive(Drop)]
 pub(crate) struct Call<'h, 'o, 'w, 'e, H, R: Drop, E> {
     pub(crate) rt: &'h H,
     pub(crate) alloc: Global,
-    pub(crate) page: HelpPage<'static>,
+    pub(crate) subcommand: Subcommand,
     pub(crate) options: &'o ArgMatches<'w>,
     /// Standard input, until it is read.
     pub(crate) input: Option<R>,
@@ -65,21 +65,24 @@ impl<H: NamedFiles + Screen, R: Read + Drop, E: Write> Call<'_, '_, '_, '_, H, R
         End::Fault(why)
     }
 
-    /// Reads the file `name` again, and writes lines that describe the cause of its fault. If the cause is not found,
-    /// writes a line with the name of the file.
+    /// Reads the file `name` again, and returns the cause of its fault, if it is found.
+    fn cause_of(&self, name: &str, why: TraceFault) -> Option<Cause> {
+        let reads = self.subcommand.reads.unwrap_or(TextKind::Trace);
+        let (Some(reader), Some(again)) = (self.rt.open_again(name), self.rt.open_again(name))
+        else {
+            return None;
+        };
+        find_cause(self.alloc, reads, why, reader, again)
+    }
+
+    /// Writes lines that describe the cause of the fault of the file `name`. If the cause is not found, writes a line with
+    /// the name of the file.
     fn report_cause(&mut self, name: &str, why: TraceFault) {
-        let (rt, page) = (self.rt, self.page);
-        let (Some(reader), Some(again)) = (rt.open_again(name), rt.open_again(name)) else {
+        let Some(cause) = self.cause_of(name, why) else {
             return self.name_text(name);
         };
-        let Ok(shown) = format!(in self.alloc; "{}", InCommand(name)) else {
-            return;
-        };
-        match find_cause(self.alloc, page.reads, why, reader, again) {
-            Some(cause) => {
-                let _ = write_cause(&cause, shown.as_str(), page.word, self.errors);
-            }
-            None => self.name_text(name),
+        if let Ok(shown) = format!(in self.alloc; "{}", InCommand(name)) {
+            let _ = write_cause(&cause, shown.as_str(), self.subcommand.word, self.errors);
         }
     }
 
@@ -93,7 +96,7 @@ impl<H: NamedFiles + Screen, R: Read + Drop, E: Write> Call<'_, '_, '_, '_, H, R
     pub(crate) fn end_at_event<D: Display + Drop>(&mut self, text: D, number: u64) -> End {
         fault(self.errors, text);
         if let Some(name) = file(self.options) {
-            let is_explained = self.page.word == "explain";
+            let is_explained = matches!(self.subcommand.work, Work::Explain);
             report_difference(self, name, number, is_explained);
         }
         End::Differs

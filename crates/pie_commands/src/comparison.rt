@@ -1,7 +1,7 @@
 //! The comparison of a history with its control and with the other history of `pie what-if`, by the numbers of their
 //! summaries.
 
-use crate::explain::explain_sums;
+use crate::explain::explain_by;
 use crate::json::JsonWriter;
 use pie_explain::{EventChoice, ExplainFault, Form, Selection, SummariesOnly};
 use pie_trace::{Omitted, TraceFault};
@@ -21,11 +21,11 @@ last_turned_on first_turned_off last_turned_off wait_99 last_target last_burst_a
 /// The fields of a summary that are probabilities, in units of `10^-12`.
 const PROBABILITIES: &str = "greatest_probability last_probability";
 
-/// The text between the first line and the header, in words, after the events that are compared.
+/// The text in words after the line with the events that are compared.
 const MEANINGS: &str = "control: their commands after a record params with the unchanged parameters
 other: their commands after this record with the parameters of the options
 difference: other - control, the effect of the parameters
-";
+field                              recorded           control             other         difference";
 
 /// A column of a comparison: the events of `text` after the event with the number `after`. The text omits commands of
 /// the history.
@@ -52,12 +52,14 @@ pub(crate) fn fault_in_memory(why: TraceFault) -> TraceFault {
     }
 }
 
-/// Returns the summary of the events of a column, as a CSV text of a header and a record. Nothing is written to `output`.
-fn summary_of<W: Write>(
+/// Adds the summary of the events of a column to a text, as two lines of CSV: a header and a record. Nothing is written to
+/// `output`.
+fn add_summary<W: Write>(
     alloc: Global,
     column: &Column<'_>,
     output: &mut W,
-) -> Result<Vec<u8>, ExplainFault> {
+    summaries: &mut Vec<u8>,
+) -> Result<(), ExplainFault> {
     let mut written = JsonWriter::new(alloc, output, false, usize::MAX);
     let selection = Selection::of(EventChoice::After(column.after));
     let form = Form {
@@ -69,35 +71,62 @@ fn summary_of<W: Write>(
         every: None,
         style: None,
     };
-    let outcome = explain_sums(alloc, column.text, &mut written, selection, sums);
+    let outcome = explain_by(alloc, column.text, &mut written, selection, sums);
     let written = written.into_withheld();
-    let why = match outcome {
-        Ok(_) => return Ok(written),
-        Err(ExplainFault::Trace(why)) => ExplainFault::Trace(fault_in_memory(why)),
-        Err(why) => why,
-    };
-    drop(written);
-    Err(why)
+    let is_added = summaries.extend_from_slice(&written).is_ok();
+    match outcome {
+        Ok(_) if is_added => Ok(()),
+        Ok(_) => Err(ExplainFault::Trace(TraceFault::Memory)),
+        Err(ExplainFault::Trace(why)) => Err(ExplainFault::Trace(fault_in_memory(why))),
+        Err(why) => Err(why),
+    }
 }
 
-/// Returns a line of a summary: 0 for the header, 1 for the record.
-fn line_of(summary: &[u8], place: usize) -> &str {
-    let text = std::str::from_utf8(summary).unwrap_or("");
+/// Returns the line of the summaries at this place.
+fn line_of(summaries: &[u8], place: usize) -> &str {
+    let text = std::str::from_utf8(summaries).unwrap_or("");
     text.split('\n').nth(place).unwrap_or("")
+}
+
+/// Returns true if the text has this word.
+fn has_word(text: &str, word: &str) -> bool {
+    for known in text.split(' ') {
+        if known == word {
+            return true;
+        }
+    }
+    false
 }
 
 /// Returns a number with this sign: as a time in milliseconds, a probability in per cent, rounded down, or a count, by the
 /// name of its field.
 fn cell_of(alloc: Global, name: &str, sign: &str, number: u128) -> Result<String, AllocError> {
-    if TIMES.split(' ').any(|known| known == name) {
+    if has_word(TIMES, name) {
         let (whole, rest) = (number / 1_000_000, number % 1_000_000);
         return format!(in alloc; "{sign}{whole}.{rest:06} ms");
     }
-    if PROBABILITIES.split(' ').any(|known| known == name) {
+    if has_word(PROBABILITIES, name) {
         let (whole, rest) = (number / 10_000_000_000, number % 10_000_000_000 / 1_000_000);
         return format!(in alloc; "{sign}{whole}.{rest:04} %");
     }
     format!(in alloc; "{sign}{number}")
+}
+
+/// Writes a cell after a space, in a column of this width, or in no column if it is 0.
+fn write_cell<W: Write>(
+    alloc: Global,
+    output: &mut W,
+    name: &str,
+    sign: &str,
+    number: u128,
+    width: usize,
+) -> io::Result<()> {
+    let text = cell_of(alloc, name, sign, number)?;
+    match width {
+        0 => write!(output, " {text}"),
+        17 => write!(output, " {text:>17}"),
+        _ => write!(output, " {text:>18}"),
+    }
 }
 
 /// Writes the line of a field: its name, its numbers (recorded, control, other), and the difference of the other history and
@@ -118,14 +147,12 @@ fn write_line<W: Write>(
             if recorded == 0 && control == 0 && other == 0 {
                 return Ok(());
             }
-            let difference = cell_of(alloc, name, plus, difference)?;
-            let recorded = cell_of(alloc, name, "", recorded)?;
-            let control = cell_of(alloc, name, "", control)?;
-            let other = cell_of(alloc, name, "", other)?;
-            writeln!(
-                output,
-                "{name:<25} {recorded:>17} {control:>17} {other:>17} {difference:>18}"
-            )
+            write!(output, "{name:<25}")?;
+            for number in numbers {
+                write_cell(alloc, output, name, "", number, 17)?;
+            }
+            write_cell(alloc, output, name, plus, difference, 18)?;
+            output.write_all(b"\n")
         }
         Table::Csv => writeln!(
             output,
@@ -142,19 +169,10 @@ fn write_line<W: Write>(
 /// events that all columns leave out.
 fn write_head<W: Write>(output: &mut W, table: Table, before: u64) -> io::Result<()> {
     match table {
-        Table::Words => {
-            writeln!(output, "{NO_REACTION}")?;
-            writeln!(
-                output,
-                "recorded: the events of the history after event {before}"
-            )?;
-            output.write_all(MEANINGS.as_bytes())?;
-            writeln!(
-                output,
-                "{:<25} {:>17} {:>17} {:>17} {:>18}",
-                "field", "recorded", "control", "other", "difference"
-            )
-        }
+        Table::Words => writeln!(
+            output,
+            "{NO_REACTION}\nrecorded: the events of the history after event {before}\n{MEANINGS}"
+        ),
         Table::Csv => writeln!(output, "field,recorded,control,other,difference"),
         Table::Json => Ok(()),
     }
@@ -216,8 +234,8 @@ fn write_fields<W: Write>(
     Ok(targets)
 }
 
-/// Returns the text of a comparison of these columns: the history as it was recorded, the control, and the other history.
-/// Nothing is written to `output`.
+/// Writes the text of a comparison of these columns to `page`: the history as it was recorded, the control, and the other
+/// history. Nothing is written to `output`.
 ///
 /// # Errors
 ///
@@ -227,26 +245,26 @@ pub(crate) fn comparison<W: Write>(
     columns: [Column<'_>; 3],
     table: Table,
     output: &mut W,
-) -> Result<Vec<u8>, ExplainFault> {
-    let [recorded, control, other] = columns;
-    let first = summary_of(alloc, &recorded, output)?;
-    let second = summary_of(alloc, &control, output)?;
-    let third = summary_of(alloc, &other, output)?;
-    let records = [line_of(&first, 1), line_of(&second, 1), line_of(&third, 1)];
-    let mut page = Vec::new(alloc);
-    match write_page(
-        alloc,
-        &mut page,
-        table,
-        line_of(&first, 0),
-        records,
-        &columns,
-    ) {
-        Ok(()) => Ok(page),
-        Err(_) => {
-            drop(page);
-            Err(ExplainFault::Trace(TraceFault::Memory))
+    page: &mut Vec<u8>,
+) -> Result<(), ExplainFault> {
+    let mut summaries = Vec::new(alloc);
+    let mut outcome = Ok(());
+    for column in &columns {
+        if outcome.is_ok() {
+            outcome = add_summary(alloc, column, output, &mut summaries);
         }
+    }
+    let names = line_of(&summaries, 0);
+    let records = [
+        line_of(&summaries, 1),
+        line_of(&summaries, 3),
+        line_of(&summaries, 5),
+    ];
+    let is_written = outcome.is_ok()
+        && write_page(alloc, page, table, names, records, &columns).is_ok();
+    match outcome {
+        Ok(()) if !is_written => Err(ExplainFault::Trace(TraceFault::Memory)),
+        _ => outcome,
     }
 }
 
@@ -265,13 +283,16 @@ fn write_page<W: Write>(
     write_omitted(alloc, output, table, control.omitted, other.omitted)?;
     match table {
         Table::Words => {
-            let recorded = cell_of(alloc, "last_target", "", targets[0])?;
-            let control = cell_of(alloc, "last_target", "", targets[1])?;
-            let other = cell_of(alloc, "last_target", "", targets[2])?;
-            writeln!(
-                output,
-                "above_target: above the target of the column, at its end {recorded}, {control} and {other}"
-            )
+            let leads = [
+                "above_target: above the target of the column, at its end",
+                ",",
+                " and",
+            ];
+            for place in 0..3 {
+                output.write_all(leads[place].as_bytes())?;
+                write_cell(alloc, output, "last_target", "", targets[place], 0)?;
+            }
+            output.write_all(b"\n")
         }
         Table::Csv | Table::Json => Ok(()),
     }

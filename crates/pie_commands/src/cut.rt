@@ -237,25 +237,22 @@ pub(crate) fn cut<H: NamedFiles + Screen, R: Read + Drop, W: Write, E: Write>(
     };
     let is_shown = shows_progress(rt, options, true);
     let (watched, kind) = ProgressReader::recognizing(reader, &mut *call.errors, rt, is_shown);
-    let is_steps = match kind {
-        Ok(is_steps) => is_steps,
-        Err(why) => {
-            drop(watched);
-            return call.end_at_fault(why);
+    match (kind, step_pieces_of(pieces)) {
+        (Ok(false), _) => {
+            let outcome = cut_out(alloc, watched, output, pieces);
+            end_of(call, outcome)
         }
-    };
-    if !is_steps {
-        let outcome = cut_out(alloc, watched, output, pieces);
-        return end_of(call, outcome);
-    }
-    match step_pieces_of(pieces) {
-        Some(chosen) => {
+        (Ok(true), Some(chosen)) => {
             let outcome = cut_steps(alloc, watched, output, chosen);
             end_of_steps(call, outcome)
         }
-        None => {
+        (Ok(true), None) => {
             drop(watched);
             call.failed(NO_WALL_CLOCK)
+        }
+        (Err(why), _) => {
+            drop(watched);
+            call.end_at_fault(why)
         }
     }
 }

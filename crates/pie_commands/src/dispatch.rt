@@ -7,7 +7,7 @@ use crate::cut::cut;
 use crate::end::End;
 use crate::explain::explain;
 use crate::files::{NamedFiles, create_output, finish_output};
-use crate::options::{HelpPage, Subcommand, file, flag};
+use crate::options::{Subcommand, Work, file, flag};
 use crate::params::params;
 use crate::progress::Screen;
 use crate::run::{migrate, run};
@@ -27,16 +27,16 @@ pub(crate) fn dispatch<
     W: Write,
     E: Write,
 >(call: &mut Call<'_, '_, '_, '_, H, R, E>, output: &mut W) -> End {
-    match call.page.subcommand {
-        Subcommand::Run => run(call, output),
-        Subcommand::Audit => audit(call, output),
-        Subcommand::Explain => explain(call, output),
-        Subcommand::Cut => cut(call, output),
-        Subcommand::Migrate => migrate(call, output),
-        Subcommand::Storm => storm(call, output),
-        Subcommand::Params => params(call, output),
-        Subcommand::WhatIf => what_if(call, output),
-        Subcommand::Advise => advise(call, output),
+    match call.subcommand.work {
+        Work::Run => run(call, output),
+        Work::Audit => audit(call, output),
+        Work::Explain => explain(call, output),
+        Work::Cut => cut(call, output),
+        Work::Migrate => migrate(call, output),
+        Work::Storm => storm(call, output),
+        Work::Params => params(call, output),
+        Work::WhatIf => what_if(call, output),
+        Work::Advise => advise(call, output),
     }
 }
 
@@ -49,7 +49,7 @@ pub(crate) fn dispatch_to_file<
 >(
     rt: &mut H,
     alloc: Global,
-    page: HelpPage<'static>,
+    subcommand: Subcommand,
     options: &ArgMatches<'_>,
     name: &str,
     input: R,
@@ -62,7 +62,7 @@ pub(crate) fn dispatch_to_file<
     let mut call = Call {
         rt: &*rt,
         alloc,
-        page,
+        subcommand,
         options,
         input: Some(input),
         errors: &mut *errors,

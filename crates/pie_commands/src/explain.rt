@@ -5,15 +5,15 @@ ghost use Rattle.pie_commands.specs.Selections.{chosen_events, every_of, is_sele
 
 use crate::call::Call;
 use crate::end::{End, fault};
-use crate::files::{NamedFiles, open_text};
+use crate::files::{NamedFiles, Source, open_text};
 use crate::json::JsonWriter;
 use crate::options::{bounds_of, file, flag, moment, number, parsed, report_two, text};
 use crate::progress::{ProgressReader, Screen, shows_progress, writes_to_terminal};
-use crate::reports::{OtherReport, as_digest, by_flow, in_words};
+use crate::reports::{as_digest, in_words};
 use crate::steps::{QUEUE_OF_STEPS, explain_steps, lacks_queue};
 use clap::ArgMatches;
 use pie_explain::{
-    ByFlow, Digest, EventChoice, EventRecords, ExplainFault, Form, LineStyle, Selection,
+    ByFlow, Digest, EventChoice, EventRecords, ExplainFault, Form, LineStyle, Report, Selection,
     SummariesOnly, Words,
 };
 use pie_linux_history::{StepsExplained, StepsFault, StepsFinding};
@@ -194,11 +194,11 @@ fn explain_with<R: Read + Drop, W: Write>(
     kind: OutputKind,
 ) -> Result<u64, ExplainFault> {
     let outcome = match kind {
-        OutputKind::Records(each) => pie_explain::explain(alloc, input, output, selection, each),
-        OutputKind::Sums(sums) => explain_sums(alloc, input, output, selection, sums),
-        OutputKind::Words(each) => explain_other(alloc, input, output, selection, in_words(each)),
-        OutputKind::Digest(it) => explain_other(alloc, input, output, selection, as_digest(it)),
-        OutputKind::Flows(flows) => explain_other(alloc, input, output, selection, by_flow(flows)),
+        OutputKind::Records(each) => explain_by(alloc, input, output, selection, each),
+        OutputKind::Sums(sums) => explain_by(alloc, input, output, selection, sums),
+        OutputKind::Words(each) => explain_by(alloc, input, output, selection, in_words(each)),
+        OutputKind::Digest(it) => explain_by(alloc, input, output, selection, as_digest(it)),
+        OutputKind::Flows(flows) => explain_by(alloc, input, output, selection, flows),
     };
     match outcome {
         Err(ExplainFault::Trace(why)) => Err(ExplainFault::Trace(output.fault_of(why))),
@@ -206,26 +206,14 @@ fn explain_with<R: Read + Drop, W: Write>(
     }
 }
 
-/// Writes the summaries of the chosen events.
+/// Writes the explanations of the chosen events by one report.
 #[inline(never)]
-pub(crate) fn explain_sums<R: Read + Drop, W: Write>(
+pub(crate) fn explain_by<R: Read + Drop, W: Write, P: Report>(
     alloc: Global,
     input: R,
     output: &mut JsonWriter<'_, W>,
     selection: Selection,
-    sums: SummariesOnly,
-) -> Result<u64, ExplainFault> {
-    pie_explain::explain(alloc, input, output, selection, sums)
-}
-
-/// Writes the explanations of the chosen events by one of the other reports.
-#[inline(never)]
-fn explain_other<R: Read + Drop, W: Write>(
-    alloc: Global,
-    input: R,
-    output: &mut JsonWriter<'_, W>,
-    selection: Selection,
-    report: OtherReport,
+    report: P,
 ) -> Result<u64, ExplainFault> {
     pie_explain::explain(alloc, input, output, selection, report)
 }
@@ -282,6 +270,41 @@ fn end_of_steps<H: NamedFiles + Screen, R: Read + Drop, W: Write, E: Write>(
     }
 }
 
+/// Explains the chosen events of a text of either kind.
+fn explain_text<H: NamedFiles + Screen, R: Read + Drop, W: Write, E: Write>(
+    call: &mut Call<'_, '_, '_, '_, H, R, E>,
+    text: Source<R, H::File>,
+    output: &mut JsonWriter<'_, W>,
+    selection: Selection,
+    queue: Option<&str>,
+    kind: OutputKind,
+) -> End {
+    let (rt, alloc, is_shown) = (
+        call.rt,
+        call.alloc,
+        shows_progress(call.rt, call.options, true),
+    );
+    let (watched, found) = ProgressReader::recognizing(text, &mut *call.errors, rt, is_shown);
+    match (found, queue) {
+        (Ok(true), _) => {
+            let outcome = explain_steps(alloc, watched, output, selection, queue, kind);
+            end_of_steps(call, output, selection, queue, outcome)
+        }
+        (Ok(false), None) => {
+            let outcome = explain_with(alloc, watched, output, selection, kind);
+            end_of(call, outcome)
+        }
+        (Ok(false), Some(_)) => {
+            drop(watched);
+            call.failed(QUEUE_OF_STEPS)
+        }
+        (Err(why), _) => {
+            drop(watched);
+            call.end_at_fault(why)
+        }
+    }
+}
+
 /// `pie explain`: explains the chosen events of the text in the file that the options name, or in standard input,
 /// up to its first fault or a history's first event that differs. Returns a difference as `End::Differs`. If the text has a
 /// fault, the options choose events more than once, no event matches, or the reader, the writer or memory fails, the end
@@ -302,24 +325,6 @@ pub(crate) fn explain<H: NamedFiles + Screen, R: Read + Drop, W: Write, E: Write
         output_kind_of(options, style_of(rt, options)),
         text(options, "queue"),
     );
-    let is_shown = shows_progress(rt, options, true);
     let mut output = JsonWriter::new(alloc, output, flag(options, "json"), most_withheld(queue));
-    let (watched, found) = ProgressReader::recognizing(reader, &mut *call.errors, rt, is_shown);
-    let is_steps = match found {
-        Ok(is_steps) => is_steps,
-        Err(why) => {
-            drop(watched);
-            return call.end_at_fault(why);
-        }
-    };
-    if is_steps {
-        let outcome = explain_steps(alloc, watched, &mut output, selection, queue, kind);
-        return end_of_steps(call, &mut output, selection, queue, outcome);
-    }
-    if queue.is_some() {
-        drop(watched);
-        return call.failed(QUEUE_OF_STEPS);
-    }
-    let outcome = explain_with(alloc, watched, &mut output, selection, kind);
-    end_of(call, outcome)
+    explain_text(call, reader, &mut output, selection, queue, kind)
 }

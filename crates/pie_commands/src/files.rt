@@ -53,8 +53,8 @@ pub trait NamedFiles {
     /// Returns why the last failed write to the new file failed, if the system gave a reason and the reader is not gone.
     fn reason(&self, made: &Self::Made) -> Option<io::Error>;
 
-    /// Leaves the new file under its other name, and returns that name. Removes the file if it is empty.
-    fn leave(&mut self, made: Self::Made) -> Option<String>;
+    /// Leaves the new file of `name` under its other name, and returns that name. Removes the file if it is empty.
+    fn leave(&mut self, made: &Self::Made, name: &str) -> Option<String>;
 }
 
 // ---- files that are read
@@ -183,7 +183,7 @@ fn abandon<H: NamedFiles, E: Write>(
     } else {
         "this file has the incomplete output"
     };
-    if let Some(other) = rt.leave(made) {
+    if let Some(other) = rt.leave(&made, name) {
         named_fault(errors, other.as_str(), text);
     }
 }

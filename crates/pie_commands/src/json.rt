@@ -7,29 +7,41 @@ use std::io::Write;
 /// The digits of hexadecimal numbers.
 const DIGITS: &[u8; 16] = b"0123456789abcdef";
 
-/// Writes a string of JSON with these bytes, in quotes. Quotes, backslashes and control characters are escaped.
+/// Writes a byte of a string of JSON. Quotes, backslashes and control characters are escaped.
+fn write_byte<W: Write>(writer: &mut W, byte: u8) -> io::Result<()> {
+    match byte {
+        b'"' => writer.write_all(b"\\\""),
+        b'\\' => writer.write_all(b"\\\\"),
+        0..=31 => {
+            let (high, low) = (b'0' + (byte >> 4), DIGITS[usize::from(byte & 15)]);
+            writer.write_all(&[b'\\', b'u', b'0', b'0', high, low])
+        }
+        _ => writer.write_all(&[byte]),
+    }
+}
+
+/// Returns true if a string of JSON has no escape for these bytes.
+fn is_plain(bytes: &[u8]) -> bool {
+    for byte in bytes {
+        if matches!(*byte, 0..=31 | b'"' | b'\\') {
+            return false;
+        }
+    }
+    true
+}
+
+/// Writes a string of JSON with these bytes, in quotes.
 ///
 /// # Errors
 ///
 /// Returns the error of the writer.
 pub(crate) fn write_string<W: Write>(writer: &mut W, bytes: &[u8]) -> io::Result<()> {
     writer.write_all(b"\"")?;
-    if bytes
-        .iter()
-        .all(|byte| *byte >= 32 && *byte != b'"' && *byte != b'\\')
-    {
+    if is_plain(bytes) {
         writer.write_all(bytes)?;
-        return writer.write_all(b"\"");
-    }
-    for byte in bytes {
-        match *byte {
-            b'"' => writer.write_all(b"\\\"")?,
-            b'\\' => writer.write_all(b"\\\\")?,
-            code @ 0..=31 => {
-                let (high, low) = (b'0' + (code >> 4), DIGITS[usize::from(code & 15)]);
-                writer.write_all(&[b'\\', b'u', b'0', b'0', high, low])?
-            }
-            other => writer.write_all(&[other])?,
+    } else {
+        for byte in bytes {
+            write_byte(writer, *byte)?;
         }
     }
     writer.write_all(b"\"")

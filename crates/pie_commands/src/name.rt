@@ -13,27 +13,24 @@ pub(crate) struct InLine<'a>(pub(crate) &'a str);
 
 impl fmt::Display for InLine<'_> {
     fn fmt<W: fmt::Write>(&self, f: &mut fmt::Formatter<W>) -> fmt::Result {
-        write_escaped(without_mark(self.0), f)
+        for character in without_mark(self.0).chars() {
+            write_character(character, f)?;
+        }
+        Ok(())
     }
 }
 
-/// Writes a text, in which a control character has a backslash.
-fn write_escaped<W: fmt::Write>(text: &str, f: &mut fmt::Formatter<W>) -> fmt::Result {
-    for character in text.chars() {
-        match character {
-            '\n' => f.write_str("\\n")?,
-            '\t' => f.write_str("\\t")?,
-            '\r' => f.write_str("\\r")?,
-            '\0'..='\x7f' if character.is_control() => write!(
-                f,
-                "\\x{:02x}",
-                u32::from(character)
-            )?,
-            _ if character.is_control() => write!(f, "\\u{:04x}", u32::from(character))?,
-            _ => f.write_char(character)?,
-        }
+/// Writes a character; a control character has a backslash.
+fn write_character<W: fmt::Write>(character: char, f: &mut fmt::Formatter<W>) -> fmt::Result {
+    let code = u32::from(character);
+    match character {
+        '\n' => f.write_str("\\n"),
+        '\t' => f.write_str("\\t"),
+        '\r' => f.write_str("\\r"),
+        _ if !character.is_control() => f.write_char(character),
+        '\0'..='\x7f' => write!(f, "\\x{code:02x}"),
+        _ => write!(f, "\\u{code:04x}"),
     }
-    Ok(())
 }
 
 /// A name in a command, as a word of a shell: itself, or in quotes if a character has a meaning for a shell.
@@ -51,36 +48,45 @@ fn is_plain(character: char) -> bool {
         || !(character.is_ascii() || character.is_control())
 }
 
+/// Returns true if all characters of a name have no meaning for a shell, and true if it has a control character.
+fn kinds_in(name: &str) -> (bool, bool) {
+    let (mut are_plain, mut has_control) = (!name.is_empty(), false);
+    for character in name.chars() {
+        are_plain = are_plain && is_plain(character);
+        has_control = has_control || character.is_control();
+    }
+    (are_plain, has_control)
+}
+
 impl fmt::Display for InCommand<'_> {
     fn fmt<W: fmt::Write>(&self, f: &mut fmt::Formatter<W>) -> fmt::Result {
         let name = without_mark(self.0);
         if name.starts_with('-') && name != "-" {
             f.write_str("./")?;
         }
-        if !name.is_empty() && name.chars().all(is_plain) {
-            return f.write_str(name);
+        match kinds_in(name) {
+            (true, _) => f.write_str(name),
+            (false, is_escaped) => write_quoted(name, is_escaped, f),
         }
-        f.write_str(if name.chars().any(char::is_control) {
-            "$'"
-        } else {
-            "'"
-        })?;
-        write_quoted(name, f)?;
-        f.write_str("'")
     }
 }
 
-/// Writes a text within single quotes of a shell; after `$`, a control character has a backslash there.
-fn write_quoted<W: fmt::Write>(text: &str, f: &mut fmt::Formatter<W>) -> fmt::Result {
-    let is_escaped = text.chars().any(char::is_control);
+/// Writes a text within single quotes of a shell. If it `is_escaped`, a dollar precedes them, and a control character has a
+/// backslash.
+fn write_quoted<W: fmt::Write>(
+    text: &str,
+    is_escaped: bool,
+    f: &mut fmt::Formatter<W>,
+) -> fmt::Result {
+    f.write_str(if is_escaped { "$'" } else { "'" })?;
     for character in text.chars() {
-        match character {
-            '\'' if is_escaped => f.write_str("\\'")?,
-            '\\' if is_escaped => f.write_str("\\\\")?,
-            '\'' => f.write_str("'\\''")?,
-            _ if character.is_control() => write_escaped(character.encode_utf8(&mut [0; 4]), f)?,
-            _ => f.write_char(character)?,
-        }
+        let written = match character {
+            '\'' if is_escaped => f.write_str("\\'"),
+            '\\' if is_escaped => f.write_str("\\\\"),
+            '\'' => f.write_str("'\\''"),
+            _ => write_character(character, f),
+        };
+        written?;
     }
-    Ok(())
+    f.write_str("'")
 }

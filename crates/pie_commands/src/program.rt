@@ -5,7 +5,7 @@ use crate::dispatch::{dispatch, dispatch_to_file};
 use crate::end::{End, end_failed, end_unable, end_with_fault};
 use crate::files::{NamedFiles, is_input_written};
 use crate::options::{
-    HelpPage, options, output as output_file, page_named, report_elements, report_numbers,
+    Subcommand, options, output as output_file, report_elements, report_numbers, subcommand_named,
 };
 use crate::progress::Screen;
 use clap::error::ErrorKind;
@@ -60,13 +60,13 @@ pub fn command<H: Threads + Wait + Sync + NamedFiles + Screen, R: Read + Drop, W
 /// If `clap` refused the value of an option, writes a line with the values that the option takes. If it refused an option
 /// of `pie what-if`, and this option can't change a history, writes a line with the reason.
 fn report_value<E: Write>(found: &Result<ArgMatches<'_>, Error>, words: &[String], errors: &mut E) {
-    if let Err(why) = found {
-        if matches!(why.kind(), ErrorKind::ValueValidation) {
-            report_numbers(words, errors);
-        }
-        if matches!(why.kind(), ErrorKind::UnknownArgument) {
-            report_elements(words, errors);
-        }
+    let (Err(why), Some(word)) = (found, words.get(1)) else {
+        return;
+    };
+    match why.kind() {
+        ErrorKind::ValueValidation => report_numbers(word.as_str(), words, errors),
+        ErrorKind::UnknownArgument if word.as_str() == "what-if" => report_elements(words, errors),
+        _ => {}
     }
 }
 
@@ -89,24 +89,19 @@ fn perform<H: Threads + Wait + Sync + NamedFiles + Screen, R: Read + Drop, W: Wr
         Ok(matches) => matches,
         Err(why) => return mistake(why, output, errors),
     };
-    let Some((page, options)) = chosen_subcommand(matches) else {
+    let Some((subcommand, options)) = chosen_subcommand(matches) else {
         return end_failed(errors, "no subcommand");
     };
-    let name = if page.has("output") {
-        output_file(options)
-    } else {
-        None
-    };
-    if let Some(name) = name {
-        return dispatch_to_file(rt, alloc, page, options, name, input, errors);
+    if let Some(name) = output_file(options) {
+        return dispatch_to_file(rt, alloc, subcommand, options, name, input, errors);
     }
-    if page.has("file") && is_input_written(&*rt, options.get_strs("file"), errors) {
+    if subcommand.reads.is_some() && is_input_written(&*rt, options.get_strs("file"), errors) {
         return End::NoOutputFile;
     }
     let mut call = Call {
         rt: &*rt,
         alloc,
-        page,
+        subcommand,
         options,
         input: Some(input),
         errors,
@@ -114,12 +109,12 @@ fn perform<H: Threads + Wait + Sync + NamedFiles + Screen, R: Read + Drop, W: Wr
     dispatch(&mut call, output)
 }
 
-/// Returns the page of the subcommand of the command line with its options, or `None` if there is no subcommand.
+/// Returns the subcommand of the command line with its options, or `None` if there is no subcommand.
 fn chosen_subcommand<'a, 'b>(
     matches: &'b ArgMatches<'a>,
-) -> Option<(HelpPage<'static>, &'b ArgMatches<'a>)> {
+) -> Option<(Subcommand, &'b ArgMatches<'a>)> {
     let (name, options) = matches.subcommand()?;
-    Some((page_named(name)?, options))
+    Some((subcommand_named(name)?, options))
 }
 
 /// Writes the help that was requested to `output`, or the message of a mistake to `errors`.

@@ -2,7 +2,7 @@
 ghost use Rattle.either.specs.Either.{IsLeftAnd, IsRightAnd, MatchEither};
 
 use either::{Either, Left, Right};
-use pie_explain::{ByFlow, Digest, Explained, Report, Words};
+use pie_explain::{Digest, Explained, Report, Words};
 use pie_record::Page;
 use std::alloc::AllocError;
 
@@ -59,8 +59,9 @@ impl<A: Report, B: Report> Report for OneOf<A, B> {
     }
 }
 
-/// A report that is read by people, or has a row for each flow. (Records and sums of many events have loops of their own.)
-pub(crate) type OtherReport = OneOf<Words, OneOf<Digest, ByFlow>>;
+/// A report that people read. (Records, and sums of many events, have loops of their own: in a loop with words, all numbers
+/// of an explanation are computed.)
+pub(crate) type OtherReport = OneOf<Words, Digest>;
 
 /// Returns the report of each event in words.
 pub(crate) fn in_words(words: Words) -> OtherReport {
@@ -69,10 +70,5 @@ pub(crate) fn in_words(words: Words) -> OtherReport {
 
 /// Returns the report of summaries with the words for lost and marked packets.
 pub(crate) fn as_digest(digest: Digest) -> OtherReport {
-    OneOf(Right(OneOf(Left(digest))))
-}
-
-/// Returns the report of sums by flow.
-pub(crate) fn by_flow(flows: ByFlow) -> OtherReport {
-    OneOf(Right(OneOf(Right(flows))))
+    OneOf(Right(digest))
 }

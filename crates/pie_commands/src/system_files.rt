@@ -19,8 +19,8 @@ const MAX_NAMES: u32 = 100;
 #[derive(Drop)]
 pub struct Output {
     to: Either<Stdout, File>,
-    /// The name of the new file, until it is moved.
-    made: Option<String>,
+    /// The number of the name beside its own under which the new file is (`name_beside`), or 0 if it has no such name.
+    beside: u32,
     /// True if its reader is gone.
     is_closed: bool,
     /// The system's number for the reason of the last failed write.
@@ -28,11 +28,11 @@ pub struct Output {
 }
 
 impl Output {
-    /// Returns an output that writes to `to`. `made` is the temporary name of the file until it is moved.
-    fn new(to: Either<Stdout, File>, made: Option<String>) -> Output {
+    /// Returns an output that writes to `to`. `beside` is the number of the temporary name of the file, or 0.
+    fn new(to: Either<Stdout, File>, beside: u32) -> Output {
         Output {
             to,
-            made,
+            beside,
             is_closed: false,
             failed: None,
         }
@@ -40,7 +40,7 @@ impl Output {
 
     /// Returns standard output.
     pub fn standard(output: Stdout) -> Output {
-        Output::new(Left(output), None)
+        Output::new(Left(output), 0)
     }
 
     /// Returns true if a write has failed because the reader is gone, as with a pipe whose reader has ended.
@@ -134,12 +134,22 @@ fn create(rt: &HostRuntime, name: &str, replaced: Option<&Metadata>) -> io::Resu
     }
 }
 
+/// Creates a file under the name number `count` beside `name`.
+fn create_numbered(
+    rt: &HostRuntime,
+    name: &str,
+    count: u32,
+    replaced: Option<&Metadata>,
+) -> io::Result<File> {
+    let made = name_beside(rt, name, count)?;
+    create(rt, made.as_str(), replaced)
+}
+
 /// Creates a file beside `name`, under a name that no file has.
 fn create_beside(rt: &HostRuntime, name: &str, replaced: Option<&Metadata>) -> io::Result<Output> {
     for count in 1..=MAX_NAMES {
-        let made = name_beside(rt, name, count)?;
-        match create(rt, made.as_str(), replaced) {
-            Ok(file) => return Ok(Output::new(Right(file), Some(made))),
+        match create_numbered(rt, name, count, replaced) {
+            Ok(file) => return Ok(Output::new(Right(file), count)),
             Err(why) if why.kind() == ErrorKind::AlreadyExists => {}
             Err(why) => return Err(why),
         }
@@ -153,7 +163,7 @@ fn create_beside(rt: &HostRuntime, name: &str, replaced: Option<&Metadata>) -> i
 /// Opens a pipe or a device to write to it.
 fn open_as_it_is(rt: &HostRuntime, name: &str) -> io::Result<Output> {
     let to = OpenOptions::new().write(true).open(rt, name)?;
-    Ok(Output::new(Right(to), None))
+    Ok(Output::new(Right(to), 0))
 }
 
 /// Returns true if no file and no link has this name.
@@ -186,6 +196,16 @@ fn replace_empty(rt: &HostRuntime, made: &str, name: &str) -> io::Result<()> {
         let _ = fs::remove_file(rt, name);
     }
     moved
+}
+
+/// Moves the file with the name number `count` beside `name` onto this name.
+fn move_onto(rt: &HostRuntime, name: &str, count: u32, is_forced: bool) -> io::Result<()> {
+    let made = name_beside(rt, name, count)?;
+    if is_forced {
+        fs::rename(rt, made.as_str(), name)
+    } else {
+        move_to_free(rt, made.as_str(), name)
+    }
 }
 
 impl NamedFiles for HostRuntime {
@@ -231,35 +251,24 @@ impl NamedFiles for HostRuntime {
         if is_standard(name) {
             return Ok(Output::standard(self.stdout()));
         }
-        match fs::metadata(self, name) {
-            Ok(there) => {
-                if !there.is_file() {
-                    return open_as_it_is(self, name);
-                }
-                create_beside(self, name, Some(&there))
-            }
-            Err(why) => {
-                if why.kind() != ErrorKind::NotFound || name.is_empty() {
-                    return Err(why);
-                }
-                create_beside(self, name, None)
-            }
-        }
+        let replaced = match fs::metadata(self, name) {
+            Ok(there) if there.is_file() => Some(there),
+            Ok(_) => return open_as_it_is(self, name),
+            Err(why) if why.kind() == ErrorKind::NotFound && !name.is_empty() => None,
+            Err(why) => return Err(why),
+        };
+        create_beside(self, name, replaced.as_ref())
     }
 
     fn place(&mut self, made: &mut Output, name: &str, is_forced: bool) -> io::Result<()> {
-        let Some(other) = &made.made else {
+        if made.beside == 0 {
             return Ok(());
-        };
+        }
         if let Right(file) = &made.to {
             file.sync_all()?;
         }
-        if is_forced {
-            fs::rename(self, other.as_str(), name)?;
-        } else {
-            move_to_free(self, other.as_str(), name)?;
-        }
-        made.made = None;
+        move_onto(self, name, made.beside, is_forced)?;
+        made.beside = 0;
         Ok(())
     }
 
@@ -267,12 +276,11 @@ impl NamedFiles for HostRuntime {
         made.reason()
     }
 
-    fn leave(&mut self, made: Output) -> Option<String> {
-        let Output { to, made, .. } = made;
-        let other = made?;
-        let Right(file) = to else {
+    fn leave(&mut self, made: &Output, name: &str) -> Option<String> {
+        let (Right(file), 1..) = (&made.to, made.beside) else {
             return None;
         };
+        let other = name_beside(self, name, made.beside).ok()?;
         let is_empty = matches!(file.metadata(), Ok(there) if there.len() == 0);
         if is_empty && fs::remove_file(self, other.as_str()).is_ok() {
             return None;

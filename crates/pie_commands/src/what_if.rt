@@ -220,39 +220,43 @@ fn decide_other<R: Read + Drop, W: Write>(
     decide_again(alloc, reader, other, alteration)
 }
 
-/// Decides the history in `text` again, in memory. Returns the other history and its end. Nothing is written to `output`.
+/// Decides the history in `text` again, in memory. Stores the other history in `other`. Nothing is written to `output`.
 fn decide_in_memory<W: Write>(
     alloc: Global,
     text: &[u8],
     alteration: &Alteration,
     output: &mut W,
-) -> Result<(Vec<u8>, WhatIfEnd), WhatIfFault> {
-    let mut other = JsonWriter::new(alloc, output, false, usize::MAX);
-    let outcome = decide_other(alloc, text, &mut other, alteration);
-    let other = other.into_withheld();
-    match outcome {
-        Ok(end) => Ok((other, end)),
-        Err(why) => {
-            drop(other);
-            Err(why)
-        }
-    }
+    other: &mut Vec<u8>,
+) -> Result<WhatIfEnd, WhatIfFault> {
+    let mut writer = JsonWriter::new(alloc, output, false, usize::MAX);
+    let outcome = decide_other(alloc, text, &mut writer, alteration);
+    *other = writer.into_withheld();
+    outcome
 }
 
-/// Returns the text of the comparison of the history in `text` with its control and the other history.
+/// The texts of a comparison.
+#[derive(Drop)]
+struct Compared {
+    control: Vec<u8>,
+    other: Vec<u8>,
+    page: Vec<u8>,
+}
+
+/// Writes the text of the comparison of the history in `text` with its control and the other history to a page.
 fn compare_text<W: Write>(
     alloc: Global,
     alteration: &Alteration,
     table: Table,
     text: &[u8],
     output: &mut W,
-) -> Result<Result<Vec<u8>, ExplainFault>, WhatIfFault> {
+    compared: &mut Compared,
+) -> Result<Result<(), ExplainFault>, WhatIfFault> {
     let control = Alteration {
         from: alteration.from,
         params: UNCHANGED,
     };
-    let (control, control_end) = decide_in_memory(alloc, text, &control, output)?;
-    let (other, end) = decide_in_memory(alloc, text, alteration, output)?;
+    let control = decide_in_memory(alloc, text, &control, output, &mut compared.control)?;
+    let end = decide_in_memory(alloc, text, alteration, output, &mut compared.other)?;
     let after = end.before.saturating_add(1);
     let columns = [
         Column {
@@ -261,17 +265,54 @@ fn compare_text<W: Write>(
             omitted: Omitted::default(),
         },
         Column {
-            text: &control,
+            text: &compared.control,
             after,
-            omitted: control_end.omitted,
+            omitted: control.omitted,
         },
         Column {
-            text: &other,
+            text: &compared.other,
             after,
             omitted: end.omitted,
         },
     ];
-    Ok(comparison(alloc, columns, table, output))
+    Ok(comparison(alloc, columns, table, output, &mut compared.page))
+}
+
+/// Returns the end of a comparison, whose text is in `page` if it is complete.
+fn end_of_comparison<H: NamedFiles + Screen, R: Read + Drop, W: Write, E: Write>(
+    call: &mut Call<'_, '_, '_, '_, H, R, E>,
+    table: Table,
+    outcome: Result<Result<(), ExplainFault>, WhatIfFault>,
+    page: &[u8],
+    output: &mut W,
+) -> End {
+    let written = match outcome {
+        Ok(written) => written,
+        Err(why) => return end_of(call, true, why),
+    };
+    if !matches!(table, Table::Words) {
+        fault(call.errors, NO_REACTION);
+    }
+    match written {
+        Ok(()) => end_of_page(page, output, call.errors),
+        Err(ExplainFault::Trace(why)) => end_with_fault(call.errors, why),
+        Err(why) => call.failed(why),
+    }
+}
+
+/// Reads a text into memory.
+fn read_text<H: NamedFiles + Screen, R: Read + Drop, E: Write>(
+    call: &mut Call<'_, '_, '_, '_, H, R, E>,
+    source: Source<R, H::File>,
+    text: &mut Vec<u8>,
+) -> Result<(), TraceFault> {
+    let (rt, is_shown) = (call.rt, shows_progress(call.rt, call.options, true));
+    let mut watched = ProgressReader::new(source, &mut *call.errors, rt, is_shown);
+    match watched.read_to_end(text) {
+        Ok(_) => Ok(()),
+        Err(why) if matches!(why.kind(), ErrorKind::OutOfMemory) => Err(TraceFault::Memory),
+        Err(_) => Err(TraceFault::Read),
+    }
 }
 
 /// Compares a history, which is read into memory, with its control and the other history.
@@ -279,37 +320,21 @@ fn compare<H: NamedFiles + Screen, R: Read + Drop, W: Write, E: Write>(
     call: &mut Call<'_, '_, '_, '_, H, R, E>,
     alteration: &Alteration,
     table: Table,
-    text: Source<R, H::File>,
+    source: Source<R, H::File>,
     output: &mut W,
 ) -> End {
-    let (rt, alloc) = (call.rt, call.alloc);
-    let is_shown = shows_progress(rt, call.options, true);
-    let mut watched = ProgressReader::new(text, &mut *call.errors, rt, is_shown);
+    let alloc = call.alloc;
     let mut text = Vec::new(alloc);
-    let read = watched.read_to_end(&mut text);
-    drop(watched);
-    if let Err(why) = read {
-        let is_short = matches!(why.kind(), ErrorKind::OutOfMemory);
-        let fault = if is_short {
-            TraceFault::Memory
-        } else {
-            TraceFault::Read
-        };
-        return call.end_at_fault(fault);
+    if let Err(why) = read_text(call, source, &mut text) {
+        return call.end_at_fault(why);
     }
-    match compare_text(alloc, alteration, table, &text, output) {
-        Ok(page) => {
-            if !matches!(table, Table::Words) {
-                fault(call.errors, NO_REACTION);
-            }
-            match page {
-                Ok(page) => end_of_page(&page, output, call.errors),
-                Err(ExplainFault::Trace(why)) => end_with_fault(call.errors, why),
-                Err(why) => call.failed(why),
-            }
-        }
-        Err(why) => end_of(call, true, why),
-    }
+    let mut compared = Compared {
+        control: Vec::new(alloc),
+        other: Vec::new(alloc),
+        page: Vec::new(alloc),
+    };
+    let outcome = compare_text(alloc, alteration, table, &text, output, &mut compared);
+    end_of_comparison(call, table, outcome, &compared.page, output)
 }
 
 /// `pie what-if`: decides the history or excerpt in the file that the options name, or in standard input, again with other

@@ -1,13 +1,10 @@
 //! The page of `pie advise`: its arguments and its help.
 
-use crate::options::argument::{Argument, HelpPage, Subcommand, ValueKind, row};
-use pie_trace::diagnosis::TextKind;
+use crate::options::argument::{Argument, HelpPage, ValueKind, row};
 
 /// The page of `pie advise`.
 pub(crate) const ADVISE: HelpPage<'static> = HelpPage {
-    subcommand: Subcommand::Advise,
     word: "advise",
-    reads: TextKind::Trace,
     about: "Advises on the parameters of a queue for a link",
     help: "RATE is written as for pie params, such as 20mbit. RANGE is a value, or the least and the greatest one
 with a dash between them: --rtt 10ms-100ms, --flows 1-16. A round-trip time is that of the path

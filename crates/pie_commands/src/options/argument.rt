@@ -2,7 +2,6 @@
 
 use clap::builder::ValueParser;
 use clap::{Arg, ArgAction};
-use pie_trace::diagnosis::TextKind;
 use std::alloc::Global;
 
 /// The kind of value that an option takes, or a file argument.
@@ -36,50 +35,17 @@ pub(crate) struct Argument {
     pub(crate) help: &'static str,
 }
 
-/// A subcommand of `pie`.
-#[derive(Clone, Copy)]
-pub(crate) enum Subcommand {
-    /// Run a trace.
-    Run,
-    /// Audit histories.
-    Audit,
-    /// Explain a history.
-    Explain,
-    /// Cut a part out of a history.
-    Cut,
-    /// Write a history in version two.
-    Migrate,
-    /// Make a storm.
-    Storm,
-    /// Write parameters as a record.
-    Params,
-    /// Decide a history again with other parameters.
-    WhatIf,
-    /// Advise on parameters.
-    Advise,
-}
-
 /// The page of a subcommand: its name, help and arguments.
 #[derive(Clone, Copy)]
 pub(crate) struct HelpPage<'a> {
-    pub(crate) subcommand: Subcommand,
     /// Its name on the command line.
     pub(crate) word: &'a str,
-    /// The kind of text that it reads, if it reads one.
-    pub(crate) reads: TextKind,
     /// Its purpose, in one line.
     pub(crate) about: &'a str,
     /// The help text below its options.
     pub(crate) help: &'a str,
     /// Its options and files.
     pub(crate) arguments: &'a [Argument],
-}
-
-impl HelpPage<'_> {
-    /// Returns true if an argument has this name.
-    pub(crate) fn has(&self, name: &str) -> bool {
-        self.arguments.iter().any(|argument| argument.name == name)
-    }
 }
 
 /// A row of a table of arguments: the name, the kind of value, and the lines in `-h` and in `--help`, or one for both.

@@ -12,13 +12,31 @@ use std::alloc::{AllocError, Global};
 const VERSION: &str = "0.1.0";
 
 /// The text of `pie --help` below its subcommands.
-pub(crate) const PIE_HELP: &str =
+const PIE_HELP: &str =
     "Example: run a trace of one arrival and one departure, and print the decisions:
 
   printf 'open,0,4,16,100\\narrive,1,10,7,1500,ect0,0\\ndepart,2,25\\n' | pie run
 
 The output of a run is its history. pie audit decides it again, and pie explain
 explains it.";
+
+/// The pages of all subcommands.
+const PAGES: [HelpPage<'static>; 9] = [
+    RUN, AUDIT, EXPLAIN, CUT, MIGRATE, STORM, PARAMS, WHAT_IF, ADVISE,
+];
+
+/// A reader of pages.
+pub(crate) trait PageReader {
+    /// Reads a page.
+    fn read_page(&mut self, page: HelpPage<'static>);
+}
+
+/// Passes the page of each subcommand to a reader. (The proof of a function that contains all help takes long.)
+pub(crate) fn read_pages<P: PageReader>(reader: &mut P) {
+    for page in PAGES {
+        reader.read_page(page);
+    }
+}
 
 /// Adds an argument to a command. If there is no command, the argument isn't built.
 fn with_argument<'a>(
@@ -45,38 +63,26 @@ fn command_of<'a>(alloc: Global, page: HelpPage<'a>) -> Result<Command<'a>, Allo
     command
 }
 
-/// The pages of all subcommands.
-const PAGES: [HelpPage<'static>; 9] = [
-    RUN, AUDIT, EXPLAIN, CUT, MIGRATE, STORM, PARAMS, WHAT_IF, ADVISE,
-];
-
-/// Returns the page of the subcommand of this name.
-pub(crate) fn page_named(word: &str) -> Option<HelpPage<'static>> {
-    PAGES.iter().find(|page| page.word == word).copied()
-}
-
-/// Returns the command `pie` without its subcommands.
-fn alone<'a>(alloc: Global) -> Command<'a> {
-    Command::new(alloc, "pie")
-        .about("A PIE queue controller (RFC 8033) whose every decision is recorded")
-        .version(VERSION)
-        .after_long_help(PIE_HELP)
-        .subcommand_required(true)
-}
-
-/// Adds a subcommand to the command `pie`, unless memory was short before.
-fn with_subcommand<'a>(
+/// The subcommands of the pages that were read, unless memory was short.
+#[derive(Drop)]
+struct Commands<'a> {
     alloc: Global,
-    begun: Result<Command<'a>, AllocError>,
-    page: HelpPage<'a>,
-) -> Result<Command<'a>, AllocError> {
-    let pie = begun?;
-    match command_of(alloc, page) {
-        Ok(command) => pie.subcommand(command),
-        Err(why) => {
-            drop(pie);
-            Err(why)
-        }
+    all: Vec<Command<'a>>,
+    added: Result<(), AllocError>,
+}
+
+impl Commands<'_> {
+    /// Adds the subcommand of a page.
+    fn add(&mut self, page: HelpPage<'static>) -> Result<(), AllocError> {
+        self.added?;
+        self.all.push(command_of(self.alloc, page)?)?;
+        Ok(())
+    }
+}
+
+impl PageReader for Commands<'_> {
+    fn read_page(&mut self, page: HelpPage<'static>) {
+        self.added = self.add(page);
     }
 }
 
@@ -86,9 +92,23 @@ fn with_subcommand<'a>(
 ///
 /// `AllocError` if memory is short.
 pub(crate) fn options<'a>(alloc: Global) -> Result<Command<'a>, AllocError> {
-    let mut pie = Ok(alone(alloc));
-    for page in PAGES {
-        pie = with_subcommand(alloc, pie, page);
+    let mut commands = Commands {
+        alloc,
+        all: Vec::new(alloc),
+        added: Ok(()),
+    };
+    read_pages(&mut commands);
+    let Commands { all, added, .. } = commands;
+    match added {
+        Ok(()) => Command::new(alloc, "pie")
+            .about("A PIE queue controller (RFC 8033) whose every decision is recorded")
+            .version(VERSION)
+            .after_long_help(PIE_HELP)
+            .subcommand_required(true)
+            .subcommands(all),
+        Err(why) => {
+            drop(all);
+            Err(why)
+        }
     }
-    pie
 }

@@ -1,15 +1,10 @@
 //! The pages of `pie audit`, `pie explain`, `pie cut` and `pie migrate`: their arguments and their help.
 
-use crate::options::argument::{
-    Argument, FILE, FORCE, HelpPage, OUTPUT, PROGRESS, Subcommand, ValueKind, row,
-};
-use pie_trace::diagnosis::TextKind;
+use crate::options::argument::{Argument, FILE, FORCE, HelpPage, OUTPUT, PROGRESS, ValueKind, row};
 
 /// The page of `pie audit`.
 pub(crate) const AUDIT: HelpPage<'static> = HelpPage {
-    subcommand: Subcommand::Audit,
     word: "audit",
-    reads: TextKind::History,
     about: "Decides events of histories again, and reports the first that differs",
     help: "A history is the output of pie run: the first record of a trace, and then each record with its
 answer. An audit decides each event again, from the opening and the events before it, and compares
@@ -84,9 +79,7 @@ The audit finds a changed verdict, and the line is differs,1:
 
 /// The page of `pie explain`.
 pub(crate) const EXPLAIN: HelpPage<'static> = HelpPage {
-    subcommand: Subcommand::Explain,
     word: "explain",
-    reads: TextKind::History,
     about: "Explains why the events of a history were decided as they were",
     help: "At most one of --event, --tag, --lost, --marked and --all selects events. Each event of the history
 is decided again, as by pie audit. The explanation of a selected event names the rule that decided
@@ -208,9 +201,7 @@ The output is why the last packet of that trace was dropped:
 
 /// The page of `pie cut`.
 pub(crate) const CUT: HelpPage<'static> = HelpPage {
-    subcommand: Subcommand::Cut,
     word: "cut",
-    reads: TextKind::History,
     about: "Writes some events of a history as an excerpt",
     help: "The output is an excerpt. It begins with the state of the controller before the first selected event
 (the record resume), the packets in the queue at that time (records queued), and the last wall-clock
@@ -268,9 +259,7 @@ Files of a million events each, day.0000 and so on, and their audit:
 
 /// The page of `pie migrate`.
 pub(crate) const MIGRATE: HelpPage<'static> = HelpPage {
-    subcommand: Subcommand::Migrate,
     word: "migrate",
-    reads: TextKind::WholeHistory,
     about: "Rewrites a history of version one in version two",
     help: "A history of version one begins with open or rolling. In version two it begins with open2,1,bounded
 or open2,1,rolling, and each record shown has 1 as its last field, because the controller is always

@@ -1,15 +1,10 @@
 //! The pages of `pie run`, `pie storm` and `pie params`: their arguments and their help.
 
-use crate::options::argument::{
-    Argument, FILE, FORCE, HelpPage, OUTPUT, PROGRESS, Subcommand, ValueKind, row,
-};
-use pie_trace::diagnosis::TextKind;
+use crate::options::argument::{Argument, FILE, FORCE, HelpPage, OUTPUT, PROGRESS, ValueKind, row};
 
 /// The page of `pie run`.
 pub(crate) const RUN: HelpPage<'static> = HelpPage {
-    subcommand: Subcommand::Run,
     word: "run",
-    reads: TextKind::Trace,
     about: "Runs a trace and writes its history",
     help: "A trace is a CSV text with one record on each line. pie run writes each record again, followed by
 the controller's answer. Moments and times are whole nanoseconds from a start of your choice, at
@@ -139,9 +134,7 @@ The last lines of the output are
 
 /// The page of `pie storm`.
 pub(crate) const STORM: HelpPage<'static> = HelpPage {
-    subcommand: Subcommand::Storm,
     word: "storm",
-    reads: TextKind::Trace,
     about: "Runs one controller under many threads at once and writes its history",
     help: "Each sender sends a packet each millisecond, in a thread of its own. A thread makes as many
 departures as packets are sent, spread evenly over that time. Another thread makes an update each 15
@@ -189,9 +182,7 @@ Example: three senders with ten packets each, and the audit of the history:
 
 /// The page of `pie params`.
 pub(crate) const PARAMS: HelpPage<'static> = HelpPage {
-    subcommand: Subcommand::Params,
     word: "params",
-    reads: TextKind::Trace,
     about: "Converts options of tc to the first record of a trace",
     help: "The record opens a rolling book of version three with at most 2^47 events:
 open3,1,<delay>,<picking>,<step>,<size>,rolling,0,<packets>,<tail>,<events>. The keyword half

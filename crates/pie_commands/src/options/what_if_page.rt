@@ -1,15 +1,10 @@
 //! The page of `pie what-if`: its arguments and its help.
 
-use crate::options::argument::{
-    Argument, FILE, FORCE, HelpPage, PROGRESS, Subcommand, ValueKind, row,
-};
-use pie_trace::diagnosis::TextKind;
+use crate::options::argument::{Argument, FILE, FORCE, HelpPage, PROGRESS, ValueKind, row};
 
 /// The page of `pie what-if`.
 pub(crate) const WHAT_IF: HelpPage<'static> = HelpPage {
-    subcommand: Subcommand::WhatIf,
     word: "what-if",
-    reads: TextKind::History,
     about: "Decides a history again with other parameters from a moment on",
     help: "The input is a history or an excerpt. pie what-if audits it and decides its commands again, with other
 parameters from a moment on. The result is another history, which audits clean. Without -o the

@@ -17,7 +17,7 @@ rows-preserved g c =
           ((rw (c.in-Ok-Some.field-0-is, kept.0, kept.1) at c.in-Ok-Some.ensures.takes) was.entries was.read refl)
           (λ one has leaves is. (
             found-more _ was.entries one _ is (c.in-Ok.ensures (differences_of was.entries)
-            (subst (λ (it : Differences). HasFound it (differences_of was.entries)) (sym c.next.ensures.kept.2) was.has_them.0)),
+                (subst (λ (it : Differences). HasFound it (differences_of was.entries)) (sym c.next.ensures.kept.2) was.has_them.0)),
             c.in-Ok-write_row.ensures.row was.entries one before has leaves was.has_them.1,
           )),
     )

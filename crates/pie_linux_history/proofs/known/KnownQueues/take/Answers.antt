@@ -1,12 +1,12 @@
-use Rattle.std.proofs.Common.{◌≡◌, Option, Some, arith, sym, ap}
+use Rattle.std.proofs.Common.{◌≡◌, Option, Some, arith, sym, ap, ◌∙◌}
 use Rattle.pie_linux_history.specs.declared.explained.Decision.{Decision}
 use Rattle.pie_linux_history.specs.declared.decided.Taken.{Taken}
 use Rattle.pie_linux_history.specs.declared.step.Step.{Step}
 use Rattle.pie_linux_history.specs.Decided.{taken_as}
 use Rattle.pie_linux_history.specs.Known.{looked_up, tracked}
-use Rattle.pie_linux_history.specs.LookBack.{Followed}
+use Rattle.pie_linux_history.specs.LookBack.{Followed, name_of}
 use Rattle.pie_linux_history.specs.Queue.{Stepped}
-use Rattle.pie_linux_history.proofs.KnownFacts.{looked-at, looked-take, place-within}
+use Rattle.pie_linux_history.proofs.KnownFacts.{looked-at, looked-take, name-at, names-set, place-within}
 use Rattle.pie_linux_history.proofs.known.KnownQueues.take.Goals as goal
 
 abbrev taken_with : Followed → Step → Stepped → Option Taken
@@ -27,4 +27,6 @@ returns-in-Ok c =
       lost = rw found c.in-Ok.ensures.lost;
       queues = λ other. looked-take c.args.self.now.all.items c.in-Some.place c.args.name.now known c.take.new.self c.args.step.now c.in-Ok.decision other
           c.in-Some.ensures c.in-Some-get_mut.ensures.value c.in-Ok.ensures.name c.in-Ok.ensures.last c.in-Ok.ensures.made;
+      names = names-set c.args.self.now.all.items c.in-Some.place c.args.name.now c.take.new.self c.in-Some.ensures
+          (ap name_of c.in-Ok.ensures.name ∙ name-at c.args.self.now.all.items c.in-Some.place c.args.name.now known c.in-Some.ensures c.in-Some-get_mut.ensures.value);
     }

@@ -1,8 +1,9 @@
 -- The queues by their names, after each operation.
 use Rattle.std.proofs.Common.{◌≡◌, ℕ, ◌+◌, ◌<◌, ◌≤◌, ◌++◌, ◌∷◌, [], List, Bool, Option, refl, ◌∙◌, sym, ap, arith, drop, get_or, length}
-use Rattle.std.proofs.lemmas.List.{drop_all, drop_more}
+use Rattle.std.proofs.lemmas.List.{drop_all, drop_more, map-append}
+use Rattle.std.proofs.lemmas.List.Sums.{fold-append}
 use Rattle.std.proofs.Math.ListN.{set}
-use Rattle.std.specs.Prelude.{zero, suc, true, false, Some, None, if◌then◌else◌, filter, not}
+use Rattle.std.specs.Prelude.{zero, suc, true, false, Some, None, if◌then◌else◌, filter, map, not}
 use Rattle.std.specs.Option.{option_map}
 use Rattle.std.specs.Str.{bytes_eq}
 use Rattle.std.proofs.lemmas.Slice.Eq.{bytes_eq-Decides}
@@ -11,8 +12,9 @@ use Rattle.pie_linux_history.specs.declared.explained.Decision.{Decision}
 use Rattle.pie_linux_history.specs.declared.known.Known.{Known}
 use Rattle.pie_linux_history.specs.declared.step.QueueName.{QueueName}
 use Rattle.pie_linux_history.specs.declared.step.Step.{Step}
+use Rattle.pie_linux_history.specs.Cuts.{has_name, names_after, names_of, with_name, without_name}
 use Rattle.pie_linux_history.specs.Decided.{numbers_of, taken_by}
-use Rattle.pie_linux_history.specs.Known.{IsPlaceOf, Represents, looked_up, tracked}
+use Rattle.pie_linux_history.specs.Known.{IsPlaceOf, Represents, known_names, looked_up, tracked}
 use Rattle.pie_linux_history.specs.LookBack.{Entry, Followed, Lost, Skipped, Took, begun, follow, followed, is_opening, name_of, next_of, since_last, steps_of}
 use Rattle.pie_linux_history.proofs.LookBackFacts.{followed-begun, followed-lost, followed-other, followed-step}
 
@@ -28,6 +30,17 @@ other-test a b c true e isnt is =
     let bc : b ≡ c = (bytes_eq-Decides b c).0 e in
     let ab : bytes_eq a b ≡ true = (bytes_eq-Decides a b).1 (ac ∙ sym bc) in
     cc
+
+pub test-same : (a : List ℕ) → bytes_eq a a ≡ true
+test-same a = (bytes_eq-Decides a a).1 refl
+
+sym-by : (a b : List ℕ) (is : Bool) → bytes_eq b a ≡ is → bytes_eq a b ≡ false → bytes_eq b a ≡ false
+sym-by a b false e isnt = e
+sym-by a b true e isnt =
+    let ab : bytes_eq a b ≡ true = (bytes_eq-Decides a b).1 (sym ((bytes_eq-Decides b a).0 e)) in cc
+
+pub test-sym : (a b : List ℕ) → bytes_eq a b ≡ false → bytes_eq b a ≡ false
+test-sym a b isnt = sym-by a b (bytes_eq b a) refl isnt
 
 -- one queue before others is looked up, in place of another or before others
 pick-same : {A : Type 0} (here there : Bool) (was now rest : Option A) → here ≡ there
@@ -195,16 +208,69 @@ unfolding looked_up
 looked-lost [] name other = none-both (bytes_eq name other)
 looked-lost (known ∷ rest) name other = lost-one known rest name other (bytes_eq (name_of known.name) name) refl (looked-lost rest name other)
 
+-- ---- the names of the queues
+
+pub names-set : (queues : List Known) (place : ℕ) (name : List ℕ) (now : Known) → IsPlaceOf name queues place → name_of now.name ≡ name
+    → known_names (set queues place now) ≡ known_names queues
+unfolding IsPlaceOf
+names-set [] place name now at same = absurd at
+names-set (known ∷ rest) zero name now at same = ap (λ (x : List ℕ). x ∷ known_names rest) (same ∙ sym ((bytes_eq-Decides (name_of known.name) name).0 at))
+names-set (known ∷ rest) (suc place) name now at same = ap (λ (xs : List (List ℕ)). name_of known.name ∷ xs) (names-set rest place name now at.1 same)
+
+names-here : (queues : List Known) (place : ℕ) (name : List ℕ) → IsPlaceOf name queues place → has_name name (known_names queues) ≡ true
+unfolding IsPlaceOf
+names-here [] place name at = absurd at
+names-here (known ∷ rest) zero name at = rw at refl
+names-here (known ∷ rest) (suc place) name at = rw at.0 (names-here rest place name at.1)
+
+pub names-begun : (queues : List Known) (place : ℕ) (name : List ℕ) (now : Known) → IsPlaceOf name queues place → name_of now.name ≡ name
+    → known_names (set queues place now) ≡ with_name name (known_names queues)
+names-begun queues place name now at same = rw (names-here queues place name at) (names-set queues place name now at same)
+
+none-by : (known : Known) (rest : List Known) (name : List ℕ) (here : Bool) → (if here then Some (tracked known) else looked_up name rest) ≡ None
+    → (here ≡ false) × (looked_up name rest ≡ None)
+none-by known rest name true none = cc
+none-by known rest name false none = (refl, none)
+
+names-missing : (queues : List Known) (name : List ℕ) → looked_up name queues ≡ None → has_name name (known_names queues) ≡ false
+unfolding looked_up
+names-missing [] name none = refl
+names-missing (known ∷ rest) name none =
+    let both = none-by known rest name (bytes_eq (name_of known.name) name) none in rw both.0 (names-missing rest name both.1)
+
+pub names-pushed : (queues : List Known) (name : List ℕ) (now : Known) → looked_up name queues ≡ None → name_of now.name ≡ name
+    → known_names (queues ++ now ∷ []) ≡ with_name name (known_names queues)
+names-pushed queues name now none same = rw (names-missing queues name none, map-append, same) refl
+
+names-kept : (known : Known) (rest : List Known) (here : Bool)
+    → known_names (if not here then known ∷ rest else rest) ≡ (if not here then name_of known.name ∷ known_names rest else known_names rest)
+names-kept known rest true = refl
+names-kept known rest false = refl
+
+pub names-lost : (queues : List Known) (name : List ℕ) → known_names (filter (is_other name) queues) ≡ without_name name (known_names queues)
+names-lost [] name = refl
+names-lost (known ∷ rest) name =
+    names-kept known (filter (is_other name) rest) (bytes_eq (name_of known.name) name)
+    ∙ ap (λ (later : List (List ℕ)). if not (bytes_eq (name_of known.name) name) then name_of known.name ∷ later else later) (names-lost rest name)
+
+names-more : (entries : List Entry) (one : Entry) (names now : List (List ℕ)) → names ≡ names_of entries → now ≡ names_after names one
+    → now ≡ names_of (entries ++ one ∷ [])
+unfolding names_of
+names-more entries one names now was is = is ∙ ap (λ (x : List (List ℕ)). names_after x one) was ∙ sym (fold-append names_after [] entries (one ∷ []))
+
 -- ---- rows
 
 -- no queue before the first row
 pub represents-none : (queues : List Known) → queues ≡ [] → Represents queues []
-unfolding looked_up followed steps_of since_last
-represents-none queues none = rw none (record { by_name = λ name. refl })
+unfolding looked_up followed steps_of since_last names_of
+represents-none queues none = rw none (record { by_name = λ name. refl; names_are = refl })
 
 -- a row of another queue
 pub represents-skipped : (queues : List Known) (entries : List Entry) → Represents queues entries → Represents queues (entries ++ Skipped ∷ [])
-represents-skipped queues entries was = record { by_name = λ name. was.by_name name ∙ sym (followed-other name entries Skipped refl) }
+represents-skipped queues entries was = record {
+  by_name = λ name. was.by_name name ∙ sym (followed-other name entries Skipped refl);
+  names_are = names-more entries Skipped _ _ was.names_are refl;
+}
 
 lost-name : (name : List ℕ) (entries : List Entry) (queue : QueueName) (count : ℕ) (found : Option Followed) (is : Bool) → bytes_eq (name_of queue) name ≡ is
     → found ≡ followed name entries → (if is then None else found) ≡ followed name (entries ++ Lost queue count ∷ [])
@@ -213,9 +279,11 @@ lost-name name entries queue count found false is same = same ∙ sym (followed-
 
 pub represents-lost : (queues after : List Known) (entries : List Entry) (queue : QueueName) (count : ℕ)
     → ((other : List ℕ) → looked_up other after ≡ (if bytes_eq (name_of queue) other then None else looked_up other queues))
+    → known_names after ≡ without_name (name_of queue) (known_names queues)
     → Represents queues entries → Represents after (entries ++ Lost queue count ∷ [])
-represents-lost queues after entries queue count made was = record {
+represents-lost queues after entries queue count made names was = record {
   by_name = λ name. made name ∙ lost-name name entries queue count (looked_up name queues) (bytes_eq (name_of queue) name) refl (was.by_name name);
+  names_are = names-more entries (Lost queue count) _ _ was.names_are names;
 }
 
 begun-name : (name : List ℕ) (entries : List Entry) (queue : QueueName) (step : Step) (found : Option Followed) (is : Bool)
@@ -227,9 +295,11 @@ begun-name name entries queue step found false is opens same = same ∙ sym (fol
 
 pub represents-begun : (queues after : List Known) (entries : List Entry) (queue : QueueName) (step : Step) → is_opening step.kind ≡ true
     → ((other : List ℕ) → looked_up other after ≡ (if bytes_eq (name_of queue) other then Some (begun (name_of queue) step) else looked_up other queues))
+    → known_names after ≡ with_name (name_of queue) (known_names queues)
     → Represents queues entries → Represents after (entries ++ Took queue step ∷ [])
-represents-begun queues after entries queue step opens made was = record {
+represents-begun queues after entries queue step opens made names was = record {
   by_name = λ name. made name ∙ begun-name name entries queue step (looked_up name queues) (bytes_eq (name_of queue) name) refl opens (was.by_name name);
+  names_are = names-more entries (Took queue step) _ _ was.names_are (rw opens names);
 }
 
 step-name : (name : List ℕ) (entries : List Entry) (queue : QueueName) (step : Step) (found : Option Followed) (is : Bool)
@@ -242,7 +312,9 @@ step-name name entries queue step found false is later same = same ∙ sym (foll
 pub represents-step : (queues after : List Known) (entries : List Entry) (queue : QueueName) (step : Step) → is_opening step.kind ≡ false
     → ((other : List ℕ) → looked_up other after
     ≡ (if bytes_eq (name_of queue) other then option_map (λ was. follow was step) (looked_up other queues) else looked_up other queues))
+    → known_names after ≡ known_names queues
     → Represents queues entries → Represents after (entries ++ Took queue step ∷ [])
-represents-step queues after entries queue step later made was = record {
+represents-step queues after entries queue step later made names was = record {
   by_name = λ name. made name ∙ step-name name entries queue step (looked_up name queues) (bytes_eq (name_of queue) name) refl later (was.by_name name);
+  names_are = names-more entries (Took queue step) _ _ was.names_are (rw later names);
 }

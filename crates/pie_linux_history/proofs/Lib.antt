@@ -8,3 +8,4 @@ pub mod RowFacts
 pub mod AuditFacts
 pub mod ReportFacts
 pub mod CutFacts
+pub mod CuttingFacts

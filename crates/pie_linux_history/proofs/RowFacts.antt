@@ -18,8 +18,9 @@ use Rattle.pie_linux_history.specs.declared.columns.Columns.{Columns}
 use Rattle.pie_linux_history.specs.Columns.{field_or, lost_in, queue_name, step_in}
 use Rattle.pie_linux_history.specs.Audit.{difference_at, judged, next, verdict_of}
 use Rattle.pie_linux_history.specs.Queue.{opening_difference}
+use Rattle.pie_linux_history.specs.Cuts.{with_name}
 use Rattle.pie_linux_history.specs.Decided.{decision_of, taken_by}
-use Rattle.pie_linux_history.specs.Known.{Leaves, Represents, Takes, looked_up}
+use Rattle.pie_linux_history.specs.Known.{Leaves, Represents, Takes, known_names, looked_up}
 use Rattle.pie_linux_history.specs.LookBack.{Entry, Lost, Skipped, Took, begun, counts_of, decision_by, dropped_by_step, entry_in, follow, is_opening, is_other, lack_by, lack_counted, lack_in, latest, lost_steps, name_of, step_count}
 use Rattle.pie_linux_history.proofs.LookBackFacts.{counts-after, latest-more}
 use Rattle.pie_linux_history.proofs.KnownFacts.{represents-begun, represents-skipped, represents-step}
@@ -31,15 +32,16 @@ pub follow-row : (queues : List Known) (after : Queues) (entries : List Entry) (
     → decision_of taken ≡ decision_by step (looked_up (name_of queue) queues)
     → ((other : List ℕ) → looked_up other after.known.all.items
     ≡ (if bytes_eq (name_of queue) other then option_map (λ was. follow was step) (looked_up other queues) else looked_up other queues))
+    → known_names after.known.all.items ≡ known_names queues
     → after.last ≡ Some (queue, step) → after.taken ≡ taken → after.lost.items ≡ dropped_by_step step (looked_up (name_of queue) queues)
     → result ≡ judged event queue step (decision_of taken)
     → (result ≡ verdict_of entries event (Took queue step)) × Leaves after entries (Took queue step)
-follow-row queues after entries queue step event taken result later was took decided made last kept lost judges =
+follow-row queues after entries queue step event taken result later was took decided made names last kept lost judges =
     let found = was.by_name (name_of queue) in
     let by = decided ∙ ap (decision_by step) found in (
       rw later (judges ∙ ap (judged event queue step) by),
       record {
-        represents = represents-step queues after.known.all.items entries queue step later made was;
+        represents = represents-step queues after.known.all.items entries queue step later made names was;
         last_is = last;
         taken_is = rw later (kept ∙ took ∙ ap (taken_by step) found);
         lost_are = rw later (lost ∙ ap (dropped_by_step step) found);
@@ -50,13 +52,14 @@ follow-row queues after entries queue step event taken result later was took dec
 pub open-row : (queues : List Known) (after : Queues) (entries : List Entry) (queue : QueueName) (step : Step) (event : ℕ)
     (result : Result (Option StepDifference) StepsFault) → is_opening step.kind ≡ true → Represents queues entries
     → ((other : List ℕ) → looked_up other after.known.all.items ≡ (if bytes_eq (name_of queue) other then Some (begun (name_of queue) step) else looked_up other queues))
+    → known_names after.known.all.items ≡ with_name (name_of queue) (known_names queues)
     → after.last ≡ Some (queue, step) → after.taken ≡ None → after.lost.items ≡ []
     → result ≡ Ok (difference_at event queue step (opening_difference step))
     → (result ≡ verdict_of entries event (Took queue step)) × Leaves after entries (Took queue step)
-open-row queues after entries queue step event result opens was made last taken lost judges = (
+open-row queues after entries queue step event result opens was made names last taken lost judges = (
   rw opens judges,
   record {
-    represents = represents-begun queues after.known.all.items entries queue step opens made was;
+    represents = represents-begun queues after.known.all.items entries queue step opens made names was;
     last_is = last;
     taken_is = rw opens taken;
     lost_are = rw opens lost;

@@ -1,5 +1,5 @@
 -- The queues of an audit represent the rows so far: by each name they have the queue that a look-back over the rows finds.
-use Rattle.std.specs.Prelude.{ℕ, ◌≡◌, ◌++◌, ◌∷◌, if◌then◌else◌, List, [], true, false, Option, Some, None, IfOk, IfSome, Result, Ok, Err, suc, zero}
+use Rattle.std.specs.Prelude.{ℕ, ◌≡◌, ◌++◌, ◌∷◌, if◌then◌else◌, List, [], map, true, false, Option, Some, None, IfOk, IfSome, Result, Ok, Err, suc, zero}
 use Rattle.std.specs.Str.{bytes_eq}
 use Rattle.pie_record.specs.Text.{Row, TakesRow}
 use Rattle.pie_record.specs.declared.fault.RecordFault.{RecordFault}
@@ -9,11 +9,18 @@ use Rattle.pie_linux_history.specs.declared.known.Known.{Known}
 use Rattle.pie_linux_history.specs.declared.queues.Queues.{Queues}
 use Rattle.pie_linux_history.specs.declared.queues.StepDifference.{StepDifference}
 use Rattle.pie_linux_history.specs.Audit.{next, verdict}
+use Rattle.pie_linux_history.specs.Cuts.{Named, names_of}
 use Rattle.pie_linux_history.specs.Decided.{dropped_in, last_in, taken_in}
 use Rattle.pie_linux_history.specs.LookBack.{Entry, Followed, counts_of, entry_in, followed, latest, name_of}
 
 abbrev pub tracked : Known → Followed
 tracked known = record { last = known.last; queue = known.queue; differs = known.differs }
+
+abbrev pub named : Known → Named
+named known = record { name = name_of known.name; was = tracked known }
+
+abbrev pub known_names : List Known → List (List ℕ)
+known_names queues = map (λ known. name_of known.name) queues
 
 -- the first queue with this name
 unfoldable pub looked_up : List ℕ → List Known → Option Followed
@@ -26,9 +33,10 @@ IsPlaceOf name [] place = ⊥
 IsPlaceOf name (known ∷ rest) zero = bytes_eq (name_of known.name) name ≡ true
 IsPlaceOf name (known ∷ rest) (suc place) = (bytes_eq (name_of known.name) name ≡ false) × IsPlaceOf name rest place
 
--- by each name the queues have what a look-back finds
+-- by each name the queues have what a look-back finds, and they are in the order in which they began
 pub record Represents (queues : List Known) (entries : List Entry) : Type 0 where
   pub by_name : (name : List ℕ) → looked_up name queues ≡ followed name entries
+  pub names_are : known_names queues ≡ names_of entries
 
 -- the queues, the step and its packets after a row
 pub record Leaves (queues : Queues) (entries : List Entry) (entry : Entry) : Type 0 where

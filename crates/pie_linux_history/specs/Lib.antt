@@ -4,8 +4,10 @@ pub mod Right
 pub mod Views
 pub mod Queue
 pub mod LookBack
+pub mod Cuts
 pub mod Audit
 pub mod Known
+pub mod Cutting
 pub mod Decided
 pub mod Columns
 pub mod Event

@@ -248,7 +248,7 @@ round queue step = record {
 }
 
 unfoldable pub destroyed : QueueView → Step → Stepped
-destroyed queue step = record { queue = queue; decision = other (destroy_difference queue.numbers (slice_get queue.flows 0) step) }
+destroyed queue step = record { queue = record queue { ended = true }; decision = other (destroy_difference queue.numbers (slice_get queue.flows 0) step) }
 
 abbrev pub stepped : Kind → QueueView → Step → Stepped
 stepped kind.Enqueue queue step = flow_stepped flow_arrived (no_flow step) queue step
@@ -308,6 +308,7 @@ unfoldable pub opened : ℕ → Step → QueueView
 opened handle step = record {
   numbers = resumed (first_numbers handle step) step;
   flows = replicate (first_flows step) (first_flow step);
+  ended = false;
 }
 
 abbrev pub opening_difference : Step → Option Difference

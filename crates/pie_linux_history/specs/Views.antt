@@ -1,5 +1,5 @@
 -- The views of a queue: lists in place of memory.
-use Rattle.std.specs.Prelude.{List}
+use Rattle.std.specs.Prelude.{Bool, List}
 use Rattle.pie_linux_history.specs.declared.numbers.FlowNumbers.{FlowNumbers}
 use Rattle.pie_linux_history.specs.declared.numbers.QueueNumbers.{QueueNumbers}
 use Rattle.pie_linux_history.specs.declared.numbers.Waiting.{Waiting}
@@ -9,7 +9,8 @@ pub record FlowView : Type 0 where
   pub numbers : FlowNumbers
   pub waiting : List Waiting
 
--- a queue: its numbers and its flows
+-- a queue: its numbers, its flows, and true after its row `destroy`
 pub record QueueView : Type 0 where
   pub numbers : QueueNumbers
   pub flows : List FlowView
+  pub ended : Bool

@@ -4,6 +4,7 @@ ghost use Rattle.pie_record.specs.declared.fault.TraceFault.TheVariants.{Memory}
 ghost use Rattle.pie_record.specs.Field.{fault_at};
 ghost use Rattle.pie_linux_history.specs.declared.fault.StepsFault.TheVariants.{Trace};
 ghost use Rattle.pie_linux_history.specs.Columns.{blank, collected, column_at, columns_of, decimal_at, digits_after, field_or, flow_at, handle_of, has_flows_at, has_returned, hex_digit, hexadecimal_after, hexadecimal_at, is_optional, kind_at, most_of, name_of, narrow, lost_in, moment_of, numbers_of, params_of, place_from, state_of, step_in, step_of};
+ghost use Rattle.pie_linux_history.specs.Cuts.{column_of};
 
 use crate::fault::StepsFault;
 use crate::step::{Kind, QueueName, Step};
@@ -413,17 +414,26 @@ impl Columns {
     }
 
     /// Returns the number of columns.
-    pub(crate) fn count(&self) -> usize {
+    pub(crate) fn count(&self) -> usize
+        ensures { result ≡ self.now.count }
+    {
         self.count
     }
 
     /// Returns the place in [`NAMES`] of the column at `place` of a row, the place behind them for `qid`, and `None` for a column
     /// that is not read.
-    pub(crate) fn column_at(&self, place: usize) -> Option<usize> {
+    pub(crate) fn column_at(&self, place: usize) -> Option<usize>
+        ensures { result ≡ column_of self.now place }
+    {
         if place == self.queue {
             return Some(COUNT);
         }
-        self.places.iter().position(|at| *at == place)
+        for column in 0..COUNT {
+            if self.places[column] == place {
+                return Some(column);
+            }
+        }
+        None
     }
 
     /// Reads the numbers of a row.

@@ -1,17 +1,22 @@
 //! Pieces of a text of recorded steps, each of which can be audited, explained and cut alone.
-ghost use Rattle.std.specs.Prelude.{◌≡◌, ◌-◌, IfOk, IfSome, OnOk, length};
-ghost use Rattle.std.specs.Io.KnownBytes.{Appends};
+ghost use Rattle.std.specs.Prelude.{◌≡◌, ◌+◌, ◌-◌, ◌^◌, ◌<◌, ◌≤◌, ◌++◌, [], Err, IfErr, IfOk, IfSome, List, None, Ok, OnOk, length, option_map, true, false, ℕ};
+ghost use Rattle.std.specs.Io.KnownBytes.{Appends, append_known};
+ghost use Rattle.pie_linux.specs.Enqueue.{one_if};
 ghost use Rattle.pie_record.specs.Text.{records_of, text_of};
+ghost use Rattle.pie_linux_history.specs.Audit.{has_failed, is_failure};
+ghost use Rattle.pie_linux_history.specs.Cuts.{IsEnd, beginning_at, begins_piece, copied_at, cut_after, cut_of, fault_in, found_before, is_after, moment_at, plan, selects};
+ghost use Rattle.pie_linux_history.specs.Cutting.{CutsRow, CutsRows, Stands};
+ghost use Rattle.pie_linux_history.specs.Known.{HasRead};
+ghost use Rattle.pie_linux_history.specs.LookBack.{Entry};
 
 use crate::columns::{Columns, fault_at, lost_at, out_of_memory};
 use crate::fault::StepsFault;
-use crate::queues::{Queues, StepDifference};
+use crate::queues::{Queues, StepsCounts};
 use crate::step::QueueName;
 use crate::text::{StepsFinding, StepsReader, read_columns};
-use pie_record::{Record, RecordFault, Records, TraceFault};
+use pie_record::{Page, Record, RecordFault, Records, TraceFault};
 use std::alloc::Global;
-use std::io;
-use std::io::{BufWriter, Read, Write};
+use std::io::{Read, Write};
 
 /// A selection of rows, by their numbers and moments. The moment of a row is the latest of the column `ns` up to it, so the
 /// moments do not decrease.
@@ -36,59 +41,49 @@ pub enum StepPieces {
     Every(u64),
 }
 
-/// The state of a cut between two rows.
-#[derive(Clone, Copy)]
-struct Cutter {
-    pieces: StepPieces,
-    /// The rows so far.
-    rows: u64,
-    /// The latest moment so far.
-    moment: u64,
-    /// The rows that were written.
-    written: u64,
-    /// True if a piece has begun.
-    has_begun: bool,
-    /// True after the last piece, and after a step that differs.
-    is_over: bool,
-    /// The step that differs.
-    difference: Option<StepDifference>,
-}
-
-impl Cutter {
-    /// Returns the state before the first row.
-    fn new(pieces: StepPieces) -> Cutter {
-        Cutter {
-            pieces,
-            rows: 0,
-            moment: 0,
-            written: 0,
-            has_begun: false,
-            is_over: false,
-            difference: None,
-        }
-    }
-
-    /// Returns true if a piece begins with the next row, whose moment is `moment`.
-    fn begins(&self, moment: u64) -> bool {
-        match self.pieces {
+impl StepPieces {
+    /// Returns true if a row with this number, counted from 1, and this moment is in a piece.
+    fn selects(self, number: u64, moment: u64) -> bool
+        ensures { result ≡ selects self number moment }
+    {
+        match self {
             StepPieces::Span(span) => {
-                !self.has_begun && span.first <= self.rows.saturating_add(1) && span.from <= moment
+                span.first <= number
+                    && (number <= span.last && (span.from <= moment && moment <= span.to))
             }
-            StepPieces::Every(every) => self.rows.checked_rem(every) == Some(0),
+            StepPieces::Every(every) => every != 0,
         }
     }
 
-    /// Returns true if the last piece ends before the next row.
-    fn ends(&self, moment: u64) -> bool {
-        match self.pieces {
-            StepPieces::Span(span) => span.last <= self.rows || span.to < moment,
+    /// Returns true if a piece begins with this row. The row before it has the moment `before`.
+    fn begins(self, number: u64, before: u64, moment: u64) -> bool
+        requires { 0 < number }
+        ensures { result ≡ begins_piece self number before moment }
+    {
+        match self {
+            StepPieces::Span(_) => {
+                self.selects(number, moment) && !(1 < number && self.selects(number - 1, before))
+            }
+            StepPieces::Every(every) => every != 0 && (number - 1) % every == 0,
+        }
+    }
+
+    /// Returns true if the row is after the last piece.
+    fn is_after(self, number: u64, moment: u64) -> bool
+        ensures { result ≡ is_after self number moment }
+    {
+        match self {
+            StepPieces::Span(span) => span.last < number || span.to < moment,
             StepPieces::Every(_) => false,
         }
     }
 }
 
 /// Returns the fault of a row that cannot be read.
-fn unreadable(columns: &Columns, fields: &Record) -> Option<RecordFault> {
+#[tactic(auto, unfolding(crate::specs::LookBack::entry_in))]
+fn unreadable(columns: &Columns, fields: &Record) -> Option<RecordFault>
+    ensures { result ≡ fault_in columns.now fields.now }
+{
     match lost_at(fields) {
         Ok(None) => {}
         Ok(Some(_)) => return None,
@@ -101,100 +96,177 @@ fn unreadable(columns: &Columns, fields: &Record) -> Option<RecordFault> {
     }
 }
 
-/// Writes a row as it was read.
-fn write_row<W: Write>(alloc: Global, fields: &Record, output: &mut W) -> Result<(), StepsFault>
-    ensures { OnOk result (Appends (W.contents output.old) (W.contents output.new) (text_of fields.now)) }
-{
-    let written = match fields.line() {
-        Some(line) => match output.write_all(line) {
-            Ok(()) => output.write_all(b"\n"),
-            Err(why) => Err(why),
-        },
-        None => match fields.text(alloc) {
-            Ok(text) => output.write_all(&text),
-            Err(why) => return Err(StepsFault::Trace(why)),
-        },
-    };
-    match written {
-        Ok(()) => Ok(()),
-        Err(_) => Err(StepsFault::Trace(TraceFault::Write)),
-    }
-}
-
-/// The first row of the text that is cut.
+/// A text that is cut: its first row, its columns, and the pieces.
 #[derive(Clone, Copy)]
 struct CutText<'t> {
-    alloc: Global,
+    pieces: StepPieces,
     names: &'t Record,
     columns: &'t Columns,
 }
 
 impl CutText<'_> {
-    /// Writes the beginning of a piece: the first row, and rows of each queue that is alive.
-    fn begin<W: Write>(
+    /// Begins a piece if this row is the first one of it: adds the first row of the text, and rows of each queue that is alive.
+    fn begin(
         &self,
-        queues: &Queues,
+        number: u64,
         moment: u64,
-        output: &mut W,
-    ) -> Result<(), StepsFault> {
-        write_row(self.alloc, self.names, output)?;
-        match queues.write_resumed(self.columns, moment, output) {
+        queues: &Queues,
+        page: &mut Page,
+    ) -> Result<(), TraceFault>
+        requires { 0 < number }
+        ensures begins { (entries : List Entry) → HasRead queues.now entries → OnOk result (page.new ≡ page.old
+            ++ beginning_at (plan self.now.pieces self.now.names.now self.now.columns.now) entries number moment) }
+        ensures memory { IfErr result (λ why. why ≡ TraceFault.Memory) }
+    {
+        if !self.pieces.begins(number, queues.moment, moment) {
+            return Ok(());
+        }
+        page.row(self.names)?;
+        match queues.write_resumed(self.columns, page) {
             Ok(()) => Ok(()),
-            Err(_) => Err(StepsFault::Trace(TraceFault::Write)),
+            Err(_) => Err(TraceFault::Memory),
         }
     }
 
-    /// Cuts a row: writes it if it is in a piece, and decides its step again unless it is after the last piece.
-    fn cut_row<W: Write>(
+    /// Copies a row if it is in a piece, and counts it.
+    fn copy(
         &self,
-        cutter: &mut Cutter,
-        queues: &mut Queues,
+        number: u64,
+        moment: u64,
+        written: &mut u64,
         fields: &Record,
-        output: &mut W,
-    ) -> Result<(), StepsFault> {
-        let moment = cutter.moment.max(self.columns.moment(fields));
-        cutter.is_over |= cutter.ends(moment);
-        if cutter.is_over {
-            cutter.rows = cutter.rows.saturating_add(1);
-            return match unreadable(self.columns, fields) {
-                Some(why) => Err(fault_at(cutter.rows.saturating_add(1), why)),
-                None => Ok(()),
-            };
+        page: &mut Page,
+    ) -> Result<(), TraceFault>
+        requires { written.old < 2 ^ 64 - 1 }
+        ensures copies { OnOk result (page.new ≡ page.old ++ copied_at self.now.pieces number moment fields.now) }
+        ensures counts { OnOk result (written.new ≡ written.old + one_if (selects self.now.pieces number moment)) }
+        ensures memory { IfErr result (λ why. why ≡ TraceFault.Memory) }
+    {
+        if self.pieces.selects(number, moment) {
+            *written += 1;
+            return page.row(fields);
         }
-        if cutter.begins(moment) {
-            self.begin(queues, cutter.moment, output)?;
-            cutter.has_begun = true;
-        }
-        cutter.rows = cutter.rows.saturating_add(1);
-        cutter.moment = moment;
-        let difference = queues.take(None, self.columns, fields)?;
-        if cutter.has_begun {
-            write_row(self.alloc, fields, output)?;
-            cutter.written = cutter.written.saturating_add(1);
-        }
-        cutter.difference = difference;
-        cutter.is_over = difference.is_some();
         Ok(())
     }
-}
 
-/// Cuts all rows.
-fn cut_rows<R: Read, W: Write>(
-    text: &CutText<'_>,
-    records: &mut Records<R>,
-    cutter: &mut Cutter,
-    queues: &mut Queues,
-    output: &mut W,
-) -> Result<(), StepsFault> {
-    let mut fields = Record::new(text.alloc);
-    for _ in 0..u64::MAX {
-        match records.next(&mut fields) {
-            Ok(true) => text.cut_row(cutter, queues, &fields, output)?,
-            Ok(false) => break,
+    /// Takes a row: begins a piece before it, decides its step, and copies the row if it is in a piece. Returns the step that
+    /// differs as the finding.
+    fn take_row(
+        &self,
+        number: u64,
+        moment: u64,
+        written: &mut u64,
+        queues: &mut Queues,
+        fields: &Record,
+        page: &mut Page,
+    ) -> Result<Option<StepsFinding>, StepsFault>
+        requires first { 0 < number }
+        requires room { written.old < number }
+        ensures within { OnOk result (written.new ≤ written.old + 1) }
+        ensures takes { (entries : List Entry) → HasRead queues.old entries → number ≡ length entries + 1
+            → moment ≡ moment_at self.now.columns.now entries fields.now → is_after self.now.pieces number moment ≡ false → has_failed result ≡ false
+            → CutsRow (plan self.now.pieces self.now.names.now self.now.columns.now) None entries number fields.now result
+            page.old page.new written.old written.new queues.new }
+    {
+        match self.begin(number, moment, queues, page) {
+            Ok(()) => {}
             Err(why) => return Err(StepsFault::Trace(why)),
         }
+        let difference = match queues.take(None, self.columns, fields) {
+            Ok(difference) => difference,
+            Err(why) => return Err(why),
+        };
+        match self.copy(number, moment, written, fields, page) {
+            Ok(()) => {}
+            Err(why) => return Err(StepsFault::Trace(why)),
+        }
+        match difference {
+            Some(first) => Ok(Some(StepsFinding::Differs { first, count: 1 })),
+            None => Ok(None),
+        }
     }
-    Ok(())
+
+    /// Returns the finding before a row: the one before it, or the counts if the row is the first one after the last piece.
+    fn found_before(
+        &self,
+        number: u64,
+        moment: u64,
+        over: Option<StepsFinding>,
+        counts: StepsCounts,
+    ) -> Option<StepsFinding>
+        ensures { result ≡ found_before (is_after self.now.pieces number moment) over counts }
+    {
+        match over {
+            Some(finding) => Some(finding),
+            None if self.pieces.is_after(number, moment) => Some(StepsFinding::Clean(counts)),
+            None => None,
+        }
+    }
+
+    /// Cuts a row with this number. After the last piece, and after a step that differs, there is a finding `over`, and the row
+    /// is only read.
+    fn cut_row(
+        &self,
+        number: u64,
+        over: Option<StepsFinding>,
+        written: &mut u64,
+        queues: &mut Queues,
+        fields: &Record,
+        page: &mut Page,
+    ) -> Result<Option<StepsFinding>, StepsFault>
+        requires first { 0 < number }
+        requires room { written.old < number }
+        ensures within { OnOk result (written.new ≤ written.old + 1) }
+        ensures cuts { (entries : List Entry) → Stands queues.old entries over number → has_failed result ≡ false
+            → CutsRow (plan self.now.pieces self.now.names.now self.now.columns.now) over entries number fields.now result
+            page.old page.new written.old written.new queues.new }
+    {
+        let moment = queues.moment.max(self.columns.moment(fields));
+        let Some(finding) = self.found_before(number, moment, over, queues.counts) else {
+            return self.take_row(number, moment, written, queues, fields, page);
+        };
+        match unreadable(self.columns, fields) {
+            Some(why) => Err(fault_at(number.wrapping_add(1), why)),
+            None => Ok(Some(finding)),
+        }
+    }
+
+    /// Cuts all rows. Returns the number of rows that were copied, and the finding.
+    fn cut_rows<R: Read, W: Write>(
+        &self,
+        records: &mut Records<R>,
+        queues: &mut Queues,
+        page: &mut Page,
+        writer: &mut W,
+        alloc: Global,
+    ) -> Result<(u64, StepsFinding), StepsFault>
+        ensures { HasRead queues.old [] → IfSome records.old (λ rows. has_failed result ≡ false
+            → CutsRows (cut_after (plan self.now.pieces self.now.names.now self.now.columns.now) [] rows) result
+            (append_known (W.contents writer.old) page.old) (append_known (W.contents writer.new) page.new)) }
+    {
+        let mut fields = Record::new(alloc);
+        let mut written = 0;
+        let mut over = None;
+        'rows: for before in 0..u64::MAX {
+            match records.next(&mut fields) {
+                Ok(true) => {}
+                Ok(false) => return Ok((
+                    written,
+                    over.unwrap_or(StepsFinding::Clean(queues.counts)),
+                )),
+                Err(why) => return Err(StepsFault::Trace(why)),
+            }
+            match self.cut_row(before + 1, over, &mut written, queues, &fields, page) {
+                Ok(ended) => over = ended,
+                Err(why) => return Err(why),
+            }
+            match page.write_if_full(writer) {
+                Ok(()) => {}
+                Err(why) => return Err(StepsFault::Trace(why)),
+            }
+        }
+        Err(StepsFault::Trace(TraceFault::Read))
+    }
 }
 
 /// Cuts pieces out of a text of recorded steps. A piece has the first row of the text, rows that hold the numbers of each queue
@@ -214,31 +286,33 @@ pub fn cut<R: Read + Drop, W: Write>(
     input: R,
     output: &mut W,
     pieces: StepPieces,
-) -> Result<(u64, StepsFinding), StepsFault> {
+) -> Result<(u64, StepsFinding), StepsFault>
+    ensures result { IfSome (R.remaining input) (λ text. has_failed result ≡ false → IsEnd (cut_of pieces (records_of text)) result) }
+    ensures written { OnOk result (IfSome (R.remaining input) (λ text. Appends (W.contents output.old) (W.contents output.new) (cut_of pieces (records_of text)).text)) }
+{
     let mut records = Records::new(alloc, StepsReader(input));
     let mut names = Record::new(alloc);
     let mut queues = Queues::new(alloc);
+    let mut page = Page::new(alloc);
     let columns = match read_columns(&mut records, &mut names) {
         Ok(columns) => columns,
         Err(why) => return Err(why),
     };
-    let Ok(mut page) = BufWriter::new(alloc, output) else {
-        return Err(out_of_memory());
-    };
     let text = CutText {
-        alloc,
+        pieces,
         names: &names,
         columns: &columns,
     };
-    let mut cutter = Cutter::new(pieces);
-    let outcome = cut_rows(&text, &mut records, &mut cutter, &mut queues, &mut page);
-    match (page.flush(), outcome, cutter.difference) {
-        (_, Err(why), _) => Err(why),
-        (Err(_), Ok(()), _) => Err(StepsFault::Trace(TraceFault::Write)),
-        (Ok(()), Ok(()), Some(first)) => {
-            Ok((cutter.written, StepsFinding::Differs { first, count: 1 }))
+    let done = match text.cut_rows(&mut records, &mut queues, &mut page, output, alloc) {
+        Ok(done) => done,
+        Err(why) => {
+            let _ = page.finish(output);
+            return Err(why);
         }
-        (Ok(()), Ok(()), None) => Ok((cutter.written, StepsFinding::Clean(queues.counts))),
+    };
+    match page.finish(output) {
+        Ok(()) => Ok(done),
+        Err(why) => Err(StepsFault::Trace(why)),
     }
 }
 

@@ -1,19 +1,23 @@
 //! The queues of a text by their names. The queue of a name is the one after its last row `init` or `resume`, unless
 //! steps of it were lost later. After a step that differs no step of it is decided.
-ghost use Rattle.std.specs.Prelude.{◌≡◌, ◌++◌, [], ℕ, List, Option, Some, None, IfOk, OnOk, if◌then◌else◌};
+ghost use Rattle.std.specs.List.{flat_map};
+ghost use Rattle.std.specs.Prelude.{◌≡◌, ◌++◌, [], map, ℕ, List, Option, Some, None, IfOk, OnOk, if◌then◌else◌};
 ghost use Rattle.std.specs.Option.{MatchOption, option_map};
 ghost use Rattle.std.specs.Str.{bytes_eq};
+ghost use Rattle.pie_linux_history.specs.Cuts.{named_rows, with_name, without_name};
 ghost use Rattle.pie_linux_history.specs.Decided.{decision_of, numbers_of, taken_by};
-ghost use Rattle.pie_linux_history.specs.Known.{IsPlaceOf, looked_up, tracked};
+ghost use Rattle.pie_linux_history.specs.Known.{IsPlaceOf, known_names, looked_up, named, tracked};
 ghost use Rattle.pie_linux_history.specs.LookBack.{begun, decision_by, dropped_by_step, follow, name_of, next_of};
 ghost use Rattle.pie_linux_history.specs.Queue.{last_after, next_dropped, next_step, opening_difference};
 
-use crate::columns::{NUMBER, handle_of};
+use crate::columns::{Columns, NUMBER, handle_of};
 use crate::decided::{StepNumbers, Taken};
 use crate::difference::Difference;
 use crate::explained::{DecidedPacket, Decision};
 use crate::queue::{Queue, opening_difference};
+use crate::resume::QueueRows;
 use crate::step::{QueueName, Step};
+use pie_record::Page;
 use std::alloc::{AllocError, Global};
 
 /// A queue with its name, and the number of its last step.
@@ -80,6 +84,27 @@ impl Known {
     }
 }
 
+/// Adds the rows of a queue to a page, unless it has ended.
+fn write_known(
+    known: &Known,
+    columns: &Columns,
+    moment: u64,
+    page: &mut Page,
+) -> Result<(), AllocError>
+    ensures { OnOk result (page.new ≡ page.old ++ named_rows columns.now moment (named known.now)) }
+{
+    if known.queue.has_ended {
+        return Ok(());
+    }
+    let rows = QueueRows {
+        columns,
+        name: known.name.bytes(),
+        number: known.last,
+        moment,
+    };
+    rows.write(&known.queue, page)
+}
+
 /// The queues of a text.
 #[derive(Drop)]
 pub(crate) struct KnownQueues {
@@ -124,6 +149,7 @@ impl KnownQueues {
             ≡ (if bytes_eq name.now other
             then option_map (λ was. follow was step.now) (looked_up other self.old.all.items)
             else looked_up other self.old.all.items)) }
+        ensures names { OnOk result (known_names self.new.all.items ≡ known_names self.old.all.items) }
     {
         let Some(place) = self.find(name) else {
             return Ok(None);
@@ -151,6 +177,7 @@ impl KnownQueues {
         step: &Step,
     ) -> Result<Option<Difference>, AllocError>
         ensures difference { IfOk result (λ difference. difference ≡ opening_difference step.now) }
+        ensures names { OnOk result (known_names self.new.all.items ≡ with_name (name_of name) (known_names self.old.all.items)) }
         ensures queues { OnOk result ((other : List ℕ) → looked_up other self.new.all.items
             ≡ (if bytes_eq (name_of name) other then Some (begun (name_of name) step.now) else looked_up other self.old.all.items)) }
     {
@@ -172,9 +199,25 @@ impl KnownQueues {
         Ok(difference)
     }
 
+    /// Adds the rows of each queue that is alive to a page, in the order in which they began.
+    pub(crate) fn write(
+        &self,
+        columns: &Columns,
+        moment: u64,
+        page: &mut Page,
+    ) -> Result<(), AllocError>
+        ensures { OnOk result (page.new ≡ page.old ++ flat_map (named_rows columns.now moment) (map named self.now.all.items)) }
+    {
+        for place in 0..self.all.len() {
+            write_known(&self.all[place], columns, moment, page)?;
+        }
+        Ok(())
+    }
+
     /// Forgets the queue with this name.
     pub(crate) fn lose(&mut self, name: &[u8])
-        ensures { (other : List ℕ) → looked_up other self.new.all.items
+        ensures names { known_names self.new.all.items ≡ without_name name.now (known_names self.old.all.items) }
+        ensures queues { (other : List ℕ) → looked_up other self.new.all.items
             ≡ (if bytes_eq name.now other then None else looked_up other self.old.all.items) }
     {
         self.all.retain(|known| !known.name.is(name));

@@ -29,9 +29,12 @@
 //!   specs/Event.antt) of the selected decided steps, in order, and `explain` their selected packets, each with its step and the
 //!   queue before it; both return the number of these (specs/Reports.antt).
 //! - `count_rows` returns the number of rows.
+//! - The output of `cut` is exactly `cut_of` (specs/Cuts.antt): each selected row as it stood, by its number and its effective
+//!   moment. A piece begins with the first row of the text and with the rows of each queue that is alive, in the order in which they
+//!   began: its numbers, those of each flow, and each waiting packet, from the look-back over the rows before the piece.
 //!
-//! Tested only (tests/program/linux_steps.py, linux_reports.py): the updates before a step; the words of explanations; the
-//! rows of a piece.
+//! Tested only (tests/program/linux_steps.py, linux_reports.py): the updates before a step; the words of explanations; that an
+//! audit of a piece finds what an audit of the text finds in its rows.
 #![tactic(auto)]
 
 mod columns;

@@ -53,7 +53,7 @@ impl Model for Queue {
 
     ghost Value = { QueueView };
 
-    ghost view = { λ queue. record { numbers = queue.numbers; flows = queue.flows.items } };
+    ghost view = { λ queue. record { numbers = queue.numbers; flows = queue.flows.items; ended = queue.has_ended } };
 }
 
 impl Flow {

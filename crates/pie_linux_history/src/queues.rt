@@ -1,7 +1,8 @@
 //! The queues of a text.
-ghost use Rattle.std.specs.Prelude.{◌≡◌, ◌+◌, ◌%◌, ◌^◌, ◌++◌, ◌∷◌, [], List, Some, None, option_map, true, false};
+ghost use Rattle.std.specs.Prelude.{◌≡◌, ◌+◌, ◌%◌, ◌^◌, ◌++◌, ◌∷◌, [], List, OnOk, Some, None, option_map, true, false};
 ghost use Rattle.pie_linux.specs.Enqueue.{one_if};
 ghost use Rattle.pie_linux_history.specs.Audit.{difference_at, has_failed, verdict_of};
+ghost use Rattle.pie_linux_history.specs.Cuts.{resumed_rows};
 ghost use Rattle.pie_linux_history.specs.Decided.{decided_by};
 ghost use Rattle.pie_linux_history.specs.Known.{HasRead, Leaves, Represents, Takes};
 ghost use Rattle.pie_linux_history.specs.LookBack.{Entry, Lost, Took, entry_in, is_opening, is_other, is_step, lack_counted, lack_in};
@@ -12,13 +13,11 @@ use crate::difference::Difference;
 use crate::explained::{DecidedPacket, Input};
 use crate::fault::StepsFault;
 use crate::known::KnownQueues;
-use crate::resume::QueueRows;
 use crate::step::{Kind, QueueName, Step};
 use crate::updates::NONE;
-use pie_record::{Record, RecordFault};
-use std::alloc::Global;
-use std::io::Write;
-use std::{fmt, io};
+use pie_record::{Page, Record, RecordFault};
+use std::alloc::{AllocError, Global};
+use std::fmt;
 
 /// The numbers of a text.
 #[derive(Clone, Copy)]
@@ -142,26 +141,12 @@ impl Queues {
         })
     }
 
-    /// Writes rows of each queue that is alive, in the order in which they began, at this moment. An audit that reads the rows
-    /// has these queues.
-    pub(crate) fn write_resumed<W: Write>(
-        &self,
-        columns: &Columns,
-        moment: u64,
-        output: &mut W,
-    ) -> io::Result<()> {
-        for known in self.known.all.iter() {
-            if !known.queue.has_ended {
-                let rows = QueueRows {
-                    columns,
-                    name: &known.name,
-                    number: known.last,
-                    moment,
-                };
-                rows.write(&known.queue, output)?;
-            }
-        }
-        Ok(())
+    /// Adds rows of each queue that is alive to a page, in the order in which they began. An audit that reads the rows has these
+    /// queues.
+    pub(crate) fn write_resumed(&self, columns: &Columns, page: &mut Page) -> Result<(), AllocError>
+        ensures { (entries : List Entry) → HasRead self.now entries → OnOk result (page.new ≡ page.old ++ resumed_rows columns.now entries) }
+    {
+        self.known.write(columns, self.moment, page)
     }
 
     /// Takes a row. With a chosen `queue` a row of another queue is only counted. Returns the first number of its step that

@@ -16,19 +16,21 @@
 //! A text of pie-watch without the column `rq` has 0 in the columns of the last three lines: an audit then learns the numbers
 //! of two of them from the next arrival and round, and takes the memory to be 0. The deficits and the order of the flows do
 //! not decide any step, and are 0. The packets that a change of fq_pie has dropped before its row are not kept.
-ghost use Rattle.std.specs.Prelude.{◌≡◌, ◌≤◌, false, true};
+ghost use Rattle.std.specs.Prelude.{◌≡◌, ◌≤◌, ◌+◌, ◌++◌, IfOk, OnOk, Option, ℕ, false, length, true};
+ghost use Rattle.std.specs.List.{flat_map, fold};
+ghost use Rattle.pie_linux_history.specs.Cuts.{flow_row, flow_rows, flow_step, flows_rows, in_32, is_new, is_told, less_flow, less_memory, named_flow, queue_row, queue_rows, resume_step, wait_row, wait_step};
 ghost use Rattle.pie_linux_history.specs.Decisions.{waiting_of};
 ghost use Rattle.pie_linux_history.specs.Resumes.{emptied, first_numbers, known_number, memory_at, number_field, resumed, resumed_flow};
 
 use crate::columns::{Columns, blank};
 use crate::numbers::{FlowNumbers, QueueNumbers, Waiting};
 use crate::queue::{Flow, Queue};
-use crate::right::percent_of;
+use crate::right::{of_flows, percent_of, state_of_pie};
 use crate::row::write_step;
 use crate::step::{Kind, QueueName, Step};
 use pie_linux::LinuxState;
-use std::io;
-use std::io::Write;
+use pie_record::Page;
+use std::alloc::AllocError;
 
 /// Returns the number of a field that is one higher, and `None` for 0.
 fn known_number(field: u64) -> Option<u32>
@@ -79,25 +81,30 @@ pub(crate) fn resumed_flow(step: &Step) -> FlowNumbers
 }
 
 /// Returns true if these are the numbers of a new flow.
-fn is_new(numbers: &FlowNumbers) -> bool {
+fn is_new(numbers: &FlowNumbers) -> bool
+    ensures { result ≡ is_new numbers.now }
+{
     numbers.state == LinuxState::new() && numbers.backlog == 0 && !numbers.listed
 }
 
 /// Returns the field of a memory.
 fn memory_field(memory: u32) -> u64
-    ensures { memory_at result ≡ memory }
+    ensures value { result ≡ memory }
+    ensures known { memory_at result ≡ memory }
 {
     u64::from(memory)
 }
 
-/// Returns the row `resume` of a queue with these numbers and `flows` flows, the state of pie, and the memory that is not of
-/// its waiting packets.
+/// Returns the row `resume` of a queue with these numbers, the memory that is not of its waiting packets, and the state of pie.
+#[tactic(auto, unfolding(crate::specs::Cuts::resume_step))]
 fn resume_step(numbers: &QueueNumbers, memory: u32, state: &LinuxState) -> Step
+    ensures step { result ≡ resume_step numbers.now memory state.now }
     ensures numbers { (numbers.now.has_flows ≡ true → numbers.now.flows ≤ 65536) → (numbers.now.has_flows ≡ false → numbers.now.flows ≡ 1)
         → resumed (first_numbers numbers.now.handle result) result ≡ emptied numbers.now memory }
     ensures state { numbers.now.has_flows ≡ false → result.after ≡ state.now }
 {
     let has_flows = numbers.has_flows;
+    let zeros = blank(Kind::Resume, has_flows, true);
     Step {
         kind: Kind::Resume,
         has_flows,
@@ -111,22 +118,20 @@ fn resume_step(numbers: &QueueNumbers, memory: u32, state: &LinuxState) -> Step
         ],
         truesize: numbers.memory_limit,
         x0: percent_of(numbers.params.marks),
-        x1: if has_flows { numbers.flows } else { 0 },
+        x1: of_flows(has_flows, numbers.flows),
         x2: numbers.quantum,
-        after: if has_flows {
-            blank(Kind::Resume, true, true).after
-        } else {
-            *state
-        },
+        after: state_of_pie(has_flows, state, &zeros.after),
         params: numbers.params,
         stats: numbers.stats,
-        ..blank(Kind::Resume, has_flows, true)
+        ..zeros
     }
 }
 
 /// Returns the row of a flow of fq_pie in which `length` packets wait.
+#[tactic(auto, unfolding(crate::specs::Cuts::flow_step))]
 fn flow_step(numbers: &FlowNumbers, length: u32) -> Step
-    ensures { resumed_flow result ≡ numbers.now }
+    ensures step { result ≡ flow_step numbers.now length }
+    ensures flow { resumed_flow result ≡ numbers.now }
 {
     Step {
         backlog: numbers.backlog,
@@ -138,7 +143,9 @@ fn flow_step(numbers: &FlowNumbers, length: u32) -> Step
 }
 
 /// Returns the row of a waiting packet.
+#[tactic(auto, unfolding(crate::specs::Cuts::wait_step))]
 fn wait_step(has_flows: bool, waiting: &Waiting) -> Step
+    ensures step { result ≡ wait_step has_flows waiting.now }
     ensures packet { waiting_of result ≡ waiting.now }
     ensures waits { result.x0 ≡ 0 }
 {
@@ -153,15 +160,48 @@ fn wait_step(has_flows: bool, waiting: &Waiting) -> Step
     }
 }
 
-/// Returns the memory of a queue without that of its waiting packets.
-fn other_memory(queue: &Queue) -> u32 {
-    let mut memory = queue.numbers.memory;
-    for flow in queue.flows.iter() {
-        for waiting in flow.waiting.iter() {
-            memory = memory.wrapping_sub(waiting.truesize);
-        }
+/// Returns a memory without that of these packets.
+fn less_memory(memory: u32, packets: &[Waiting]) -> u32
+    ensures { result ≡ fold less_memory memory packets.now }
+{
+    let mut left = memory;
+    for waiting in packets {
+        left = left.wrapping_sub(waiting.truesize);
     }
-    memory
+    left
+}
+
+/// Returns a memory without that of the packets of a flow.
+fn less_flow(memory: u32, flow: &Flow) -> u32
+    ensures { result ≡ less_flow memory flow.now }
+{
+    let (first, rest) = flow.waiting.as_slices();
+    less_memory(less_memory(memory, first), rest)
+}
+
+/// Returns a memory without that of the packets of flows.
+fn less_flows(memory: u32, flows: &[Flow]) -> u32
+    ensures { result ≡ fold less_flow memory flows.now }
+{
+    let mut left = memory;
+    for place in 0..flows.len() {
+        left = less_flow(left, &flows[place]);
+    }
+    left
+}
+
+/// Returns a number, at most 2^32 - 1.
+fn in_32(number: usize) -> u32
+    ensures { result ≡ in_32 number }
+{
+    number.min(u32::MAX as usize) as u32
+}
+
+/// Returns true if a flow has a row: a flow of fq_pie that is not as a new one.
+fn is_told(has_flows: bool, flow: &Flow) -> bool
+    ensures { result ≡ is_told has_flows flow.now }
+{
+    has_flows && !(is_new(&flow.numbers) && flow.waiting.is_empty())
 }
 
 /// The rows of a queue in a text with these columns.
@@ -170,7 +210,7 @@ pub(crate) struct QueueRows<'q> {
     /// The columns.
     pub columns: &'q Columns,
     /// The name of the queue.
-    pub name: &'q QueueName,
+    pub name: &'q [u8],
     /// The number of its last step.
     pub number: u64,
     /// The moment of the cut, in nanoseconds.
@@ -178,56 +218,106 @@ pub(crate) struct QueueRows<'q> {
 }
 
 impl QueueRows<'_> {
-    /// Writes the rows of a queue.
-    pub(crate) fn write<W: Write>(&self, queue: &Queue, output: &mut W) -> io::Result<()> {
+    /// Adds the rows of a queue to a page.
+    #[tactic(auto, unfolding(crate::specs::Cuts::queue_rows))]
+    pub(crate) fn write(&self, queue: &Queue, page: &mut Page) -> Result<(), AllocError>
+        ensures { OnOk result (page.new ≡ page.old ++ queue_rows self.now.columns.now self.now.name.now self.now.number self.now.moment queue.now) }
+    {
         let state = match queue.flows.first() {
             Some(flow) => flow.numbers.state,
             None => LinuxState::new(),
         };
-        let flows = u32::try_from(queue.flows.len()).unwrap_or(u32::MAX);
-        let resume = resume_step(&queue.numbers, other_memory(queue), &state);
-        self.write_row(None, self.moment, resume, output)?;
-        for place in 0..flows {
-            if let Some(flow) = queue.flows.get(place as usize) {
-                self.write_flow(queue.numbers.has_flows, place, flow, output)?;
-            }
-        }
-        Ok(())
+        let memory = less_flows(queue.numbers.memory, &queue.flows);
+        let resume = resume_step(&queue.numbers, memory, &state);
+        self.write_row(None, self.moment, &resume, page)?;
+        self.write_flows(queue.numbers.has_flows, &queue.flows, page)
     }
 
-    /// Writes the row of the flow at this place, if there are flows and it is not as a new one, and the rows of its packets.
-    fn write_flow<W: Write>(
+    /// Adds the rows of flows.
+    fn write_flows(
         &self,
         has_flows: bool,
-        place: u32,
-        flow: &Flow,
-        output: &mut W,
-    ) -> io::Result<()> {
-        let named = if has_flows { Some(place) } else { None };
-        if has_flows && !(is_new(&flow.numbers) && flow.waiting.is_empty()) {
-            let length = u32::try_from(flow.waiting.len()).unwrap_or(u32::MAX);
-            self.write_row(named, self.moment, flow_step(&flow.numbers, length), output)?;
-        }
-        for waiting in flow.waiting.iter() {
-            self.write_row(named, waiting.moment, wait_step(has_flows, waiting), output)?;
+        flows: &[Flow],
+        page: &mut Page,
+    ) -> Result<(), AllocError>
+        ensures { OnOk result (page.new
+            ≡ page.old ++ flows_rows self.now.columns.now self.now.name.now self.now.number self.now.moment has_flows 0 flows.now) }
+    {
+        for place in 0..flows.len() {
+            self.write_flow(has_flows, place, &flows[place], page)?;
         }
         Ok(())
     }
 
-    /// Writes a row of this flow at this moment.
-    fn write_row<W: Write>(
+    /// Adds the row of the flow at this place, if it has one, and the rows of its packets.
+    fn write_flow(
+        &self,
+        has_flows: bool,
+        place: usize,
+        flow: &Flow,
+        page: &mut Page,
+    ) -> Result<(), AllocError>
+        ensures { OnOk result (page.new
+            ≡ page.old ++ flow_rows self.now.columns.now self.now.name.now self.now.number self.now.moment has_flows place flow.now) }
+    {
+        let named = if has_flows { Some(in_32(place)) } else { None };
+        self.write_told(has_flows, named, flow, page)?;
+        let (first, rest) = flow.waiting.as_slices();
+        self.write_packets(has_flows, named, first, page)?;
+        self.write_packets(has_flows, named, rest, page)
+    }
+
+    /// Adds the row of a flow, if it has one.
+    fn write_told(
+        &self,
+        has_flows: bool,
+        named: Option<u32>,
+        flow: &Flow,
+        page: &mut Page,
+    ) -> Result<(), AllocError>
+        ensures { (place : ℕ) → named ≡ named_flow has_flows place → OnOk result (page.new
+            ≡ page.old ++ flow_row self.now.columns.now self.now.name.now self.now.number self.now.moment has_flows place flow.now) }
+    {
+        if !is_told(has_flows, flow) {
+            return Ok(());
+        }
+        let length = in_32(flow.waiting.len());
+        self.write_row(named, self.moment, &flow_step(&flow.numbers, length), page)
+    }
+
+    /// Adds the rows of waiting packets.
+    fn write_packets(
+        &self,
+        has_flows: bool,
+        named: Option<u32>,
+        packets: &[Waiting],
+        page: &mut Page,
+    ) -> Result<(), AllocError>
+        ensures { OnOk result (page.new
+            ≡ page.old ++ flat_map (wait_row self.now.columns.now self.now.name.now self.now.number has_flows named) packets.now) }
+    {
+        for packet in packets {
+            self.write_row(named, packet.moment, &wait_step(has_flows, packet), page)?;
+        }
+        Ok(())
+    }
+
+    /// Adds a row of this flow at this moment.
+    fn write_row(
         &self,
         flow: Option<u32>,
         moment: u64,
-        step: Step,
-        output: &mut W,
-    ) -> io::Result<()> {
+        step: &Step,
+        page: &mut Page,
+    ) -> Result<(), AllocError>
+        ensures { OnOk result (page.new ≡ page.old ++ queue_row self.now.columns.now self.now.name.now self.now.number flow moment step.now) }
+    {
         let step = Step {
             flow,
             number: self.number,
             moment,
-            ..step
+            ..*step
         };
-        write_step(self.columns, self.name, &step, output)
+        write_step(self.columns, self.name, &step, page)
     }
 }

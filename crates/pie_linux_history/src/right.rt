@@ -115,7 +115,7 @@ fn base(step: &Step) -> Step
 }
 
 /// Returns a number that pie's rows have as 0.
-fn of_flows(has_flows: bool, number: u32) -> u32
+pub(crate) fn of_flows(has_flows: bool, number: u32) -> u32
     ensures { result ≡ of_flows has_flows number }
 {
     if has_flows { number } else { 0 }
@@ -129,7 +129,7 @@ fn named_flow_of(has_flows: bool, flow: Option<u32>) -> Option<u32>
 }
 
 /// Returns the state of pie, and zeros of fq_pie.
-fn state_of_pie(has_flows: bool, state: &LinuxState, zeros: &LinuxState) -> LinuxState
+pub(crate) fn state_of_pie(has_flows: bool, state: &LinuxState, zeros: &LinuxState) -> LinuxState
     ensures { result ≡ state_of_pie has_flows state.now zeros.now }
 {
     if has_flows { *zeros } else { *state }

@@ -1,10 +1,11 @@
 //! The rows of a text, decided one after another: the finding of an audit, and the loop of reports.
-ghost use Rattle.std.specs.Prelude.{◌≡◌, ◌++◌, ◌∷◌, [], ⊤, ℕ, Err, IfErr, IfOk, IfSome, List, None, OnOk, Option, false, option_map, true};
+ghost use Rattle.std.specs.Prelude.{◌≡◌, ◌++◌, ◌∷◌, [], ⊤, ℕ, Err, IfErr, IfOk, IfSome, List, None, Ok, OnOk, Option, false, option_map, true};
 ghost use Rattle.std.specs.List.{cons_option};
 ghost use Rattle.std.specs.Io.KnownBytes.{append_known};
 ghost use Rattle.pie_explain.specs.Report.{Grows};
-ghost use Rattle.pie_record.specs.Text.{records_of};
+ghost use Rattle.pie_record.specs.Text.{TakesRow, records_of};
 ghost use Rattle.pie_linux_history.specs.Audit.{Begins, Ends, HasFound, ReadsColumns, differences_of, finding_by, finding_of, has_failed, is_failure, outcome_after, outcome_of};
+ghost use Rattle.pie_linux_history.specs.Columns.{columns_of};
 ghost use Rattle.pie_linux_history.specs.Known.{HasRead, Leaves, TakesNext};
 ghost use Rattle.pie_linux_history.specs.LookBack.{Entry};
 ghost use Rattle.pie_linux_history.specs.Reports.{Writes};
@@ -149,7 +150,9 @@ pub(crate) fn read_columns<R: Read>(
     records: &mut Records<R>,
     fields: &mut Record,
 ) -> Result<Columns, StepsFault>
-    ensures { IfSome records.old (λ rows. has_failed result ≡ false → ReadsColumns rows result records.new) }
+    ensures columns { IfSome records.old (λ rows. has_failed result ≡ false → ReadsColumns rows result records.new) }
+    ensures row { OnOk result (TakesRow records.old true fields.new records.new) }
+    ensures named { IfOk result (λ columns. columns_of fields.new ≡ Ok columns) }
 {
     match records.first(fields) {
         Ok(()) => Columns::find(fields),

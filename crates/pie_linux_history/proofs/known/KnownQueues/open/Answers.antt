@@ -3,7 +3,7 @@ use Rattle.pie_linux_history.specs.Columns.{handle_of}
 use Rattle.pie_linux_history.specs.LookBack.{name_of}
 use Rattle.pie_linux_history.specs.Queue.{opened, opening_difference}
 use Rattle.pie_linux_history.specs.declared.difference.Difference.{Difference}
-use Rattle.pie_linux_history.proofs.KnownFacts.{looked-push, looked-set, place-within}
+use Rattle.pie_linux_history.proofs.KnownFacts.{looked-push, looked-set, names-begun, names-pushed, place-within}
 use Rattle.pie_linux_history.proofs.known.KnownQueues.open.Goals as goal
 
 pub returns-clause-queues : goal.returns-clause-queues
@@ -23,3 +23,10 @@ returns-in_default-clause-queues c =
 pub returns-in_default-get_mut : goal.returns-in_default-get_mut
 returns-in_default-get_mut c =
     absurd (omega (arith, place-within c.bytes-2.result.now c.args.self.now.all.items c.in-Some.place c.in-Some.ensures, c.in_default-get_mut.ensures.item.3))
+
+pub returns-clause-names : goal.returns-clause-names
+returns-clause-names c = names-begun c.args.self.now.all.items c.in-Some.place (name_of c.args.name) _ (rw c.bytes-2.ensures at c.in-Some.ensures) refl
+
+pub returns-in_default-clause-names : goal.returns-in_default-clause-names
+returns-in_default-clause-names c =
+    rw c.in_ok-push.ensures.items (names-pushed c.args.self.now.all.items (name_of c.args.name) _ (rw c.bytes-2.ensures at c.in_default.ensures) refl)

@@ -1,7 +1,8 @@
-use Rattle.std.proofs.Common.{◌≡◌, Option, Some, arith, ap}
+use Rattle.std.proofs.Common.{◌≡◌, ◌∙◌, Option, Some, arith, ap}
 use Rattle.pie_linux_history.specs.declared.explained.Decision.{Decision}
 use Rattle.pie_linux_history.specs.Known.{looked_up, tracked}
-use Rattle.pie_linux_history.proofs.KnownFacts.{looked-at, looked-take, place-within, taken-as}
+use Rattle.pie_linux_history.specs.LookBack.{name_of}
+use Rattle.pie_linux_history.proofs.KnownFacts.{looked-at, looked-take, name-at, names-set, place-within, taken-as}
 use Rattle.pie_linux_history.proofs.known.KnownQueues.take.Goals as goal
 
 pub returns-in_default-get_mut : goal.returns-in_default-get_mut
@@ -20,4 +21,6 @@ returns-in-Ok c =
       lost = rw found c.in-Ok.ensures.lost;
       queues = λ other. looked-take c.args.self.now.all.items c.in-Some.place c.args.name.now known c.take.new.self c.args.step.now other
           c.in-Some.ensures c.in-Some-get_mut.ensures.value c.in-Ok.ensures.name c.in-Ok.ensures.follows;
+      names = names-set c.args.self.now.all.items c.in-Some.place c.args.name.now c.take.new.self c.in-Some.ensures
+          (ap name_of c.in-Ok.ensures.name ∙ name-at c.args.self.now.all.items c.in-Some.place c.args.name.now known c.in-Some.ensures c.in-Some-get_mut.ensures.value);
     }

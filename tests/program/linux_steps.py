@@ -139,7 +139,7 @@ for name, (bad_field, why) in FAULTS.items():
         status, output, errors = run(bad, words=words)
         check((status, errors) == (1, f"pie: record {arrival + 2}: {why}\n") and (output == "" or words[0] == "explain"), words, "the field", name, bad_field, status, errors)
 check(run([*ROWS[:2], ROWS[2][:-1]]) == (1, "", "pie: record 4: wrong number of fields\n"), "a row with a missing field:", run([*ROWS[:2], ROWS[2][:-1]]))
-check(run([]) == (0, "clean,0\n", ""), "a header alone:", run([]))
+check(run([]) == (0, "clean,0\n", "pie: no step was recorded\n"), "a header alone:", run([]))
 check(tried >= 120, "only", tried, "numbers were changed")
 
 # two queues whose rows are mixed are decided apart; a row that is missing is found

@@ -173,7 +173,12 @@ fn report<H: NamedFiles + Screen, R: Read + Drop, E: Write>(
     details: &Option<Details>,
 ) {
     match (audited.steps, &audited.differences) {
-        (Some(StepsFinding::Clean(counts)), _) => call.report_lost(name, counts),
+        (Some(StepsFinding::Clean(counts)), _) => {
+            call.report_lost(name, counts);
+            if counts.steps == 0 && counts.lost == 0 {
+                call.line(name, "no step was recorded");
+            }
+        }
         (Some(StepsFinding::Differs { first, .. }), Some(found)) => {
             call.line(name, first);
             call.report_differences(name, found, 1);

@@ -130,9 +130,6 @@ impl<H: NamedFiles + Screen, R: Read + Drop, E: Write> Call<'_, '_, '_, '_, H, R
     /// Writes the number of steps that the recorder lost, and the numbers of steps whose rows lack an input, each if it is above 0,
     /// after the name of the file.
     pub(crate) fn report_lost(&mut self, name: Option<&str>, counts: StepsCounts) {
-        if counts.steps == 0 && counts.lost == 0 {
-            self.line(name, "no step was recorded");
-        }
         for counted in [
             Counted(
                 "steps that were lost when the text was recorded:",

@@ -2,6 +2,15 @@
  * PIE (RFC 8033) for a queue that the caller owns: the calls of pie.h, from the proved module. A call decides whether an arriving packet is
  * queued, marked or dropped. The caller has the packets, the clock and the source of random words.
  *
+ *     let history = "";
+ *     const pie = new Controller({ rate: 10_000_000 }, { write: (record) => (history += record) });
+ *     const verdict = pie.arrive({ moment: 0, size: 1250, queued: 0, word: 42n, tag: 1 });
+ *     const arrived = pie.state.moment;
+ *     pie.update({ moment: pie.due, queued: 1250 });
+ *     pie.depart({ moment: 16_000_000, size: 1250, left: 0, arrived, tag: 1 });
+ *
+ * `pie audit` repeats the decisions of a history, and `pie explain` explains them.
+ *
  * Units: moments and times are nanoseconds from a start that the caller chooses; probabilities are in units of 10^-12; sizes are bytes.
  *
  * Errors: each call checks its arguments. It throws a PieError with the error of pie.h, or a RangeError if an argument is no whole number of the

@@ -42,7 +42,7 @@ def main():
     version = re.search(r'^#define PIE_VERSION "(.*)"$', header, re.M)[1]
     out = Path(words[0])
     out.mkdir(parents=True, exist_ok=True)
-    for name in ("index.js", "index.d.ts", "README.md"):
+    for name in ("index.js", "index.d.ts"):
         shutil.copy(HERE / name, out)
     for name in ("LICENSE-MIT", "LICENSE-APACHE"):
         shutil.copy(ROOT / name, out)

@@ -121,7 +121,7 @@ $(BUILD)/pie: $(addprefix $(BUILD)/,pie.o heap.o process.o)
 
 PAGE := web/juniperbowls.html
 web: $(PAGE)
-$(PAGE): $(filter-out $(PAGE),$(wildcard web/*)) dist/wasm/pie.wasm.xz $(wildcard examples/*.history)
+$(PAGE): $(filter-out $(PAGE),$(wildcard web/*)) dist/wasm/pie.wasm.xz dist/wasm/unxz.wasm.xz $(wildcard examples/*.history)
 	DYGRAPHS='$(DYGRAPHS)' web/make.py $@
 
 check: all

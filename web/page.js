@@ -70,7 +70,7 @@ class Pool {
         const made = { worker: new Worker(this.source), job: null };
         made.worker.onmessage = ({ data }) => this.receive(made, data);
         made.worker.onerror = (event) => this.fail(made, event);
-        made.worker.postMessage({ program: this.program });
+        made.worker.postMessage({ program: this.program, unpacker: this.unpacker });
         this.workers.push(made);
         return made;
     }
@@ -85,7 +85,7 @@ class Pool {
 
     fail(from, event) {
         event.preventDefault();
-        this.drop(from, new Error(event.message || "the worker ended"));
+        this.drop(from, new Error(event.message?.replace(/^(Uncaught )?Error: /, "") || "the worker ended"));
     }
 
     // Ends a worker, and rejects its request.
@@ -299,7 +299,7 @@ let unpacking = new AbortController();
 // Returns the text of a file, unpacked. The browser may keep the unpacked text in a file of its own.
 async function unpacked(blob) {
     const head = new Uint8Array(await blob.slice(0, 3).arrayBuffer());
-    if (isXz(head)) throw new Error("this file is compressed by xz, which browsers cannot unpack: unpack it with xz -d");
+    if (isXz(head)) return (await pool.ask([], { packed: blob })).out;
     unpacking = new AbortController();
     return isGzip(head) ? unzipped(blob, { signal: unpacking.signal }).blob() : blob;
 }
@@ -359,7 +359,7 @@ async function openText(name, file) {
     document.documentElement.dataset.state = "busy";
     try {
         working("unpacking");
-        TEXT = { name: name.replace(/\.(gz|gzip)$/i, ""), blob: file, isTrace: false };
+        TEXT = { name: name.replace(/\.(gz|gzip|xz)$/i, ""), blob: file, isTrace: false };
         TEXT.blob = await unpacked(file);
         working("deciding every event again");
         const summary = await audited(number);
@@ -1057,6 +1057,7 @@ async function begin() {
     const source = URL.createObjectURL(new Blob([element("engine").textContent], { type: "text/javascript" }));
     pool = new Pool(3, source);
     pool.program = await WebAssembly.compile(await unzipped(new Blob([bytesOf("module")])).arrayBuffer());
+    pool.unpacker = await WebAssembly.compile(await unzipped(new Blob([bytesOf("unpacker")])).arrayBuffer());
     makeSliders();
     listen();
     const examples = await unzipped(new Blob([bytesOf("examples")])).json();

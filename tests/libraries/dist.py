@@ -275,6 +275,15 @@ def compare_wasm(manifest, work):
         print(f"{NAME}: wasm/{name}.wasm is {'what was proved' if is_same else 'another module: dist/make.sh makes it anew'}")
 
 
+def compare_unpacker(work):
+    """Compares the unpacking of xz with what unxz.sh compiles."""
+    if not Path("/usr/src/linux-source-6.1.tar.xz").exists() or not shutil.which("rt"):
+        print(f"NOT RUN: {NAME}: no linux-source-6.1 or toolchain here, so wasm/unxz.wasm was not compared")
+        return
+    subprocess.run([DIST / "wasm/unxz.sh", f"{work}/unxz.wasm"], check=True)
+    check(Path(f"{work}/unxz.wasm").read_bytes() == lzma.decompress((DIST / "wasm/unxz.wasm.xz").read_bytes()), "wasm/unxz.wasm is not what unxz.sh makes")
+
+
 def compare_kernels(work):
     """Compares the assembly of the kernel's queue with that of the module of pie_c."""
     kernel, module = ROOT / "bindings/kernel", ROOT / "crates/pie_c/out/pie_c.bc"
@@ -339,6 +348,7 @@ def main():
         stated(compare(manifest, work))
         compare_bpf(manifest, work)
         compare_wasm(manifest, work)
+        compare_unpacker(work)
         compare_kernels(work)
         compiler = "clang" if shutil.which("clang") else "cc"
         if compiler == "cc":

@@ -506,6 +506,14 @@ def check_page(page, given):
     packed = base64.b64encode(gzip.compress(given["marks.history"])).decode()
     page.js("await openText('marks.history.gz', blobOf(given[0])); await ready();", packed)
     page.says("Clean" in page.js("return element('finding').textContent"), "a gzip file")
+    # xz: two streams with zeros between them make an excerpt of two histories; cut off and damaged ones
+    xz = lzma.compress(given["marks.history"], preset=6)
+    wrong = bytearray(xz)
+    wrong[len(xz) // 2] ^= 1
+    for name, packed, wanted in (("two streams", lzma.compress(given["marks.history"][:9000]) + bytes(8) + lzma.compress(given["marks.history"][9000:], preset=9), "Clean"), ("xz", xz, "Clean"),
+                                 ("a cut", xz[:-40], "is cut off"), ("damage", bytes(wrong), "is damaged")):
+        page.js("await openText('marks.history.xz', blobOf(given[0])); await ready();", base64.b64encode(packed).decode())
+        page.says(wanted in (found := page.js("return element('finding').textContent")), f"xz, {name}: {found}")
     text = given["overload.history"]
     page.show("overload.history", text)
     # a search by tag, as a user types it, and a click in the list

@@ -38,6 +38,11 @@ const unzipped = (blob, options) => new Response(blob.stream().pipeThrough(new D
 // ----- The program: workers that each run one request at a time
 class Cancelled extends Error {}
 
+// Returns nothing for a cancelled request: a later one has its answer.
+function unlessCancelled(why) {
+    if (!(why instanceof Cancelled)) throw why;
+}
+
 class Pool {
     constructor(size, source) {
         this.size = size;
@@ -889,8 +894,9 @@ function comparison(rows) {
 async function otherCurves() {
     const around = { from: view.from - (view.to - view.from) / 2, to: view.to + (view.to - view.from) / 2 };
     const { each } = points;
-    const { rows } = await ask(["explain", `--every=${each}ns`, "--csv", ...bounds(around), "--", "other"], { group: "curves", rows: MANY, files: { other: other.text } });
-    if (other) other.rows = placed(rows, each);
+    const found = await ask(["explain", `--every=${each}ns`, "--csv", ...bounds(around), "--", "other"], { group: "curves", rows: MANY, files: { other: other.text } }).catch(unlessCancelled);
+    if (!found || !other) return;
+    other.rows = placed(found.rows, each);
     CHARTS.slice(0, 2).forEach(drawChart);
 }
 
@@ -899,8 +905,9 @@ async function fate() {
     element("fate").textContent = "";
     if (!other || !chosen) return;
     const at = `${chosen.effective_moment}ns`;
-    const { rows } = await ask(["explain", "--tag", chosen.tag, "--csv", "--from", at, "--to", at, "--", "other"], { group: "fate", rows: { limit: 10 }, files: { other: other.text } });
-    const verdict = objects(rows).find((it) => it.size === chosen.size && it.verdict)?.verdict;
+    const found = await ask(["explain", "--tag", chosen.tag, "--csv", "--from", at, "--to", at, "--", "other"], { group: "fate", rows: { limit: 10 }, files: { other: other.text } }).catch(unlessCancelled);
+    if (!found || !other || !chosen) return;
+    const verdict = objects(found.rows).find((it) => it.size === chosen.size && it.verdict)?.verdict;
     const done = { enqueue: "queued", early: "dropped early", mark: "marked", bytes: "dropped: no room in bytes", packets: "dropped: no room in packets" }[verdict];
     if (done) say(element("fate"), `With these parameters packet ${chosen.tag} is ${verdict === chosen.verdict ? "also " : ""}`, [done], ".");
 }

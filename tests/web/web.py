@@ -541,8 +541,8 @@ def check_page(page, given):
         page.says(base64.b64decode(got) == native(words, text)[1], f"the saved {name}")
     page.says(len(saved) == 4 and base64.b64decode(saved[3][1])[:4] == b"\x89PNG", "the saved picture")
     # other parameters, from the beginning
-    page.js("""await look(whole()); const slider = document.querySelector('#sliders input[name=target]'); slider.value = 5; slider.dispatchEvent(new Event('input'));
-        await until(() => element('deciding').textContent.startsWith('decided'));""")
+    page.js("""await look(whole()); element('list').tBodies[0].rows[0].click(); const slider = document.querySelector('#sliders input[name=target]'); slider.value = 5; slider.dispatchEvent(new Event('input'));
+        await until(() => element('deciding').textContent.startsWith('decided') && element('fate').textContent !== '', 'a fate of the packet that was chosen at the same time');""")
     columns = page.js("return Object.fromEntries([...element('columns').querySelectorAll('[data-field]')].map((row) => [row.dataset.field, [...row.children].slice(1).map((it) => it.textContent)]))")
     for line in native(["what-if", "--from", "0", "--target", "5ms", "--csv"], text)[1].decode().splitlines()[1:]:
         name, *values = line.split(",")

@@ -9,6 +9,7 @@
 #   make install         installs everything below PREFIX (/usr/local); install-library and install-program install a part
 #   make uninstall       removes the files that `make install` installs
 #   make web             web/juniperbowls.html: the page that runs the program in a browser; python3 and Debian's libjs-dygraphs are needed
+#   make npm             build/npm: the package for npm with pie.h's calls in WebAssembly; python3 is needed
 #   make crate           build/crate: the crate for Rust with the assembly, in the form that `cargo package` accepts
 #   make archive         build/juniperbowls-VERSION.tar.gz for any Debian 12 or later; it can be unpacked anywhere
 #   make clean           removes build/ and the page
@@ -28,7 +29,7 @@ BUILD ?= build
 MACHINE := $(filter-out %gnux32 %ilp32,$(foreach it,$(shell $(CC) -dumpmachine),$(if $(findstring linux,$(it)),$(it))))
 PROCESSOR ?= $(strip $(foreach it,x86_64 aarch64 riscv64 mipsel,$(if $(filter $(it)-%,$(MACHINE)),$(it))) \
 	$(if $(filter arm-% armv7-% armv7l-% armv7a-%,$(MACHINE)),armv7))
-ifeq ($(PROCESSOR)$(filter clean web,$(MAKECMDGOALS)),)
+ifeq ($(PROCESSOR)$(filter clean web npm,$(MAKECMDGOALS)),)
 $(error no assembly in dist/ for the machine of $(CC), $(or $(shell $(CC) -dumpmachine),which prints none): dist/ has $(notdir $(patsubst %/,%,$(dir $(wildcard dist/*/pie_c.S*)))), \
 for Linux; big-endian processors are not supported)
 endif
@@ -120,7 +121,7 @@ $(BUILD)/pie: $(addprefix $(BUILD)/,pie.o heap.o process.o)
 
 PAGE := web/juniperbowls.html
 web: $(PAGE)
-$(PAGE): $(filter-out $(PAGE),$(wildcard web/*)) dist/wasm/pie.wasm.xz $(wildcard examples/*.history)
+$(PAGE): $(filter-out $(PAGE),$(wildcard web/*)) dist/wasm/pie.wasm.xz dist/wasm/unxz.wasm.xz $(wildcard examples/*.history)
 	DYGRAPHS='$(DYGRAPHS)' web/make.py $@
 
 check: all
@@ -233,8 +234,12 @@ crate: | $(BUILD)
 	for it in $(PIE_C_S) $(PIE_LINK_C_S); do put "$$it" $(PROCESSOR) || exit 1; done
 	cp dist/heap.c dist/runtime.h $(BUILD)/crate/assembly
 
+npm: | $(BUILD)
+	rm -rf $(BUILD)/npm
+	bindings/javascript/package.py $(BUILD)/npm
+
 clean:
 	rm -rf $(BUILD) $(PAGE)
 
-.PHONY: all libraries shared program web check install install-program install-library uninstall described archive crate clean
+.PHONY: all libraries shared program web npm check install install-program install-library uninstall described archive crate clean
 .DELETE_ON_ERROR:

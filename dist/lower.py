@@ -15,8 +15,8 @@ A line that none of these rules covers, and whose meaning depends on the layout,
 
 usage: dist/lower.py TARGET MODULE OUT      TARGET: x86_64, aarch64, riscv64, armv7, mipsel, bpf or wasm
                                             MODULE: bitcode, as bindings/c/library.py writes it to crates/CRATE/out/CRATE.bc
-                                            OUT: assembly; for wasm a program, linked with the functions of dist/wasm/; if the name ends in .ll, as
-                                            for bpf, the changed module as text"""
+                                            OUT: assembly; for wasm a program or a library, linked with the functions of dist/wasm/; if the name ends in
+                                            .ll, as for bpf, the changed module as text"""
 import os
 import re
 import shutil
@@ -587,17 +587,20 @@ def renamed(made):
 
 
 def linked(text, target, out):
-    """Writes a module as a program for WebAssembly, with the functions of dist/wasm/, which the toolchain's compiler and linker make too."""
+    """Writes a module for WebAssembly: the program, with the functions of dist/wasm/, which the toolchain's compiler and linker make too; or a library, which
+    exports the functions of dist/abi.txt, and has no use for memory or files."""
     include = output(["gcc", "-print-file-name=include"]).strip()
     words = [compiler(target), f"--target={target.triple}", *OPTIONS, *target.options]
+    defined = set(re.findall(rf"^define [^@\n]*@({NAME})\(", text, re.M))
     with tempfile.TemporaryDirectory() as work:
         os.symlink(os.path.join(os.path.dirname(os.path.realpath(toolchain())), "ld.lld"), f"{work}/wasm-ld")
-        objects = [f"{work}/{name}.o" for name in ("module", "runtime", "wide")]
+        objects = [f"{work}/{name}.o" for name in ("module", *["runtime"] * ("main" in defined), "wide")]
         output([*words, "-x", "ir", "-", "-c", "-o", objects[0]], text)
         for it in objects[1:]:
             source = f"{ROOT}/dist/wasm/{os.path.basename(it)[:-2]}.c"
             output([*words, "-std=c11", "-ffreestanding", "-Wall", "-Wextra", "-isystem", include, "-mbulk-memory", "-c", source, "-o", it])
-        options = "--no-entry --gc-sections --fatal-warnings --strip-all --export-memory --stack-first -z stack-size=8388608 --max-memory=4294967296".split()
+        options = "--no-entry --gc-sections --fatal-warnings --strip-all --export-memory --stack-first --max-memory=4294967296".split()
+        options += ["-z", f"stack-size={8388608 if 'main' in defined else 65536}", *[f"--export={it}" for it in signatures() if it in defined]]
         output([f"{work}/wasm-ld", *options, *objects, "-o", out])
 
 

@@ -1,7 +1,7 @@
 #!/usr/bin/env bash
 # Makes dist/ anew from the committed crates: the assembly of pie_c, pie_link_c and pie for each
-# processor, the module of pie_c for BPF, the program for WebAssembly, MANIFEST, and new lines of abi.txt. It needs the toolchain (rt), and
-# Debian's clang-19 for mipsel and BPF. Proofs that `rt ci`, `rt lib` or `rt check` left are used. The three crates themselves are
+# processor, the module of pie_c for BPF, pie_c and the program for WebAssembly, MANIFEST, and new lines of abi.txt. It needs the toolchain (rt), and
+# Debian's clang-19 for mipsel and BPF, and linux-source-6.1 for the page's unpacking of xz. Proofs that `rt ci`, `rt lib` or `rt check` left are used. The three crates themselves are
 # proved again, unless bindings/c/library.py has just proved them. lower.py lowers the module of each
 # crate for the other processors. Links and the program need 64-bit words (docs/DECISIONS.md).
 #
@@ -48,7 +48,9 @@ lowered armv7 pie_c
 lowered mipsel pie_c
 wait "$first"
 dist/lower.py bpf crates/pie_c/out/pie_c.bc "$work/pie_c.ll"
-dist/lower.py wasm crates/pie/out/pie.bc "$work/pie.wasm"
+for crate in pie_c pie; do
+    dist/lower.py wasm "crates/$crate/out/$crate.bc" "$work/$crate.wasm"
+done
 mkdir -p "$work/x86_64"
 for crate in pie_c pie_link_c pie; do
     cp "crates/$crate/out/$crate.S" "$work/x86_64/"
@@ -64,14 +66,15 @@ for target in x86_64 aarch64 riscv64 armv7 mipsel; do
 done
 mkdir -p dist/bpf
 cp "$work/pie_c.ll" dist/bpf/
-xz -9 --extreme --force "$work/pie.wasm"
-cp "$work/pie.wasm.xz" dist/wasm/
+dist/wasm/unxz.sh "$work/unxz.wasm"
+xz -9 --extreme --force "$work"/*.wasm
+cp "$work"/*.wasm.xz dist/wasm/
 {
     echo "version $(sed -n 's/^#define PIE_VERSION "\(.*\)"$/\1/p' include/pie.h)"
     echo "commit $(git rev-list -1 HEAD -- crates crates.txt)"
     echo "crates $(git rev-parse HEAD:crates)"
     echo "rt $(rt version)"
     echo "mipsel $(clang-19 --version | head -n 1)"
-    (cd dist && sha256sum -- x86_64/*.S */*.xz bpf/* wasm/*.c | sort -k 2)
+    (cd dist && sha256sum -- x86_64/*.S */*.xz bpf/* wasm/*.c wasm/*.sh | sort -k 2)
 } > dist/MANIFEST
 cat dist/MANIFEST

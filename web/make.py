@@ -35,7 +35,8 @@ def page(program):
     engine = (WEB / "pie.js").read_text().replace("\nexport ", "\n") + (WEB / "worker.js").read_text()
     examples = {it.name: it.read_text() for it in sorted((ROOT / "examples").glob("*.history"))}
     parts = {"STYLE": (WEB / "page.css").read_text(), "CHARTS": DYGRAPHS.read_text(),
-             "SCRIPT": (WEB / "page.js").read_text(), "ENGINE": engine, "MODULE": packed(program), "EXAMPLES": packed(json.dumps(examples).encode()), "HISTORY": ""}
+             "SCRIPT": (WEB / "page.js").read_text(), "ENGINE": engine, "MODULE": packed(program),
+             "UNPACKER": packed(lzma.decompress((ROOT / "dist/wasm/unxz.wasm.xz").read_bytes())), "EXAMPLES": packed(json.dumps(examples).encode()), "HISTORY": ""}
     # (no part may end its element)
     assert not [name for name, text in parts.items() if re.search(r"</(?:script|style)", text, re.I)]
     parts["POLICY"] = (f"default-src 'none'; script-src {hashed(parts['CHARTS'])} {hashed(parts['SCRIPT'])} 'wasm-unsafe-eval'; style-src {hashed(parts['STYLE'])}; style-src-attr 'unsafe-inline'; "

@@ -38,6 +38,11 @@ const unzipped = (blob, options) => new Response(blob.stream().pipeThrough(new D
 // ----- The program: workers that each run one request at a time
 class Cancelled extends Error {}
 
+// Returns nothing for a cancelled request: a later one has its answer.
+function unlessCancelled(why) {
+    if (!(why instanceof Cancelled)) throw why;
+}
+
 class Pool {
     constructor(size, source) {
         this.size = size;
@@ -70,7 +75,7 @@ class Pool {
         const made = { worker: new Worker(this.source), job: null };
         made.worker.onmessage = ({ data }) => this.receive(made, data);
         made.worker.onerror = (event) => this.fail(made, event);
-        made.worker.postMessage({ program: this.program });
+        made.worker.postMessage({ program: this.program, unpacker: this.unpacker });
         this.workers.push(made);
         return made;
     }
@@ -85,7 +90,7 @@ class Pool {
 
     fail(from, event) {
         event.preventDefault();
-        this.drop(from, new Error(event.message || "the worker ended"));
+        this.drop(from, new Error(event.message?.replace(/^(Uncaught )?Error: /, "") || "the worker ended"));
     }
 
     // Ends a worker, and rejects its request.
@@ -299,7 +304,7 @@ let unpacking = new AbortController();
 // Returns the text of a file, unpacked. The browser may keep the unpacked text in a file of its own.
 async function unpacked(blob) {
     const head = new Uint8Array(await blob.slice(0, 3).arrayBuffer());
-    if (isXz(head)) throw new Error("this file is compressed by xz, which browsers cannot unpack: unpack it with xz -d");
+    if (isXz(head)) return (await pool.ask([], { packed: blob })).out;
     unpacking = new AbortController();
     return isGzip(head) ? unzipped(blob, { signal: unpacking.signal }).blob() : blob;
 }
@@ -359,7 +364,7 @@ async function openText(name, file) {
     document.documentElement.dataset.state = "busy";
     try {
         working("unpacking");
-        TEXT = { name: name.replace(/\.(gz|gzip)$/i, ""), blob: file, isTrace: false };
+        TEXT = { name: name.replace(/\.(gz|gzip|xz)$/i, ""), blob: file, isTrace: false };
         TEXT.blob = await unpacked(file);
         working("deciding every event again");
         const summary = await audited(number);
@@ -889,8 +894,9 @@ function comparison(rows) {
 async function otherCurves() {
     const around = { from: view.from - (view.to - view.from) / 2, to: view.to + (view.to - view.from) / 2 };
     const { each } = points;
-    const { rows } = await ask(["explain", `--every=${each}ns`, "--csv", ...bounds(around), "--", "other"], { group: "curves", rows: MANY, files: { other: other.text } });
-    if (other) other.rows = placed(rows, each);
+    const found = await ask(["explain", `--every=${each}ns`, "--csv", ...bounds(around), "--", "other"], { group: "curves", rows: MANY, files: { other: other.text } }).catch(unlessCancelled);
+    if (!found || !other) return;
+    other.rows = placed(found.rows, each);
     CHARTS.slice(0, 2).forEach(drawChart);
 }
 
@@ -899,8 +905,9 @@ async function fate() {
     element("fate").textContent = "";
     if (!other || !chosen) return;
     const at = `${chosen.effective_moment}ns`;
-    const { rows } = await ask(["explain", "--tag", chosen.tag, "--csv", "--from", at, "--to", at, "--", "other"], { group: "fate", rows: { limit: 10 }, files: { other: other.text } });
-    const verdict = objects(rows).find((it) => it.size === chosen.size && it.verdict)?.verdict;
+    const found = await ask(["explain", "--tag", chosen.tag, "--csv", "--from", at, "--to", at, "--", "other"], { group: "fate", rows: { limit: 10 }, files: { other: other.text } }).catch(unlessCancelled);
+    if (!found || !other || !chosen) return;
+    const verdict = objects(found.rows).find((it) => it.size === chosen.size && it.verdict)?.verdict;
     const done = { enqueue: "queued", early: "dropped early", mark: "marked", bytes: "dropped: no room in bytes", packets: "dropped: no room in packets" }[verdict];
     if (done) say(element("fate"), `With these parameters packet ${chosen.tag} is ${verdict === chosen.verdict ? "also " : ""}`, [done], ".");
 }
@@ -1057,6 +1064,7 @@ async function begin() {
     const source = URL.createObjectURL(new Blob([element("engine").textContent], { type: "text/javascript" }));
     pool = new Pool(3, source);
     pool.program = await WebAssembly.compile(await unzipped(new Blob([bytesOf("module")])).arrayBuffer());
+    pool.unpacker = await WebAssembly.compile(await unzipped(new Blob([bytesOf("unpacker")])).arrayBuffer());
     makeSliders();
     listen();
     const examples = await unzipped(new Blob([bytesOf("examples")])).json();

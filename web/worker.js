@@ -1,6 +1,6 @@
 // The worker of the page: it runs the program for one request at a time.
 "use strict";
-let program = null;
+let program = null, unpacker = null;
 
 /**
  * Returns a function that receives CSV and keeps its header and its rows: those whose field `column` passes the test `match`, at most `limit`. It
@@ -43,7 +43,27 @@ function answer({ id, words, files, input, rows }) {
     postMessage({ id, status, memory, out: rows ? null : new Blob(out), rows: kept, errors: new Blob(errors) });
 }
 
+/** Unpacks a file of xz for a request, and posts the text. The browser may keep its parts in a file. */
+function unpack({ id, packed }) {
+    const { exports } = new WebAssembly.Instance(unpacker), bytes = () => new Uint8Array(exports.memory.buffer);
+    const next = reader(packed), parts = [];
+    let at = 0, hasEnded = false;
+    for (;;) {
+        const given = exports.left() > 0 ? [] : next(at, 1 << 18);
+        if (given.length === 0 && exports.left() === 0) break;
+        bytes().set(given, exports.input());
+        at += given.length;
+        const code = exports.step(given.length);
+        if (code > 1) throw new Error("this file of xz is damaged");
+        hasEnded = code === 1;
+        parts.push(new Blob([bytes().slice(exports.output(), exports.output() + exports.made())]));
+    }
+    if (!hasEnded) throw new Error("this file of xz is cut off");
+    postMessage({ id, out: new Blob(parts) });
+}
+
 onmessage = ({ data }) => {
-    if (data.program) program = data.program;
+    if (data.program) ({ program, unpacker } = data);
+    else if (data.packed) unpack(data);
     else answer(data);
 };

@@ -4,8 +4,8 @@ of crates/. dist/'s assembly of the libraries must be byte for byte the output o
 proved crates, for x86-64, and of dist/lower.py from the same modules, for the other processors; assembled and
 linked by the toolchain, dist/'s program for x86-64 must be the one that `rt ci` built. The programs for other
 processors are compared if crates/pie/out/pie.bc is here, which dist/make.sh leaves. The assembly of the kernel's queue
-must be the output of bindings/kernel/lower.py from the module of pie_c, dist/bpf/pie_c.ll that of dist/lower.py, and dist/wasm/pie.wasm that
-of dist/lower.py from the module of pie. If crates/ is no longer the manifest's tree, a
+must be the output of bindings/kernel/lower.py from the module of pie_c, dist/bpf/pie_c.ll that of dist/lower.py, and dist/wasm/pie_c.wasm and
+pie.wasm those of dist/lower.py from the modules of pie_c and pie. If crates/ is no longer the manifest's tree, a
 difference is printed, with the number of commits by which dist/ is older, and is no failure.
 Then `make check` runs in a new folder, with clang if it is installed: with cc, tests/documents/pages.py runs it, as
 the README has it. tests/libraries/processors.py checks what is built for the other processors.
@@ -262,16 +262,26 @@ def compare_bpf(manifest, work):
 
 
 def compare_wasm(manifest, work):
-    """Compares the program for WebAssembly with the module of the program."""
-    module, made = ROOT / "crates/pie/out/pie.bc", Path(f"{work}/pie.wasm")
-    if not module.exists():
-        print(f"NOT RUN: {NAME}: {module.relative_to(ROOT)} is not here (dist/make.sh leaves it), so wasm/pie.wasm was not compared")
+    """Compares the program and the library for WebAssembly with the modules of their crates."""
+    for name in ("pie", "pie_c"):
+        module, made = ROOT / f"crates/{name}/out/{name}.bc", Path(f"{work}/{name}.wasm")
+        if not module.exists():
+            print(f"NOT RUN: {NAME}: {module.relative_to(ROOT)} is not here (dist/make.sh leaves it), so wasm/{name}.wasm was not compared")
+            continue
+        subprocess.run([DIST / "lower.py", "wasm", module, made], check=True)
+        is_same = made.read_bytes() == lzma.decompress((DIST / f"wasm/{name}.wasm.xz").read_bytes())
+        if manifest["crates"] == tree_of_crates():
+            check(is_same, f"dist/ was made from these crates, and wasm/{name}.wasm is not the module of crates/{name}")
+        print(f"{NAME}: wasm/{name}.wasm is {'what was proved' if is_same else 'another module: dist/make.sh makes it anew'}")
+
+
+def compare_unpacker(work):
+    """Compares the unpacking of xz with what unxz.sh compiles."""
+    if not Path("/usr/src/linux-source-6.1.tar.xz").exists() or not shutil.which("rt"):
+        print(f"NOT RUN: {NAME}: no linux-source-6.1 or toolchain here, so wasm/unxz.wasm was not compared")
         return
-    subprocess.run([DIST / "lower.py", "wasm", module, made], check=True)
-    is_same = made.read_bytes() == lzma.decompress((DIST / "wasm/pie.wasm.xz").read_bytes())
-    if manifest["crates"] == tree_of_crates():
-        check(is_same, "dist/ was made from these crates, and wasm/pie.wasm is not the program of crates/pie")
-    print(f"{NAME}: wasm/pie.wasm is {'what was proved' if is_same else 'another program: dist/make.sh makes it anew'}")
+    subprocess.run([DIST / "wasm/unxz.sh", f"{work}/unxz.wasm"], check=True)
+    check(Path(f"{work}/unxz.wasm").read_bytes() == lzma.decompress((DIST / "wasm/unxz.wasm.xz").read_bytes()), "wasm/unxz.wasm is not what unxz.sh makes")
 
 
 def compare_kernels(work):
@@ -338,6 +348,7 @@ def main():
         stated(compare(manifest, work))
         compare_bpf(manifest, work)
         compare_wasm(manifest, work)
+        compare_unpacker(work)
         compare_kernels(work)
         compiler = "clang" if shutil.which("clang") else "cc"
         if compiler == "cc":

@@ -228,8 +228,7 @@ def large(count):
     return native(["run"], "".join(trace).encode())[1]
 
 
-def check_large(work, wasm):
-    text = large(2_000_000)
+def check_large(work, wasm, text):
     script = Path(work, "large.mjs")
     script.write_text(LARGE)
     begun = time.monotonic()
@@ -238,7 +237,6 @@ def check_large(work, wasm):
     check(len(found) == 3 and all(status == 0 and memory <= 64 << 20 for _, status, memory, _ in found), f"two million events: {found} {done.stderr[-300:]}")
     most = max([memory for _, _, memory, _ in found] or [0])
     print(f"{NAME}: {len(text)} bytes of two million events in Node: {time.monotonic() - begun:.1f} s for {len(found)} commands, at most {most / 2**20:.1f} MB of memory")
-    return text
 
 
 # ---- Browsers
@@ -271,6 +269,26 @@ class Chromium:
 
     def act(self, sources):
         self.driver.execute("actions", {"actions": sources})
+
+    def choose(self, path):
+        """Chooses a file in the page's dialog."""
+        self.driver.find_element("css selector", "#file").send_keys(str(path))
+
+    def memory(self):
+        """Returns the most bytes that a process of the page has had."""
+        parents = {}
+        for it in Path("/proc").glob("[0-9]*"):
+            try:
+                parents.setdefault(int((it / "stat").read_text().rpartition(")")[2].split()[1]), []).append(it)
+            except OSError:
+                pass
+        found, left = [0], [self.driver.service.process.pid]
+        while left:
+            for it in parents.get(left.pop(), []):
+                left.append(int(it.name))
+                if b"--type=renderer" in (it / "cmdline").read_bytes():
+                    found.append(int(re.search(r"VmHWM:\s+(\d+)", (it / "status").read_text())[1]) << 10)
+        return max(found)
 
     def schemes(self):
         """Yields the colour schemes, each once it is set."""
@@ -488,6 +506,14 @@ def check_page(page, given):
     packed = base64.b64encode(gzip.compress(given["marks.history"])).decode()
     page.js("await openText('marks.history.gz', blobOf(given[0])); await ready();", packed)
     page.says("Clean" in page.js("return element('finding').textContent"), "a gzip file")
+    # xz: two streams with zeros between them make an excerpt of two histories; cut off and damaged ones
+    xz = lzma.compress(given["marks.history"], preset=6)
+    wrong = bytearray(xz)
+    wrong[len(xz) // 2] ^= 1
+    for name, packed, wanted in (("two streams", lzma.compress(given["marks.history"][:9000]) + bytes(8) + lzma.compress(given["marks.history"][9000:], preset=9), "Clean"), ("xz", xz, "Clean"),
+                                 ("a cut", xz[:-40], "is cut off"), ("damage", bytes(wrong), "is damaged")):
+        page.js("await openText('marks.history.xz', blobOf(given[0])); await ready();", base64.b64encode(packed).decode())
+        page.says(wanted in (found := page.js("return element('finding').textContent")), f"xz, {name}: {found}")
     text = given["overload.history"]
     page.show("overload.history", text)
     # a search by tag, as a user types it, and a click in the list
@@ -515,8 +541,8 @@ def check_page(page, given):
         page.says(base64.b64decode(got) == native(words, text)[1], f"the saved {name}")
     page.says(len(saved) == 4 and base64.b64decode(saved[3][1])[:4] == b"\x89PNG", "the saved picture")
     # other parameters, from the beginning
-    page.js("""await look(whole()); const slider = document.querySelector('#sliders input[name=target]'); slider.value = 5; slider.dispatchEvent(new Event('input'));
-        await until(() => element('deciding').textContent.startsWith('decided'));""")
+    page.js("""await look(whole()); element('list').tBodies[0].rows[0].click(); const slider = document.querySelector('#sliders input[name=target]'); slider.value = 5; slider.dispatchEvent(new Event('input'));
+        await until(() => element('deciding').textContent.startsWith('decided') && element('fate').textContent !== '', 'a fate of the packet that was chosen at the same time');""")
     columns = page.js("return Object.fromEntries([...element('columns').querySelectorAll('[data-field]')].map((row) => [row.dataset.field, [...row.children].slice(1).map((it) => it.textContent)]))")
     for line in native(["what-if", "--from", "0", "--target", "5ms", "--csv"], text)[1].decode().splitlines()[1:]:
         name, *values = line.split(",")
@@ -651,16 +677,32 @@ def check_cancel(page, text):
     page.show("burst.history", (ROOT / "examples/burst.history").read_bytes())
 
 
+def check_stream(page, large):
+    """Opens a file of two million events, which the page must stream: five passes over it, and little memory. Returns the seconds until the finding."""
+    before, size = page.browser.memory(), large.stat().st_size
+    page.js("element('file').hidden = false; window.number = pool.number;")
+    begun = time.monotonic()
+    page.browser.choose(large)
+    page.js("await until(() => !element('finding').hidden);")
+    seconds = time.monotonic() - begun
+    page.js("await ready();")
+    finding, count = page.js("return [element('finding').textContent, pool.number - window.number]")
+    grown = page.browser.memory() - before
+    page.says("Clean. Each of 2,0" in finding and count <= 5, f"two million events: {finding}, by {count} requests")
+    page.says(grown < 64 << 20 < size, f"two million events of {size >> 20} MB take {grown >> 20} MB more memory")
+    return f"{size >> 20} MB: a finding after {seconds:.1f} s, {page.browser.memory() >> 20} MB of memory, {count} passes"
+
+
 LEAVE = """const [url] = given, tried = [];
 const ended = (what, promise) => promise.then(() => tried.push(what), () => tried.push(`no ${what}`));
 const load = (name, key) => new Promise((go, fail) => { const it = document.createElement(name); it.onload = go; it.onerror = fail; it[key] = `${url}${name}`; if (name === 'link') it.rel = 'stylesheet'; document.body.append(it); setTimeout(fail, 1500); });
-await ended('fetch', fetch(`${url}fetch`, { mode: 'no-cors' }));
-for (const [name, key] of [['img', 'src'], ['script', 'src'], ['link', 'href'], ['iframe', 'src'], ['video', 'src'], ['object', 'data']]) await ended(name, load(name, key));
-await ended('beacon', new Promise((go, fail) => { try { navigator.sendBeacon(`${url}beacon`, 'x') ? setTimeout(fail, 300) : fail(); } catch { fail(); } }));
-await ended('socket', new Promise((go, fail) => { try { const it = new WebSocket(url.replace('http', 'ws')); it.onopen = go; it.onerror = fail; } catch { fail(); } }));
-await ended('events', new Promise((go, fail) => { try { const it = new EventSource(`${url}events`); it.onopen = go; it.onerror = fail; } catch { fail(); } }));
 const source = `fetch("${url}worker", { mode: "no-cors" }).then(() => postMessage(1), () => postMessage(0))`;
-await ended('worker', new Promise((go, fail) => { const it = new Worker(URL.createObjectURL(new Blob([source]))); it.onmessage = ({ data }) => (data ? go() : fail()); it.onerror = fail; }));
+await Promise.all([ended('fetch', fetch(`${url}fetch`, { mode: 'no-cors' })),
+    ...[['img', 'src'], ['script', 'src'], ['link', 'href'], ['iframe', 'src'], ['video', 'src'], ['object', 'data']].map(([name, key]) => ended(name, load(name, key))),
+    ended('beacon', new Promise((go, fail) => { try { navigator.sendBeacon(`${url}beacon`, 'x') ? setTimeout(fail, 300) : fail(); } catch { fail(); } })),
+    ended('socket', new Promise((go, fail) => { try { const it = new WebSocket(url.replace('http', 'ws')); it.onopen = go; it.onerror = fail; } catch { fail(); } })),
+    ended('events', new Promise((go, fail) => { try { const it = new EventSource(`${url}events`); it.onopen = go; it.onerror = fail; } catch { fail(); } })),
+    ended('worker', new Promise((go, fail) => { const it = new Worker(URL.createObjectURL(new Blob([source]))); it.onmessage = ({ data }) => (data ? go() : fail()); it.onerror = fail; }))]);
 return tried;"""
 
 
@@ -702,7 +744,7 @@ def check_widths(page, text):
     page.browser.size(1280, 900)
 
 
-def check_browsers(work, wasm, given, wanted, text):
+def check_browsers(work, wasm, given, wanted, text, large):
     place = Path(work, "juniperbowls.html")
     done = subprocess.run([ROOT / "web/make.py", place, "--program", wasm], capture_output=True, text=True, check=False)
     if done.returncode:
@@ -716,6 +758,9 @@ def check_browsers(work, wasm, given, wanted, text):
         browser = kind(work)
         try:
             page = Page(browser, place)
+            if kind is Chromium:
+                # (first: it measures the memory of a new page)
+                print(f"{NAME}: {kind.name}: {check_stream(page, large)}")
             count = page.commands(given, commands(), wanted)
             check_page(page, given)
             seconds = check_hands(page, given["overload.history"])
@@ -744,11 +789,13 @@ def main():
         if shutil.which("node"):
             check_numbers(work)
             check_node(work, wasm, given, wanted)
-            text = check_large(work, wasm)
         else:
             print(f"NOT RUN: {NAME}: no node here, so the program did not run in it")
-            text = large(200_000)
-        check_browsers(work, wasm, given, wanted, text[: 20 << 20])
+        text, path = large(2_000_000), Path(work, "large.history")
+        path.write_bytes(text)
+        if shutil.which("node"):
+            check_large(work, wasm, text)
+        check_browsers(work, wasm, given, wanted, text[: 8 << 20], path)
     finish()
 
 

@@ -103,6 +103,11 @@ static __always_inline bool is_wanted(struct Qdisc *sch) {
     return true;
 }
 
+/* Returns the place of a queue in `marks`. */
+static __always_inline u64 *mark_of(u64 key) {
+    return &marks[(u32)(key >> 3) * 0x9e3779b1u >> 20 & (MARKS - 1)];
+}
+
 /* Begins an event. Returns NULL if the ring is full. */
 static __always_inline struct sums_event *begin_event(u64 key, struct sums_queue *queue, enum sums_type type) {
     struct sums_event *event = bpf_ringbuf_reserve(&events, sizeof *event, 0);
@@ -157,7 +162,9 @@ static __always_inline struct sums_queue *add(struct Qdisc *sch, u64 key, enum w
     queue->stats = stats;
     READ(queue->event_marked, stats, pie_stats, ecn_mark);
     bpf_probe_read_kernel_str(queue->device, sizeof queue->device, &sch->dev_queue->dev->name);
+    *mark_of(key) = 0; /* of an earlier queue at this address */
     queue->sch = (u64)sch;
+    read_state(queue, key);
     tell_life(key, queue, SUMS_CREATED);
     return queue;
 }
@@ -364,7 +371,7 @@ static __always_inline void tell_packet(u64 key, struct sums_queue *queue, struc
  * instructions. */
 static __always_inline bool may_be_marked(u64 key, u32 marked) {
     u64 last = (u64)(u32)(key >> 3) << 32 | marked;
-    u64 *at = &marks[(u32)(key >> 3) * 0x9e3779b1u >> 20 & (MARKS - 1)];
+    u64 *at = mark_of(key);
     if (*at == last)
         return false;
     *at = last;

@@ -109,8 +109,8 @@ static __always_inline u64 *mark_of(u64 key) {
 }
 
 /* Begins an event. Returns NULL if the ring is full. */
-static __always_inline struct sums_event *begin_event(u64 key, struct sums_queue *queue, enum sums_type type) {
-    struct sums_event *event = bpf_ringbuf_reserve(&events, sizeof *event, 0);
+static __always_inline struct sums_event *begin_event(u64 key, struct sums_queue *queue, enum sums_type type, u64 bytes) {
+    struct sums_event *event = bpf_ringbuf_reserve(&events, bytes, 0);
     if (event == NULL) {
         queue->lost++;
         return NULL;
@@ -130,7 +130,7 @@ static __always_inline void end_event(struct sums_event *event) {
 
 /* Writes that a queue was created or removed. */
 static __always_inline void tell_life(u64 key, struct sums_queue *queue, enum sums_type type) {
-    struct sums_event *event = begin_event(key, queue, type);
+    struct sums_event *event = begin_event(key, queue, type, sizeof *event);
     if (event == NULL)
         return;
     __builtin_memcpy(&event->queue, queue, sizeof event->queue);
@@ -325,7 +325,7 @@ static __always_inline void read_packet(struct sums_event *event, struct sk_buff
 
 /* Writes an event of a packet. A packet is dropped by the limit exactly if the queue is full, before it and after it. */
 static __always_inline void tell_packet(u64 key, struct sums_queue *queue, struct sk_buff *skb, struct Qdisc *sch, enum watch_kind kind, bool is_drop) {
-    struct sums_event *event = begin_event(key, queue, is_drop ? SUMS_DROPPED : SUMS_MARKED);
+    struct sums_event *event = begin_event(key, queue, is_drop ? SUMS_DROPPED : SUMS_MARKED, SUMS_PACKET);
     struct pie_vars vars = {};
     if (event == NULL)
         return;

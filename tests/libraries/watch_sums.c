@@ -55,6 +55,7 @@ static struct {
 } elements[QUEUES + 1];
 static u32 most_elements = QUEUES;
 static struct sums_event event, *last_event;
+static u64 event_bytes;
 static bool is_full, is_submitted;
 static struct sums_queue row;
 static u32 rows;
@@ -92,15 +93,18 @@ long bpf_map_delete_elem(void *map, void *key) {
 }
 
 void *bpf_ringbuf_reserve(void *ring, u64 size, u64 flags) {
-    if (is_full || ring != &events || size != sizeof event || flags != 0)
+    if (is_full || ring != &events || (size != sizeof event && size != SUMS_PACKET) || flags != 0)
         return NULL;
     memset(&event, 0xa5, sizeof event);
+    event_bytes = size;
     is_submitted = false;
     return last_event = &event;
 }
 
 void bpf_ringbuf_submit(void *data, u64 flags) {
     is_submitted = data == &event && flags == BPF_RB_NO_WAKEUP;
+    for (u64 i = event_bytes; i < sizeof event; i++)
+        CHECK("a byte after the event", ((unsigned char *)&event)[i], 0xa5);
 }
 
 long bpf_probe_read_kernel(void *to, u32 size, void *from) {
@@ -168,6 +172,7 @@ static struct sums_event *taken(struct made *made, u8 type) {
     }
     CHECK("an event", found != NULL && is_submitted, true);
     CHECK("its type", found->type, type);
+    CHECK("its bytes", event_bytes, type == SUMS_CREATED || type == SUMS_REMOVED ? sizeof event : SUMS_PACKET);
     CHECK("its number", found->number, made->number);
     CHECK("its moment", found->ns, clock_ns);
     CHECK("its processor", found->cpu, 3);

@@ -164,7 +164,9 @@ int serve(const struct totals_options *options, const struct serve_options *serv
         close(ends[1]);
         _exit(serve_here(&server, address, ends[0]));
     }
-    /* this process loads the programs for fq_pie if its module is loaded later */
+    /* this process loads the programs for fq_pie if its module is loaded later, for which the kernel wants CAP_SYS_ADMIN */
+    if (!watch_keep_bpf(true))
+        fprintf(stderr, PROGRAM ": capabilities cannot be given up: %s\n", strerror(errno));
     while (child > 0 && waitpid(child, &status, WNOHANG) == 0) {
         has_all = totals_later(server.totals);
         if (has_all != had_all && !watch_keep_bpf(false))

@@ -12,6 +12,11 @@
 #include "watch_sums.h"
 
 #define MARKS 4096 /* a power of two */
+#ifdef __bpf__
+#define COPY_HALF(to, from) asm volatile("%0 = %1" : "=w"(to) : "w"(from))
+#else
+#define COPY_HALF(to, from) ((to) = (from)) /* (tests/libraries/watch_sums.c) */
+#endif
 
 char LICENSE[] SEC("license") = "Dual MIT/GPL";
 
@@ -103,9 +108,16 @@ static __always_inline bool is_wanted(struct Qdisc *sch) {
     return true;
 }
 
+/* Returns the lower half of a key. The verifier allows no arithmetic of an address, but this copy of its lower half. */
+static __always_inline u32 half_of(u64 key) {
+    u32 half;
+    COPY_HALF(half, (u32)key);
+    return half;
+}
+
 /* Returns the place of a queue in `marks`. */
-static __always_inline u64 *mark_of(u64 key) {
-    return &marks[(u32)(key >> 3) * 0x9e3779b1u >> 20 & (MARKS - 1)];
+static __always_inline u64 *mark_of(u32 half) {
+    return &marks[half * 0x9e3779b1u >> 20 & (MARKS - 1)];
 }
 
 /* Begins an event. Returns NULL if the ring is full. */
@@ -162,7 +174,7 @@ static __always_inline struct sums_queue *add(struct Qdisc *sch, u64 key, enum w
     queue->stats = stats;
     READ(queue->event_marked, stats, pie_stats, ecn_mark);
     bpf_probe_read_kernel_str(queue->device, sizeof queue->device, &sch->dev_queue->dev->name);
-    *mark_of(key) = 0; /* of an earlier queue at this address */
+    *mark_of(half_of(key)) = 0; /* of an earlier queue at this address */
     queue->sch = (u64)sch;
     read_state(queue, key);
     tell_life(key, queue, SUMS_CREATED);
@@ -370,8 +382,9 @@ static __always_inline void tell_packet(u64 key, struct sums_queue *queue, struc
 /* Returns false if the queue's counter of marks is the one of its last packet, as far as `marks` has it. A search in the map would need ten times the
  * instructions. */
 static __always_inline bool may_be_marked(u64 key, u32 marked) {
-    u64 last = (u64)(u32)(key >> 3) << 32 | marked;
-    u64 *at = mark_of(key);
+    u32 half = half_of(key);
+    u64 last = (u64)half << 32 | marked;
+    u64 *at = mark_of(half);
     if (*at == last)
         return false;
     *at = last;

@@ -181,7 +181,8 @@ def check_server(program, work):
         expect("/", server.get("/")[0:2], (200, "text/html"))
         expect("/other", server.get("/other")[0], 404)
         expect("POST", server.get("/metrics", "POST")[0], 405)
-        expect("an order x", server.get("/queues?sort=x")[0], 400)
+        for wrong in ("sort=x", "most=0", "most=", "most=5x", "sort=wait&most=x"):
+            expect(f"/queues?{wrong}", server.get(f"/queues?{wrong}")[0], 400)
         check_process(server)
     with Server(program, labels, 2) as server:
         compare_metrics(metrics_of(server.get("/metrics")[2]), [1, 3], 5)

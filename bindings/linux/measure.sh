@@ -1,11 +1,11 @@
 #!/usr/bin/env bash
 # Counts instructions of enqueue and dequeue (bindings/kernel/measure/pie_measure.c) of the kernel's own pie and fq_pie, without pie-watch and with it.
 # Under qemu -icount one instruction is one tick of the time stamp counter. Arrivals are in a burst allowance, or considered for an early drop. Prints a
-# table, and fails if an enqueue and a dequeue with pie-watch need more than MOST instructions, more than MOST_FLOWS if sch_fq_pie is loaded, or more than
-# MOST_SUMS with --drops or serve. ROOT and HEADERS are those of boot.sh. It takes a minute of one processor.
+# table, and fails if an enqueue and a dequeue with pie-watch need more than MOST instructions, or more than MOST_FLOWS if sch_fq_pie is loaded; or if --drops
+# or serve adds more than MOST_SUMS in the burst allowance. ROOT and HEADERS are those of boot.sh. It takes a minute of one processor.
 # needs: a request
 #
-# usage: [MOST=2300] [MOST_FLOWS=2750] [MOST_SUMS=1200] [HEADERS=folder] [KEEP=folder for all files] bindings/linux/measure.sh [ROOT]
+# usage: [MOST=2350] [MOST_FLOWS=2900] [MOST_SUMS=700] [HEADERS=folder] [KEEP=folder for all files] bindings/linux/measure.sh [ROOT]
 set -eu
 cd "$(dirname "$0")/../.."
 me=bindings/linux/measure.sh
@@ -65,6 +65,15 @@ boot "clocksource=tsc tsc=reliable" $SIMULATED
 echo "$me: instructions of enqueue and dequeue, Linux $release"
 grep -E '^TOLD' "$work/console" | tr -d '\r' | sed 's/^TOLD/ /'
 sed -n 's/^COUNT/ /p' "$work/console" | tr -d '\r'
-awk -v most="${MOST:-2300}" -v most_flows="${MOST_FLOWS:-2750}" -v most_sums="${MOST_SUMS:-1200}" '
-    /^COUNT .*(recorded|drops|served)/ && $5 + $7 > ($2 == "pie_recorded" ? most : $2 ~ /recorded/ ? most_flows : most_sums) { print "too many: " $0; bad = 1 }
+awk -v most="${MOST:-2350}" -v most_flows="${MOST_FLOWS:-2900}" -v most_sums="${MOST_SUMS:-700}" '
+    $1 == "COUNT" && $4 == "enqueue" {
+        its = $5 + $7
+        if ($2 == "pie" || $2 == "fq_pie")
+            own[$2 $3] = its
+        if ($2 ~ /recorded/ && its > ($2 == "pie_recorded" ? most : most_flows) ||
+            $3 == "burst" && $2 ~ /_(drops|served)$/ && its - own[($2 ~ /^fq/ ? "fq_pie" : "pie") $3] > most_sums) {
+            print "too many: " $0
+            bad = 1
+        }
+    }
     END { exit bad }' "$work/console"

@@ -6,16 +6,20 @@
 # With LEAVES, as many pie leaves below htb on each of two devices in two namespaces are served instead, with traffic to 500 of them: it prints the memory
 # and the time of a scrape. (Their tupdate is 500 ms: the emulated processor has no time for the kernel's timers at the default.)
 #
-# ROOT and HEADERS are those of boot.sh; --kernel 6.12 or 7.3 boots that kernel of Debian
+# ROOT, HEADERS and --kernel are those of boot.sh
 # needs: a request
 #
 # usage: [LEAVES=0] [HEADERS=folder] [KEEP=folder for all files] bindings/linux/summed.sh [--kernel 6.12] [ROOT]
 set -eu
 cd "$(dirname "$0")/../.."
 me=bindings/linux/summed.sh
-# shellcheck source=kernel.sh
-. bindings/linux/kernel.sh "$@"
-set -- ${root_of:+"$root_of"}
+if [ "${1-}" = --kernel ]; then
+    version=${2:?}
+    shift 2
+    [ $# != 0 ] || set -- "$PWD/build/debian-$version"
+    [ -e "$1" ] || bindings/kernel/packages.sh "$version" "$1"
+    HEADERS=${HEADERS:-$1/usr/src}
+fi
 for program in clang bpftool; do
     PATH=$PATH:/usr/sbin command -v $program > /dev/null || { echo "NOT RUN: $me: no $program here (bindings/linux/install.sh)"; exit 0; }
 done

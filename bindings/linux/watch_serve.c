@@ -63,6 +63,8 @@ static enum MHD_Result answer(struct MHD_Connection *connection, unsigned status
 /* Returns the answer to a path, and its status and type. */
 static char *answer_to(struct server *server, struct MHD_Connection *connection, const char *path, unsigned *status, const char **type) {
     const char *sort, *match, *most;
+    char *rest = (char *)"";
+    u64 number = SERVE_MOST;
     bool is_read = refresh(server, FRESH);
     *type = "application/json";
     *status = is_read ? MHD_HTTP_OK : MHD_HTTP_SERVICE_UNAVAILABLE;
@@ -77,11 +79,13 @@ static char *answer_to(struct server *server, struct MHD_Connection *connection,
     sort = MHD_lookup_connection_value(connection, MHD_GET_ARGUMENT_KIND, "sort");
     match = MHD_lookup_connection_value(connection, MHD_GET_ARGUMENT_KIND, "match");
     most = MHD_lookup_connection_value(connection, MHD_GET_ARGUMENT_KIND, "most");
-    char *text = serve_queues(&server->snapshot, sort != NULL ? sort : "drops", match, most != NULL ? strtoull(most, NULL, 10) : SERVE_MOST);
+    if (most != NULL)
+        number = strtoull(most, &rest, 10);
+    char *text = *rest == '\0' && number != 0 ? serve_queues(&server->snapshot, sort != NULL ? sort : "drops", match, number) : NULL;
     if (text != NULL)
         return text;
     *status = MHD_HTTP_BAD_REQUEST;
-    return strdup("{\"error\":\"sort is drops, wait, longest, probability or name\"}\n");
+    return strdup("{\"error\":\"sort is drops, wait, longest, probability or name; most is a number from 1 on\"}\n");
 }
 
 static enum MHD_Result take_request(void *user, struct MHD_Connection *connection, const char *path, const char *method, const char *version, const char *data,
@@ -164,7 +168,9 @@ int serve(const struct totals_options *options, const struct serve_options *serv
         close(ends[1]);
         _exit(serve_here(&server, address, ends[0]));
     }
-    /* this process loads the programs for fq_pie if its module is loaded later */
+    /* this process loads the programs for fq_pie if its module is loaded later, for which the kernel wants CAP_SYS_ADMIN */
+    if (!watch_keep_bpf(true))
+        fprintf(stderr, PROGRAM ": capabilities cannot be given up: %s\n", strerror(errno));
     while (child > 0 && waitpid(child, &status, WNOHANG) == 0) {
         has_all = totals_later(server.totals);
         if (has_all != had_all && !watch_keep_bpf(false))

@@ -12,6 +12,11 @@
 #include "watch_sums.h"
 
 #define MARKS 4096 /* a power of two */
+#ifdef __bpf__
+#define COPY_HALF(to, from) asm volatile("%0 = %1" : "=w"(to) : "w"(from))
+#else
+#define COPY_HALF(to, from) ((to) = (from)) /* (tests/libraries/watch_sums.c) */
+#endif
 
 char LICENSE[] SEC("license") = "Dual MIT/GPL";
 
@@ -103,9 +108,21 @@ static __always_inline bool is_wanted(struct Qdisc *sch) {
     return true;
 }
 
+/* Returns the lower half of a key. The verifier allows no arithmetic of an address, but this copy of its lower half. */
+static __always_inline u32 half_of(u64 key) {
+    u32 half;
+    COPY_HALF(half, (u32)key);
+    return half;
+}
+
+/* Returns the place of a queue in `marks`. */
+static __always_inline u64 *mark_of(u32 half) {
+    return &marks[half * 0x9e3779b1u >> 20 & (MARKS - 1)];
+}
+
 /* Begins an event. Returns NULL if the ring is full. */
-static __always_inline struct sums_event *begin_event(u64 key, struct sums_queue *queue, enum sums_type type) {
-    struct sums_event *event = bpf_ringbuf_reserve(&events, sizeof *event, 0);
+static __always_inline struct sums_event *begin_event(u64 key, struct sums_queue *queue, enum sums_type type, u64 bytes) {
+    struct sums_event *event = bpf_ringbuf_reserve(&events, bytes, 0);
     if (event == NULL) {
         queue->lost++;
         return NULL;
@@ -125,7 +142,7 @@ static __always_inline void end_event(struct sums_event *event) {
 
 /* Writes that a queue was created or removed. */
 static __always_inline void tell_life(u64 key, struct sums_queue *queue, enum sums_type type) {
-    struct sums_event *event = begin_event(key, queue, type);
+    struct sums_event *event = begin_event(key, queue, type, sizeof *event);
     if (event == NULL)
         return;
     __builtin_memcpy(&event->queue, queue, sizeof event->queue);
@@ -157,7 +174,9 @@ static __always_inline struct sums_queue *add(struct Qdisc *sch, u64 key, enum w
     queue->stats = stats;
     READ(queue->event_marked, stats, pie_stats, ecn_mark);
     bpf_probe_read_kernel_str(queue->device, sizeof queue->device, &sch->dev_queue->dev->name);
+    *mark_of(half_of(key)) = 0; /* of an earlier queue at this address */
     queue->sch = (u64)sch;
+    read_state(queue, key);
     tell_life(key, queue, SUMS_CREATED);
     return queue;
 }
@@ -318,7 +337,7 @@ static __always_inline void read_packet(struct sums_event *event, struct sk_buff
 
 /* Writes an event of a packet. A packet is dropped by the limit exactly if the queue is full, before it and after it. */
 static __always_inline void tell_packet(u64 key, struct sums_queue *queue, struct sk_buff *skb, struct Qdisc *sch, enum watch_kind kind, bool is_drop) {
-    struct sums_event *event = begin_event(key, queue, is_drop ? SUMS_DROPPED : SUMS_MARKED);
+    struct sums_event *event = begin_event(key, queue, is_drop ? SUMS_DROPPED : SUMS_MARKED, SUMS_PACKET);
     struct pie_vars vars = {};
     if (event == NULL)
         return;
@@ -363,8 +382,9 @@ static __always_inline void tell_packet(u64 key, struct sums_queue *queue, struc
 /* Returns false if the queue's counter of marks is the one of its last packet, as far as `marks` has it. A search in the map would need ten times the
  * instructions. */
 static __always_inline bool may_be_marked(u64 key, u32 marked) {
-    u64 last = (u64)(u32)(key >> 3) << 32 | marked;
-    u64 *at = &marks[(u32)(key >> 3) * 0x9e3779b1u >> 20 & (MARKS - 1)];
+    u32 half = half_of(key);
+    u64 last = (u64)half << 32 | marked;
+    u64 *at = mark_of(half);
     if (*at == last)
         return false;
     *at = last;

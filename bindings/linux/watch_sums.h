@@ -13,7 +13,7 @@
 #define SUMS_QUEUES 262144 /* queues at a time */
 #define SUMS_WAITS 13      /* buckets of waits: the bound of bucket n is 250 us << n, and the last one has no bound */
 #define SUMS_FIRST 250000  /* ns */
-#define SUMS_RECENT 16     /* events of a queue that `pie-watch top` keeps */
+#define SUMS_RECENT 12     /* events of a queue that `pie-watch top` keeps */
 
 /* Counters of the kernel, in 64 bits. `early` includes packets that were dropped because they cannot be marked. */
 struct sums_counts {
@@ -45,7 +45,7 @@ enum sums_type { SUMS_CREATED = 1, SUMS_REMOVED, SUMS_DROPPED, SUMS_MARKED };
 
 enum sums_cause { SUMS_EARLY, SUMS_OVER };
 
-/* An event of a queue. SUMS_CREATED and SUMS_REMOVED have `queue`, the others `packet`. */
+/* An event of a queue. SUMS_CREATED and SUMS_REMOVED have `queue`. The others have `packet`, and SUMS_PACKET bytes. */
 struct sums_event {
     u64 ns;
     u64 key; /* the address of the queue's parameters */
@@ -67,5 +67,7 @@ struct sums_event {
         } packet;
     };
 };
+
+#define SUMS_PACKET (__builtin_offsetof(struct sums_event, packet) + sizeof(((struct sums_event *)0)->packet))
 
 #endif

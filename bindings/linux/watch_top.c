@@ -26,8 +26,8 @@
 
 /* The last events of a queue. */
 struct recent {
-    u32 number, count; /* `count` events were seen; the last ones are in `events`, the newest at (count - 1) % SUMS_RECENT */
-    struct sums_event *events;
+    u32 count; /* of seen events. The last ones, of SUMS_PACKET bytes each, are in `events`, the newest at (count - 1) % SUMS_RECENT */
+    unsigned char *events;
 };
 
 /* A queue on the page: its last reading, and its numbers for a second since the reading before. */
@@ -157,9 +157,9 @@ static void take(void *user, const struct sums_event *event) {
     }
     recent = &page->recents[event->number];
     if (recent->events == NULL)
-        recent->events = calloc(SUMS_RECENT, sizeof *recent->events);
+        recent->events = calloc(SUMS_RECENT, SUMS_PACKET);
     if (recent->events != NULL)
-        recent->events[recent->count++ % SUMS_RECENT] = *event;
+        memcpy(recent->events + recent->count++ % SUMS_RECENT * SUMS_PACKET, event, SUMS_PACKET);
 }
 
 /* ---- the screen */
@@ -255,7 +255,7 @@ static void draw_detail(const struct page *page) {
     line(row++, A_REVERSE, "%9s  %-34s %6s %-4s %s", "AGO s", "CAUSE", "BYTES", "ECN", "PACKET");
     const struct recent *recent = queue != NULL && queue->number < page->recents_count ? &page->recents[queue->number] : NULL;
     for (u32 i = 1; recent != NULL && i <= recent->count && i <= SUMS_RECENT && row < LINES - 1; i++) {
-        const struct sums_event *event = &recent->events[(recent->count - i) % SUMS_RECENT];
+        const struct sums_event *event = (const struct sums_event *)(recent->events + (recent->count - i) % SUMS_RECENT * SUMS_PACKET);
         line(row++, A_NORMAL, "%9.3f  %-34.34s %6u %-4s %s", (double)(long long)(page->now.ns - event->ns) / 1e9, drops_cause(event, cause, sizeof cause), event->packet.size,
              drops_ecn(event), drops_addresses(event, addresses, sizeof addresses));
     }

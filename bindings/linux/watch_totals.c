@@ -164,7 +164,7 @@ static void load_programs(struct watch_sums_bpf *bpf) {
 
 static int take_item(void *user, void *item, size_t bytes) {
     struct totals *totals = user;
-    if (bytes >= sizeof(struct sums_event))
+    if (bytes >= SUMS_PACKET)
         totals->take(totals->user, item);
     return 0;
 }

@@ -9,6 +9,7 @@ watch_made.c. bindings/linux/summed.sh compares them with the kernel's queues.
 - The labels of a class come before those of its device; wrong lines are refused.
 - The screen in tmux at 80 by 24: orders, filter, last drops with their causes, an empty page, and 10,000 queues.
 - Each row of --drops has each column.
+- The BPF programs of watch_sums.bpf.c, in user space: watch_sums.c.
 
 With --mutants, each wrong line of watch_mutants.txt must be noticed; FIRST is the number of the first one.
 
@@ -180,7 +181,8 @@ def check_server(program, work):
         expect("/", server.get("/")[0:2], (200, "text/html"))
         expect("/other", server.get("/other")[0], 404)
         expect("POST", server.get("/metrics", "POST")[0], 405)
-        expect("an order x", server.get("/queues?sort=x")[0], 400)
+        for wrong in ("sort=x", "most=0", "most=", "most=5x", "sort=wait&most=x"):
+            expect(f"/queues?{wrong}", server.get(f"/queues?{wrong}")[0], 400)
         check_process(server)
     with Server(program, labels, 2) as server:
         compare_metrics(metrics_of(server.get("/metrics")[2]), [1, 3], 5)
@@ -391,14 +393,29 @@ def build(work, planted=None):
     return program
 
 
+def check_sums(work, planted=None):
+    """Runs the BPF programs of watch_sums.bpf.c in user space, with queues that watch_sums.c makes."""
+    program, place = work / "watch_sums", planted.parent if planted is not None else LINUX
+    subprocess.run(["cc", "-std=gnu11", "-O1", "-w", f"-I{ROOT}/tests/libraries/watch_bpf", f"-I{place}", f"-I{LINUX}", "-o", program,
+                    ROOT / "tests/libraries/watch_sums.c"], check=True)
+    for seed in range(1, 5):
+        done = subprocess.run([program, str(seed)], capture_output=True, text=True)
+        expect(f"watch_sums {seed}", (done.returncode, "" if done.returncode == 0 else done.stdout), (0, ""))
+
+
 def check(planted=None):
     """Builds the program, and compares all."""
     faults.clear()
     with tempfile.TemporaryDirectory() as name:
         work = Path(name)
         os.chmod(work, 0o755)
-        program = build(work, planted)
+        is_bpf = planted is not None and planted.name.endswith(".bpf.c")
+        program = build(work, planted) if not is_bpf else None
         try:
+            if planted is None or is_bpf:
+                check_sums(work, planted)
+            if is_bpf:
+                return list(faults)
             check_labels(program, work)
             check_drops(program, work)
             check_server(program, work)

@@ -1,0 +1,1 @@
+/* In place of libbpf's header: bpf_helpers.h has all. */

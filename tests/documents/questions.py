@@ -8,7 +8,9 @@ another version and two rows of one run are refused. The waits of a run are thos
 The answers come from invented rows of which each verdict is known, with Holm's correction; rows of two versions, a run that is missing, and a run
 that is there twice are refused. Each number of the tables is computed again from the rows.
 needs: nothing"""
+import contextlib
 import csv
+import io
 import os
 import random
 import re
@@ -141,7 +143,8 @@ def check_rows(folder):
     queues.PLAN = folder / "PLAN.md"
     queues.PLAN.write_text(f"This plan names {VERSION}.")
     queues.TOP = folder
-    queues.store(folder)
+    with contextlib.redirect_stdout(io.StringIO()):
+        queues.store(folder)
     queues.PLAN, queues.TOP, queues.version = known_plan, known_top, known
     check(not rows_in(folder) and len(questions.read(queues.STORED)) == 2, "rows are not moved to those that are stored")
     check(queues.Rows(folder, VERSION).keys == {("one", "stamp", 1), ("one", "stamp", 2)}, "a stored run would be made again")
@@ -215,6 +218,15 @@ def check_answers():
     alone = questions.Comparison("one", "wait", "stamp", "codel", [1, 1.1, 0.9, 1], [4, 4.1, 3.9, 4.3])
     questions.judge([alone])
     check(alone.verdict == "better", f"a difference of three margins is {alone.verdict}")
+
+    # Holm's correction of three shares: 5 % over three, over two, and 5 %
+    for shares, wanted in (((0.016, 0.024, 0.049), 3), ((0.016, 0.026, 0.03), 1), ((0.017, 0.018, 0.019), 0), ((0.049, 0.001, 0.024), 3)):
+        several = [questions.Comparison("one", "wait", "stamp", "codel", [1, 3], [1, 2]) for _ in shares]
+        for it, share in zip(several, shares):
+            it.share = share
+        questions.judge(several)
+        found = sum(it.verdict == "worse" for it in several)
+        check(found == wanted, f"of the shares {shares}, {found} are confirmed and not {wanted}")
 
     text, pictures = questions.page(questions.checked(plain))
     check(text.count("\n|`") > 150 and len(pictures) == 9 and all("<svg" in it for it in pictures.values()), "the page lacks tables or pictures")

@@ -6,7 +6,7 @@ _pie() {
     else
         case $subcommand in
             run) words='--count --progress --output --force --help' ;;
-            audit) words='--joined --json --progress --help' ;;
+            audit) words='--joined --json --queue --progress --help' ;;
             migrate) words='--progress --output --force --help' ;;
             explain) words='--event --tag --lost --marked --all --queue --from --to --summary --every --full --flows --digest --csv --json --wall --progress --output --force --help' ;;
             cut) words='--from --to --event --around --last --every --progress --output --force --help' ;;

@@ -23,7 +23,7 @@ complete -c pie -n '__fish_seen_subcommand_from explain' -l tag -x -d 'events of
 complete -c pie -n '__fish_seen_subcommand_from explain' -l lost -d 'arrivals of dropped packets'
 complete -c pie -n '__fish_seen_subcommand_from explain' -l marked -d 'arrivals of marked packets'
 complete -c pie -n '__fish_seen_subcommand_from explain' -l all -d 'all events'
-complete -c pie -n '__fish_seen_subcommand_from explain' -l queue -x -d 'steps of this queue of a text of pie-watch'
+complete -c pie -n '__fish_seen_subcommand_from audit explain' -l queue -x -d 'steps of this queue of a text of pie-watch'
 complete -c pie -n '__fish_seen_subcommand_from explain' -l from -x -d 'events at or after this moment or time'
 complete -c pie -n '__fish_seen_subcommand_from explain' -l to -x -d 'events at or before this moment or time'
 complete -c pie -n '__fish_seen_subcommand_from explain' -l summary -d 'one summary of the selected events'

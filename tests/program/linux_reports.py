@@ -10,7 +10,7 @@ same flow; the verdict and the cause of an arrival follow from the recorded resu
   CSV. `--digest` has the summaries, and the lost and marked packets.
 - In words, `--tag`, `--from`, `--to` and `--queue` choose among the packets of `--all`.
 - The rows of other queues are not decided. A queue that the text lacks is an error, and so is `--queue` with a history.
-- A step that differs ends each report: what comes before it is written.
+- A step that differs is left out, and so are the later steps of its queue up to the next row init or resume. All other steps are reported.
 
 usage: tests/program/linux_reports.py [PROGRAM]      PROGRAM: crates/pie/out/pie by default
 needs: program
@@ -316,12 +316,14 @@ name = QUEUES[0]
 at = next(at for at, row in enumerate(ROWS) if row[0] != name and row[COLUMNS.index("type")] == "calc")
 prob = COLUMNS.index("a_prob")
 wrong = [*ROWS[:at], [*ROWS[at][:prob], str(int(ROWS[at][prob] or 0) + 1), *ROWS[at][prob + 1 :]], *ROWS[at + 1 :]]
-before = [row for row in RECORDS if int(row["number"]) < at + 1]
+again = next((later for later in range(at + 1, len(ROWS)) if ROWS[later][0] == ROWS[at][0] and ROWS[later][COLUMNS.index("type")] in ("init", "resume")), len(ROWS))
+left = [row for row in RECORDS if not (at < int(row["number"]) <= again and ROWS[int(row["number"]) - 1][0] == ROWS[at][0])]
+check(at < again < len(ROWS) and 0 < len(left) < len(RECORDS), "no step of the queue of row", at, "is left out, or none is reported after", again)
 for words in (["--all"], ["--summary"], ["--every=1s"], ["--flows=5"], ["--digest"]):
     status, output, errors = run(*words, "--csv", rows=wrong)
     check(status == 2 and errors.startswith(f"pie: event {at + 1} is not what the rules give there") and f"a_prob is recorded as" in errors, words, status, errors)
-    check(words != ["--all"] or list(csv.DictReader(io.StringIO(output))) == before, words, "has other events before the step that differs")
-    check(words != ["--summary"] or next(csv.DictReader(io.StringIO(output)))["events"] == str(len(before)), words, output)
+    check(words != ["--all"] or list(csv.DictReader(io.StringIO(output))) == left, words, "reports other events than those that are not left out")
+    check(words != ["--summary"] or next(csv.DictReader(io.StringIO(output)))["events"] == str(len(left)), words, output)
     check(run(*words, "--csv", "--queue", name, rows=wrong) == run(*words, "--csv", "--queue", name), words, "of another queue than the one that differs")
 for words in (["--all"], ["--summary"], ["--lost"], ["--all", "--csv"]):
     status, output, errors = run(*words, "--queue", "x")

@@ -8,6 +8,8 @@ segments of one packet).
 - If one recorded number is changed, standard output has the event, and standard error its queue, step and column, the changed number and the right
   one. For each type of step, each column that the program compares is changed once.
 - If an input is changed, a later number differs.
+- After a step that differs, the steps of its queue up to the next row `init` or `resume` are not decided; all others are. Each step that differs is
+  named, queue by queue, up to 100, and counted. A fault after them is reported after them. `--queue` audits one queue alone.
 - A missing row is found, and so is a queue that is not resumed after lost steps.
 - A text without a column or without a queue's first step, and a field that is no number, are refused.
 - `explain --lost` explains each packet that an enqueue, a lower limit or a reset dropped, with its cause; `--marked`, `--all` and `--event N` each chosen
@@ -24,9 +26,11 @@ needs: program
 """
 import csv
 import errno
+import json
 import random
 import sys
 import tempfile
+from collections import Counter
 from pathlib import Path
 
 sys.path.insert(0, str(Path(__file__).resolve().parents[1] / "shared"))
@@ -150,6 +154,79 @@ unresumed = run([*ROWS[: at + 1], *ROWS[at + 2 :]])
 told = f"pie: step {field(ROWS[at + 2], 'seq')} of queue {LOST[0][2]}: no row of the type init or resume is before it\n"
 check(unresumed == (1, "", told), "lost steps, not resumed:", unresumed)
 
+# several steps differ
+
+
+def undecided(rows, at):
+    """Returns the numbers of the events that are not decided after this row differs."""
+    its = [later for later in range(at, len(rows)) if rows[later][0] == rows[at][0]]
+    again = next((later for later in its[1:] if field(rows[later], "type") in ("init", "resume")), len(rows))
+    return {later + 1 for later in its if later < again}
+
+
+def told(rows, places, name="a_prob", file="", before=1):
+    """Returns the status, the output and the error stream of an audit of rows of which these differ."""
+    place = COLUMNS.index(name)
+    lines = {at: differs(at, name, int(rows[at][place] or 0) + 1, int(rows[at][place] or 0), rows, file) for at in places}
+    numbered = [lines[at].replace("queue ", f"event {at + 1}, queue ", 1) for queue in dict.fromkeys(rows[at][0] for at in places) for at in places[:100] if rows[at][0] == queue and at not in places[:before]]
+    more = [f"pie: events that differ: {len(places)}\n"] if len(places) > 1 else []
+    beyond = [f"pie: further events that differ: {len(places) - 100}\n"] if len(places) > 100 else []
+    return 2, f"differs,{places[0] + 1}\n", "".join([*[lines[at] for at in places[:before]], *more, *numbered, *beyond])
+
+
+def wrong_at(rows, places, name="a_prob"):
+    place = COLUMNS.index(name)
+    return [[*row[:place], str(int(row[place] or 0) + 1), *row[place + 1 :]] if at in places else row for at, row in enumerate(rows)]
+
+
+updates = [at for at, row in enumerate(ROWS) if field(row, "type") == "calc"]
+chosen, over = [], set()
+for at in updates:
+    if at + 1 not in over:
+        chosen.append(at)
+        over |= undecided(ROWS, at)
+check(len(chosen) > 9 and len({ROWS[at][0] for at in chosen}) > 5 and max(Counter(ROWS[at][0] for at in chosen).values()) > 2, "steps that differ:", chosen)
+one_queue = [at for at in chosen if ROWS[at][0] == ROWS[chosen[1]][0]][:2]
+two_queues = [chosen[0], next(at for at in chosen if ROWS[at][0] != ROWS[chosen[0]][0])]
+for what, places in (("one", chosen[:1]), ("two in one queue", one_queue), ("two in two queues", two_queues), ("all that can", chosen)):
+    got = run(wrong_at(ROWS, places))
+    check(got == told(ROWS, places), what, "of the steps differ:", got, told(ROWS, places))
+got = run(wrong_at(ROWS, updates))
+check(got == told(ROWS, chosen), "all updates differ:", got)
+resumed = next(at for at in range(one_queue[0], len(ROWS)) if ROWS[at][0] == ROWS[one_queue[0]][0] and field(ROWS[at], "type") == "resume")
+got = run(wrong_at(ROWS[: resumed + 1], one_queue[:1]))
+check(got == told(ROWS, one_queue[:1]) and one_queue[0] < resumed < one_queue[1], "a step that differs, then resume:", got)
+for name in dict.fromkeys(row[0] for row in ROWS if row[0] != "lost"):
+    its = [at for at in chosen if ROWS[at][0] == name]
+    its_lost = sum(int(row[1]) for row in LOST if row[2] == name)
+    want = told(ROWS, its) if its else (0, f"clean,{len(ROWS)}\n", f"pie: steps that were lost when the text was recorded: {its_lost}\n" if its_lost else "")
+    got = run(wrong_at(ROWS, chosen), words=["audit", "--queue", name])
+    check(got == want, "the queue", name, "alone:", got, want)
+check(run(ROWS, words=["audit", "--queue", "x"]) == (1, "", "pie: the text has no queue x\n"), "no queue:", run(ROWS, words=["audit", "--queue", "x"]))
+got = run_program(["audit", "--queue", "x"], run_program(["run"], TRACE)[1])
+check(got == (1, b"", b"pie: --queue is only for a text of pie-watch\n"), "a history with --queue:", got)
+# two queues again and again, one step of each wrong each time: each is counted, and 100 are named
+repeated = mixed * 160
+its = [at for at, row in enumerate(repeated) if field(row, "type") == "enq"]
+chosen_again, over = [], {}
+for at in its:
+    if over.get(repeated[at][0], -1) < at // len(mixed):
+        chosen_again.append(at)
+        over[repeated[at][0]] = at // len(mixed)
+got = run(wrong_at(repeated, chosen_again, "qlen0"))
+check(len(chosen_again) > 256 and got == told(repeated, chosen_again, "qlen0"), len(chosen_again), "steps differ:", got[:2], got[2][:400], got[2][-200:])
+# a fault after them
+faulty = [*wrong_at(ROWS, one_queue), ROWS[-1][:-1]]
+lines = "".join(differs(at, "a_prob", int(field(ROWS[at], "a_prob")) + 1, int(field(ROWS[at], "a_prob"))).replace("queue ", f"event {at + 1}, queue ", 1) for at in one_queue)
+got = run(faulty)
+check(got == (1, "", f"pie: events that differ: 2\n{lines}pie: record {len(ROWS) + 2}: wrong number of fields\n"), "two steps that differ before a fault:", got)
+# as JSON
+status, output, errors = run(wrong_at(ROWS, one_queue), words=["audit", "--json"])
+reasons = [differs(at, "a_prob", int(field(ROWS[at], "a_prob")) + 1, int(field(ROWS[at], "a_prob")))[5:-1] for at in one_queue]
+numbers = [{"recorded": int(field(ROWS[at], "a_prob")) + 1, "right": int(field(ROWS[at], "a_prob")), "reason": reason} for at, reason in zip(one_queue, reasons)]
+want = {"file": "-", "finding": "differs", "event": one_queue[0] + 1, **numbers[0], "differences": 2, "others": [{"event": one_queue[1] + 1, **numbers[1]}]}
+check((status, json.loads(output), errors) == (2, want, told(ROWS, one_queue)[2]), "JSON of two steps that differ:", output, want)
+
 # an arrival after the device returned 22 packets. The text has no column rq, so that their number is taken from the row; pie's backlog has their bytes
 at = next(at for at, row in enumerate(ROWS) if row[0] == "eth0/1:/0" and field(row, "type") == "enq")
 bytes_before = COLUMNS.index("bl0")
@@ -219,13 +296,18 @@ check(explained("--event", str(update + 1)) == (1, [], f"{WERE_LOST}pie: event {
 beyond = len(ROWS) + 1
 check(explained("--event", str(beyond)) == (1, [], f"{WERE_LOST}pie: there is no event {beyond}: the text has {len(ROWS)} events\n"), "no event:", explained("--event", str(beyond)))
 
-# the packets before a step that differs are explained
-at = dropped[-1][0]
-rows, recorded, wrong = changed(at, "qlen0")
-refusal = f"pie: event {at + 1} is not what the rules give there, so it and later events are not explained\n"
-before = [block for block in blocks if int(block.split(":")[0][6:]) < at + 1]
+# the packets of other steps than those that are not decided are explained
+for at in (dropped[0][0], dropped[len(dropped) // 2][0], dropped[-1][0]):
+    rows, recorded, wrong = changed(at, "qlen0")
+    refusal = f"pie: event {at + 1} is not what the rules give there, so it and its queue's events up to the next init or resume are not explained\n"
+    others = [block for block in blocks if int(block.split(":")[0][6:]) not in undecided(ROWS, at)]
+    got = explained("--lost", rows=rows)
+    check(got == (2, others, refusal + differs(at, "qlen0", wrong, recorded)) and others, "a step that differs:", at, got[0], len(got[1]), got[2])
+first_row, second_row = dropped[0][0], dropped[-1][0]
+rows[first_row] = changed(first_row, "qlen0")[0][first_row]
 got = explained("--lost", rows=rows)
-check(got == (2, before, refusal + differs(at, "qlen0", wrong, recorded)) and before, "a step that differs:", got[0], len(got[1]), got[2])
+others = [block for block in blocks if int(block.split(":")[0][6:]) not in undecided(ROWS, first_row) | undecided(ROWS, second_row)]
+check(got[:2] == (2, others) and got[2].endswith("\npie: events that differ: 2\n"), "two steps that differ:", got[0], len(got[1]), got[2])
 
 two = "pie: explain takes only one of --event N, --tag T, --lost, --marked and --all; see pie explain --help\n"
 got = run(ROWS, words=["explain", "--lost", "--all"])

@@ -7,12 +7,12 @@ use crate::end::{End, end_with_fault};
 use crate::files::{NamedFiles, Source, open_text};
 use crate::joint::report_joint;
 use crate::name::InLine;
-use crate::options::flag;
+use crate::options::{flag, text};
 use crate::progress::{ProgressReader, Screen, shows_progress};
-use crate::steps::{audit_steps, finding_of};
+use crate::steps::{NoQueue, QUEUE_OF_STEPS, audit_steps, finding_of, lacks_queue};
 use pie_audit::Finding;
 use pie_cut::{Joined, Joint, TextEnd, UnlikeRecords, audit_joined};
-use pie_linux_history::{StepsFault, StepsFinding};
+use pie_linux_history::{Differences, StepsAudit, StepsFinding};
 use pie_trace::TraceFault;
 use std::io;
 use std::io::{Read, Write};
@@ -26,26 +26,37 @@ pub(crate) struct Audited {
     pub(crate) joined: Joined,
     /// The finding of recorded steps of Linux.
     pub(crate) steps: Option<StepsFinding>,
+    /// The differences of recorded steps of Linux.
+    pub(crate) differences: Option<Differences>,
     /// The records that differ at a joint.
     unlike: Option<UnlikeRecords>,
 }
 
-/// Returns the result of an audit of recorded steps in the file `name`, if it has a name, as `audit_text` does.
+/// Returns the result of an audit of recorded steps of the chosen `queue` in the file `name`, if it has a name, as `audit_text` does.
 fn audited_steps<H: NamedFiles + Screen, R: Read + Drop, E: Write>(
     call: &mut Call<'_, '_, '_, '_, H, R, E>,
     name: Option<&str>,
-    found: Result<StepsFinding, StepsFault>,
+    queue: Option<&str>,
+    audit: StepsAudit,
 ) -> Result<Audited, End> {
-    match found {
-        Ok(found) => Ok(Audited {
+    match (audit.finding, queue) {
+        (Ok(found), Some(chosen)) if lacks_queue(queue, found) => {
+            call.line(name, NoQueue(chosen));
+            Err(End::Failed)
+        }
+        (Ok(found), _) => Ok(Audited {
             joined: Joined {
                 finding: finding_of(found),
                 joint: None,
             },
             steps: Some(found),
+            differences: Some(audit.differences),
             unlike: None,
         }),
-        Err(why) => Err(call.end_of_steps(name, name, why)),
+        (Err(why), _) => {
+            call.report_differences(name, &audit.differences, 0);
+            Err(call.end_of_steps(name, name, why))
+        }
     }
 }
 
@@ -55,23 +66,25 @@ fn audited_steps<H: NamedFiles + Screen, R: Read + Drop, E: Write>(
 fn audit_text<H: NamedFiles + Screen, R: Read + Drop, E: Write>(
     call: &mut Call<'_, '_, '_, '_, H, R, E>,
     name: Option<&str>,
-    text: Source<R, H::File>,
+    reader: Source<R, H::File>,
     end: &mut Option<TextEnd>,
 ) -> Result<Audited, End> {
     let (rt, alloc, are_joined) = (call.rt, call.alloc, flag(call.options, "joined"));
+    let queue = text(call.options, "queue");
     let is_shown = shows_progress(rt, call.options, false);
-    let (watched, kind) = ProgressReader::recognizing(text, &mut *call.errors, rt, is_shown);
+    let (watched, kind) = ProgressReader::recognizing(reader, &mut *call.errors, rt, is_shown);
     match kind {
-        Ok(false) => {}
-        Ok(true) => {
+        Ok(false) if queue.is_none() => {}
+        Ok(true) if !are_joined => {
             *end = None;
-            if are_joined {
-                drop(watched);
-                call.line(name, NOT_JOINED);
-                return Err(End::Failed);
-            }
-            let found = audit_steps(alloc, watched);
-            return audited_steps(call, name, found);
+            let audit = audit_steps(alloc, watched, queue);
+            return audited_steps(call, name, queue, audit);
+        }
+        Ok(is_steps) => {
+            drop(watched);
+            *end = None;
+            call.line(name, if is_steps { NOT_JOINED } else { QUEUE_OF_STEPS });
+            return Err(End::Failed);
         }
         Err(why) => {
             drop(watched);
@@ -89,6 +102,7 @@ fn audit_text<H: NamedFiles + Screen, R: Read + Drop, E: Write>(
         Ok(joined) => Ok(Audited {
             joined,
             steps: None,
+            differences: None,
             unlike,
         }),
         Err(why) => Err(call.end_of_text(name, name, why)),
@@ -156,10 +170,13 @@ fn report<H: NamedFiles + Screen, R: Read + Drop, E: Write>(
     audited: &Audited,
     details: &Option<Details>,
 ) {
-    match audited.steps {
-        Some(StepsFinding::Clean(counts)) => call.report_lost(name, counts),
-        Some(StepsFinding::Differs(found)) => call.line(name, found),
-        None => {}
+    match (audited.steps, &audited.differences) {
+        (Some(StepsFinding::Clean(counts)), _) => call.report_lost(name, counts),
+        (Some(StepsFinding::Differs { first, .. }), Some(found)) => {
+            call.line(name, first);
+            call.report_differences(name, found, 1);
+        }
+        _ => {}
     }
     let Some(name) = name else {
         return;

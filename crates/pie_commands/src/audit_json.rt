@@ -5,7 +5,7 @@ use crate::difference::Details;
 use crate::json::write_string;
 use pie_audit::Finding;
 use pie_cut::Joint;
-use pie_linux_history::{StepDifference, StepsFinding};
+use pie_linux_history::{Differences, StepDifference, StepsFinding};
 use pie_record::RowBuffer;
 use std::alloc::Global;
 use std::io;
@@ -37,6 +37,22 @@ fn put_step<W: Write>(alloc: Global, found: &StepDifference, output: &mut W) -> 
         ",\"recorded\":{recorded},\"right\":{right},\"reason\":"
     )?;
     write_string(output, text.as_bytes())
+}
+
+/// Writes the number of steps that differ, if there are several, and an object for each that is kept after the first one.
+fn put_others<W: Write>(alloc: Global, found: &Differences, output: &mut W) -> io::Result<()> {
+    if found.count < 2 {
+        return Ok(());
+    }
+    write!(output, ",\"differences\":{},\"others\":", found.count)?;
+    for place in 1..found.first.len() {
+        let one = &found.first[place];
+        output.write_all(if place == 1 { b"[" } else { b"," })?;
+        write!(output, "{{\"event\":{}", one.event)?;
+        put_step(alloc, one, output)?;
+        output.write_all(b"}")?;
+    }
+    output.write_all(b"]")
 }
 
 /// Writes the members of a joint, if there is one.
@@ -77,8 +93,11 @@ pub(crate) fn write_object<W: Write>(
             let lost = counts.lost;
             write!(output, ",\"lost\":{lost}")?;
         }
-        Some(StepsFinding::Differs(found)) => put_step(alloc, found, output)?,
+        Some(StepsFinding::Differs { first, .. }) => put_step(alloc, first, output)?,
         _ => {}
+    }
+    if let Some(found) = &audited.differences {
+        put_others(alloc, found, output)?;
     }
     put_joint(audited.joined.joint, output)?;
     output.write_all(b"}\n")?;

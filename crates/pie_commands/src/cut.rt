@@ -153,9 +153,9 @@ fn end_of_steps<H: NamedFiles + Screen, R: Read + Drop, E: Write>(
     match outcome {
         Ok((0, StepsFinding::Clean(_))) => call.failed(CutFault::NoEvents),
         Ok((_, StepsFinding::Clean(_))) => End::Done,
-        Ok((_, StepsFinding::Differs(found))) => {
-            let event = found.event;
-            call.end_at_step(CutFault::Differs { event }, found)
+        Ok((_, StepsFinding::Differs { first, .. })) => {
+            let event = first.event;
+            call.end_at_step(CutFault::Differs { event }, first)
         }
         Err(why) => call.end_of_steps(None, file(call.options), why),
     }

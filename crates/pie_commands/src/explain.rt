@@ -10,7 +10,7 @@ use crate::json::JsonWriter;
 use crate::options::{bounds_of, file, flag, moment, number, parsed, report_two, text};
 use crate::progress::{ProgressReader, Screen, shows_progress, writes_to_terminal};
 use crate::reports::{OtherReport, as_digest, by_flow, in_words};
-use crate::steps::{explain_steps, lacks_queue};
+use crate::steps::{QUEUE_OF_STEPS, explain_steps, lacks_queue};
 use clap::ArgMatches;
 use pie_explain::{
     ByFlow, Digest, EventChoice, EventRecords, ExplainFault, Form, LineStyle, Selection,
@@ -27,9 +27,6 @@ const ONE_CHOICE: &str =
 
 /// The message for an interval of length 0.
 const NO_PERIOD: &str = "--every: the interval must be at least 1 ns";
-
-/// The message for `--queue` with a history.
-const QUEUE_OF_STEPS: &str = "--queue is only for a text of pie-watch";
 
 /// Returns the length of an interval in these options, if it is valid.
 fn every_of(options: &ArgMatches<'_>) -> Option<u64>
@@ -279,17 +276,14 @@ fn end_of_steps<H: NamedFiles + Screen, R: Read + Drop, W: Write, E: Write>(
     match outcome {
         Ok(StepsExplained { count, finding }) => match finding {
             StepsFinding::Clean(counts) => call.end_of_clean_steps(selection, queue, count, counts),
-            StepsFinding::Differs(found) => {
-                let event = found.event;
-                call.end_at_step(ExplainFault::Differs { event }, found)
-            }
+            StepsFinding::Differs { first, count } => call.end_of_differing_steps(first, count),
         },
         Err(why) => call.end_of_steps(None, file(call.options), why),
     }
 }
 
 /// `pie explain`: explains the chosen events of the text in the file that the options name, or in standard input,
-/// up to its first fault or the first event that differs. Returns a difference as `End::Differs`. If the text has a
+/// up to its first fault or a history's first event that differs. Returns a difference as `End::Differs`. If the text has a
 /// fault, the options choose events more than once, no event matches, or the reader, the writer or memory fails, the end
 /// is an error. Each error has a line on the error stream; a writer's fault is reported later (`End::report`). On a
 /// terminal the header of lines is repeated, and lines are coloured unless the user wants no colours.

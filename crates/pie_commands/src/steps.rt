@@ -11,18 +11,61 @@ use crate::progress::Screen;
 use pie_audit::Finding;
 use pie_explain::{Digest, EventChoice, ExplainFault, Selection, SummariesOnly};
 use pie_linux_history::{
-    PacketWords, StepPieces, StepsCounts, StepsExplained, StepsFault, StepsFinding, report,
+    Differences, PacketWords, StepDifference, StepPieces, StepsAudit, StepsCounts, StepsExplained,
+    StepsFault, StepsFinding, report,
 };
 use std::alloc::Global;
+use std::fmt;
+use std::fmt::Display;
 use std::io::{Read, Write};
+
+/// The message for `--queue` with a history.
+pub(crate) const QUEUE_OF_STEPS: &str = "--queue is only for a text of pie-watch";
+
+/// The line about a chosen queue that the text lacks.
+#[derive(Clone, Copy)]
+pub(crate) struct NoQueue<'n>(pub(crate) &'n str);
+
+impl Display for NoQueue<'_> {
+    fn fmt<W: fmt::Write>(&self, f: &mut fmt::Formatter<W>) -> fmt::Result {
+        let name = InLine(self.0);
+        write!(f, "the text has no queue {name}")
+    }
+}
+
+/// A step that differs, with the number of its event.
+#[derive(Clone, Copy)]
+struct Numbered(StepDifference);
+
+impl Display for Numbered {
+    fn fmt<W: fmt::Write>(&self, f: &mut fmt::Formatter<W>) -> fmt::Result {
+        let (event, found) = (self.0.event, self.0);
+        write!(f, "event {event}, {found}")
+    }
+}
+
+/// The line about the events that an explanation leaves out at a step that differs.
+#[derive(Clone, Copy)]
+struct LeftOut(u64);
+
+impl Display for LeftOut {
+    fn fmt<W: fmt::Write>(&self, f: &mut fmt::Formatter<W>) -> fmt::Result {
+        let event = self.0;
+        write!(
+            f,
+            "event {event} is not what the rules give there, so it and its queue's events up to the next init or resume are not explained"
+        )
+    }
+}
 
 /// Audits a text of recorded steps.
 #[inline(never)]
 pub(crate) fn audit_steps<R: Read + Drop>(
     alloc: Global,
     reader: R,
-) -> Result<StepsFinding, StepsFault> {
-    pie_linux_history::audit(alloc, reader)
+    queue: Option<&str>,
+) -> StepsAudit {
+    pie_linux_history::audit(alloc, reader, queue)
 }
 
 /// Returns the finding in the form of an audit of a history.
@@ -31,7 +74,7 @@ pub(crate) fn finding_of(found: StepsFinding) -> Finding {
         StepsFinding::Clean(counts) => Finding::Clean {
             events: counts.events,
         },
-        StepsFinding::Differs(found) => Finding::Differs { event: found.event },
+        StepsFinding::Differs { first, .. } => Finding::Differs { event: first.event },
     }
 }
 
@@ -79,7 +122,7 @@ pub(crate) fn cut_steps<R: Read + Drop, W: Write>(
 pub(crate) fn lacks_queue(queue: Option<&str>, finding: StepsFinding) -> bool {
     match finding {
         StepsFinding::Clean(counts) => queue.is_some() && counts.steps == 0 && counts.lost == 0,
-        StepsFinding::Differs(_) => false,
+        StepsFinding::Differs { .. } => false,
     }
 }
 
@@ -108,6 +151,43 @@ impl<H: NamedFiles + Screen, R: Read + Drop, E: Write> Call<'_, '_, '_, '_, H, R
         }
     }
 
+    /// Writes the number of steps that differ if there are several, and a line for each that is kept except the first `before` of
+    /// the text: queue by queue.
+    pub(crate) fn report_differences(
+        &mut self,
+        name: Option<&str>,
+        found: &Differences,
+        before: usize,
+    ) {
+        let (all, unnamed) = (&found.first, found.count.saturating_sub(found.first.len() as u64));
+        if found.count > 1 {
+            self.line(name, Counted("events that differ:", found.count));
+        }
+        for place in 0..all.len() {
+            let queue = &all[place].queue;
+            if all[..place].iter().any(|one| one.queue.equals(queue)) {
+                continue;
+            }
+            for other in place.max(before)..all.len() {
+                if all[other].queue.equals(queue) {
+                    self.line(name, Numbered(all[other]));
+                }
+            }
+        }
+        if unnamed > 0 {
+            self.line(name, Counted("further events that differ:", unnamed));
+        }
+    }
+
+    /// Returns the end of an explanation of recorded steps of which this number differ, and this one first. Writes lines about them.
+    pub(crate) fn end_of_differing_steps(&mut self, first: StepDifference, count: u64) -> End {
+        let end = self.end_at_step(LeftOut(first.event), first);
+        if count > 1 {
+            fault(self.errors, Counted("events that differ:", count));
+        }
+        end
+    }
+
     /// Returns the end of a clean text of recorded steps, of which `count` packets or events were selected. Writes why none was
     /// selected, if one event, the packets of one tag, or a queue that the text lacks was chosen.
     pub(crate) fn end_of_clean_steps(
@@ -121,7 +201,7 @@ impl<H: NamedFiles + Screen, R: Read + Drop, E: Write> Call<'_, '_, '_, '_, H, R
         let events = counts.events;
         match (queue, selection.which) {
             (Some(name), _) if lacks_queue(queue, StepsFinding::Clean(counts)) => {
-                let _ = writeln!(self.errors, "pie: the text has no queue {}", InLine(name));
+                fault(self.errors, NoQueue(name));
             }
             _ if count > 0 => return End::Done,
             (Some(name), EventChoice::Tag(_) | EventChoice::Number(_)) => {

@@ -83,7 +83,7 @@ impl Rows {
     fn bad_number(&self, alloc: Global) -> Option<usize> {
         for place in 0..self.fields.len() {
             let text = self.text_to(alloc, place.saturating_add(1)).ok()?;
-            let found = audit_steps(alloc, text.as_slice());
+            let found = audit_steps(alloc, text.as_slice(), None).finding;
             if matches!(found, Err(StepsFault::Trace(TraceFault::Number { .. }))) {
                 return Some(place);
             }

@@ -75,7 +75,7 @@ on-by plan entries row (Ok one) queues page now written more takes added counted
 -- the finding of a row that is taken
 abbrev pub finding_of_row : Result (Option StepDifference) StepsFault → Result (Option StepsFinding) StepsFault
 finding_of_row (Ok None) = Ok None
-finding_of_row (Ok (Some found)) = Ok (Some (Differs found))
+finding_of_row (Ok (Some found)) = Ok (Some (Differs found 1))
 finding_of_row (Err why) = Err why
 
 row-cut : (plan : Plan) (entries : List Entry) (row : Row) (taken : Result (Option StepDifference) StepsFault) (queues : Queues) (page now : List ℕ) (written more : ℕ)

@@ -7,15 +7,15 @@ use Rattle.std.specs.Prelude.{zero, suc, true, false, Some, None, if◌then◌el
 use Rattle.std.specs.Option.{option_map}
 use Rattle.std.specs.Str.{bytes_eq}
 use Rattle.std.proofs.lemmas.Slice.Eq.{bytes_eq-Decides}
+use Rattle.pie_linux_history.specs.declared.decided.Taken.{Taken}
 use Rattle.pie_linux_history.specs.declared.explained.Decision.{Decision}
 use Rattle.pie_linux_history.specs.declared.known.Known.{Known}
 use Rattle.pie_linux_history.specs.declared.step.QueueName.{QueueName}
 use Rattle.pie_linux_history.specs.declared.step.Step.{Step}
 use Rattle.pie_linux_history.specs.Cuts.{has_name, names_after, names_of, with_name, without_name}
+use Rattle.pie_linux_history.specs.Decided.{numbers_of, taken_by}
 use Rattle.pie_linux_history.specs.Known.{IsPlaceOf, Represents, known_names, looked_up, tracked}
-use Rattle.pie_linux_history.specs.LookBack.{Entry, Followed, Lost, Skipped, Took, begun, follow, followed, is_opening, name_of, since_last, steps_of}
-use Rattle.pie_linux_history.specs.Queue.{Stepped, last_after, next_step}
-use Rattle.pie_linux_history.specs.Views.{QueueView}
+use Rattle.pie_linux_history.specs.LookBack.{Entry, Followed, Lost, Skipped, Took, begun, follow, followed, is_opening, name_of, next_of, since_last, steps_of}
 use Rattle.pie_linux_history.proofs.LookBackFacts.{followed-begun, followed-lost, followed-other, followed-step}
 
 -- ---- names
@@ -105,10 +105,6 @@ place-within name (known ∷ rest) (suc place) at = let h = place-within name re
 
 -- ---- operations
 
-followed-same : (a b : ℕ) (p q : QueueView) → a ≡ b → p ≡ q
-    → (let found : Option Followed = Some (record { last = a; queue = p }) in found) ≡ Some (record { last = b; queue = q })
-followed-same a b p q e f = rw (e, f) refl
-
 -- another queue in the place of the one with its name
 pub looked-set : (queues : List Known) (place : ℕ) (name : List ℕ) (now : Known) (other : List ℕ) → IsPlaceOf name queues place → name_of now.name ≡ name
     → looked_up other (set queues place now) ≡ (if bytes_eq name other then Some (tracked now) else looked_up other queues)
@@ -139,24 +135,27 @@ name-at (first ∷ rest) zero name known at is = rw is ((bytes_eq-Decides (name_
 name-at (first ∷ rest) (suc place) name known at is = name-at rest place name known at.1 is
 
 -- a step of the queue in its place
-take-name : (name other : List ℕ) (queues : List Known) (known now : Known) (step : Step) (decision : Decision) (rest : Option Followed) (same : Bool)
-    → bytes_eq name other ≡ same → looked_up name queues ≡ Some (tracked known) → now.last ≡ last_after known.last step
-    → next_step known.last known.queue step ≡ record { queue = now.queue; decision = decision }
+take-name : (name other : List ℕ) (queues : List Known) (known now : Known) (step : Step) (rest : Option Followed) (same : Bool)
+    → bytes_eq name other ≡ same → looked_up name queues ≡ Some (tracked known) → tracked now ≡ follow (tracked known) step
     → (if same then Some (tracked now) else rest) ≡ (if same then option_map (λ was. follow was step) (looked_up other queues) else rest)
-take-name name other queues known now step decision rest true is found last made =
+take-name name other queues known now step rest true is found follows =
     let e : name ≡ other = (bytes_eq-Decides name other).0 is in
-    let q : now.queue ≡ (next_step known.last known.queue step).queue = sym (ap (λ (x : Stepped). x.queue) made) in
-    rw (← e, found) (followed-same now.last (last_after known.last step) now.queue (next_step known.last known.queue step).queue last q)
-take-name name other queues known now step decision rest false is found last made = refl
+    rw (← e, found) (ap (λ (x : Followed). let some : Option Followed = Some x in some) follows)
+take-name name other queues known now step rest false is found follows = refl
 
-pub looked-take : (queues : List Known) (place : ℕ) (name : List ℕ) (known now : Known) (step : Step) (decision : Decision) (other : List ℕ)
-    → IsPlaceOf name queues place → known ≡ get_or queues place known → now.name ≡ known.name → now.last ≡ last_after known.last step
-    → next_step known.last known.queue step ≡ record { queue = now.queue; decision = decision }
+pub looked-take : (queues : List Known) (place : ℕ) (name : List ℕ) (known now : Known) (step : Step) (other : List ℕ)
+    → IsPlaceOf name queues place → known ≡ get_or queues place known → now.name ≡ known.name → tracked now ≡ follow (tracked known) step
     → looked_up other (set queues place now)
     ≡ (if bytes_eq name other then option_map (λ was. follow was step) (looked_up other queues) else looked_up other queues)
-looked-take queues place name known now step decision other at is named last made =
+looked-take queues place name known now step other at is named follows =
     looked-set queues place name now other at (ap name_of named ∙ name-at queues place name known at is)
-    ∙ take-name name other queues known now step decision (looked_up other queues) (bytes_eq name other) refl (looked-at queues place name known at is) last made
+    ∙ take-name name other queues known now step (looked_up other queues) (bytes_eq name other) refl (looked-at queues place name known at is) follows
+
+-- its decision and the numbers around it
+pub taken-as : (was now : Followed) (step : Step) (decision : Decision) → decision ≡ (next_of was step).decision → now ≡ follow was step
+    → (let taken : Option Taken = Some (record { decision = decision; before = numbers_of was step; after = numbers_of now step }) in taken)
+    ≡ taken_by step (Some was)
+taken-as was now step decision decided follows = rw (decided, follows) refl
 
 -- a new name
 pushed : (known : Known) (rest : List Known) (name : List ℕ) (now : Known) (other : List ℕ) (here : Bool) → bytes_eq (name_of known.name) name ≡ here

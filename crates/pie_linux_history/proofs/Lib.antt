@@ -1,4 +1,5 @@
 mod Examples
+mod LookBackExamples
 pub mod ColumnFacts
 pub mod QueueFacts
 pub mod LookBackFacts

@@ -20,10 +20,11 @@ use Rattle.pie_linux_history.specs.declared.step.QueueName.{QueueName}
 use Rattle.pie_linux_history.specs.declared.step.Step.{Step}
 use Rattle.pie_linux_history.specs.declared.text.StepsFinding.{StepsFinding}
 use Rattle.pie_linux_history.specs.Audit.{Ends, Outcome}
-use Rattle.pie_linux_history.specs.Decided.{decided_by, decided_in, decided_of, dropped_in, for_each, plain, step_in, with_numbers}
+use Rattle.pie_linux_history.specs.Decided.{decided_by, decided_in, decided_of, dropped_in, for_each, number_of, plain, step_in, with_numbers}
 use Rattle.pie_linux_history.specs.Known.{HasRead, Leaves}
 use Rattle.pie_linux_history.specs.LookBack.{Entry}
-use Rattle.pie_linux_history.specs.Reports.{ExplainsIf, IsReport, IsTexts, IsWoven, ReportsEvents, ReportsPackets, ReportsThese, SaysEvents, Writes, all_selected, explained_packet, number_of, packet_if, packets_by, packets_in, packets_of, selected, selects, woven_of, woven_with}
+use Rattle.pie_linux_history.proofs.AuditFacts.{for-each-more, number-more}
+use Rattle.pie_linux_history.specs.Reports.{ExplainsIf, IsReport, IsTexts, IsWoven, ReportsEvents, ReportsPackets, ReportsThese, SaysEvents, Writes, all_selected, explained_packet, packet_if, packets_by, packets_in, packets_of, selected, selects, woven_of, woven_with}
 
 -- ---- text
 
@@ -86,14 +87,6 @@ grows-then {had} {has} text page mid now first second = record {
 }
 
 -- ---- rows
-
-for-each-more : {A : Type 0} (one : List Entry → Entry → List A) (before rest : List Entry) (entry : Entry)
-    → for_each one before (rest ++ entry ∷ []) ≡ for_each one before rest ++ one (before ++ rest) entry
-unfolding for_each
-for-each-more one before [] entry = rw (append-nil before, append-nil (one before entry)) refl
-for-each-more one before (first ∷ rest) entry =
-    rw (for-each-more one (before ++ first ∷ []) rest entry, append_assoc before (first ∷ []) rest)
-    (sym (append_assoc (one before first) (for_each one (before ++ first ∷ []) rest) (one (before ++ first ∷ rest) entry)))
 
 decided-none : decided_of [] ≡ []
 unfolding for_each
@@ -214,9 +207,6 @@ events-same {is_with} {selection} {text} entries entry page one it none was =
       text_is = record { plain = was.text_is.plain; says_it = rw same was.text_is.says_it; woven = rw woven was.text_is.woven };
       counted = rw same was.counted;
     })
-
-number-more : {A : Type 0} (all : List A) (one : A) (count : ℕ) → count ≡ number_of all → min (count + 1) (2 ^ 64 - 1) ≡ number_of (all ++ one ∷ [])
-number-more all one count is = rw (length-append, is) (omega arith)
 
 -- the text of a selected step, and of its packet
 text-more : {says : List Explained → List ℕ → Type 0} {is : ExplainedPacket → List ℕ → Type 0} {is_with : Bool} {selection : Selection} {text : List ℕ}

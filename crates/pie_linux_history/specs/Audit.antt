@@ -1,6 +1,7 @@
--- The rows of a text that are decided, in order up to the first fault or the first step that differs, and the finding.
+-- The rows of a text in order up to the first fault, the differences among them, and the finding.
 -- specs/LookBack.antt defines the queue of each step.
-use Rattle.std.specs.Prelude.{ℕ, ◌+◌, ◌%◌, ◌^◌, ◌≡◌, ◌++◌, ◌∷◌, if◌then◌else◌, List, [], Bool, false, Option, Some, None, IfSome, Result, Ok, Err}
+use Rattle.std.specs.Prelude.{ℕ, ◌+◌, ◌%◌, ◌^◌, ◌≡◌, ◌++◌, ◌∷◌, if◌then◌else◌, List, [], Bool, false, Option, Some, None, IfSome, Result, Ok, Err, take}
+use Rattle.std.specs.List.{cons_option}
 use Rattle.pie_record.specs.Text.{Row}
 use Rattle.pie_record.specs.Field.{fault_at, is_io_or_memory}
 use Rattle.pie_record.specs.declared.fault.RecordFault.{RecordFault}
@@ -11,11 +12,14 @@ use Rattle.pie_linux_history.specs.declared.explained.Decision.{Decision}
 use Rattle.pie_linux_history.specs.declared.fault.StepsFault.{StepsFault}
 use Rattle.pie_linux_history.specs.declared.fault.StepsFault.TheVariants.{NoStart, Trace}
 use Rattle.pie_linux_history.specs.declared.queues.StepDifference.{StepDifference}
+use Rattle.pie_linux_history.specs.declared.queues.StepsCounts.{StepsCounts}
 use Rattle.pie_linux_history.specs.declared.step.QueueName.{QueueName}
 use Rattle.pie_linux_history.specs.declared.step.Step.{Step}
+use Rattle.pie_linux_history.specs.declared.text.Differences.{Differences}
 use Rattle.pie_linux_history.specs.declared.text.StepsFinding.{StepsFinding}
 use Rattle.pie_linux_history.specs.declared.text.StepsFinding.TheVariants.{Clean, Differs}
 use Rattle.pie_linux_history.specs.Columns.{columns_of}
+use Rattle.pie_linux_history.specs.Decided.{for_each, number_of}
 use Rattle.pie_linux_history.specs.Queue.{opening_difference}
 use Rattle.pie_linux_history.specs.LookBack.{Entry, Took, counts_of, decision_by, entry_in, followed, is_opening, name_of}
 
@@ -48,19 +52,40 @@ abbrev pub with_entry : List Entry → Result Entry RecordFault → List Entry
 with_entry entries (Err what) = entries
 with_entry entries (Ok entry) = entries ++ entry ∷ []
 
--- the decided rows up to the first fault or difference, and it; otherwise those of later rows
+-- the difference of a row, if it has one
+abbrev pub found_in : Result (Option StepDifference) StepsFault → List StepDifference
+found_in (Ok found) = cons_option found []
+found_in (Err why) = []
+
+abbrev pub difference_in : List Entry → Entry → List StepDifference
+difference_in entries entry = found_in (verdict_of entries (next (counts_of entries).events) entry)
+
+-- the differences of rows, in order
+abbrev pub differences_of : List Entry → List StepDifference
+differences_of entries = for_each difference_in [] entries
+
+-- clean if and only if there is no difference, and otherwise the first one and their number
+abbrev pub finding_by : StepsCounts → List StepDifference → StepsFinding
+finding_by counts [] = Clean counts
+finding_by counts (first ∷ rest) = Differs first (number_of (first ∷ rest))
+
+-- the number of all of these differences, and the first 100
+pub record HasFound (found : Differences) (all : List StepDifference) : Type 0 where
+  pub count_is : found.count ≡ number_of all
+  pub first_are : found.first.items ≡ take 100 all
+
+-- the rows up to the first fault, and it; otherwise those of later rows
 abbrev pub Outcome : Type 0
 Outcome = List Entry × Result StepsFinding StepsFault
 
 abbrev pub first_of_both : List Entry → Result (Option StepDifference) StepsFault → Outcome → Outcome
-first_of_both entries (Ok None) later = later
-first_of_both entries (Ok (Some found)) later = (entries, Ok (Differs found))
+first_of_both entries (Ok found) later = later
 first_of_both entries (Err why) later = (entries, Err why)
 
--- the rows that are decided after others without a fault or a difference, and the finding: the first fault or the first difference, and otherwise the
--- counts. With a chosen queue the rows of other queues are skipped
+-- the rows after others up to the first fault, and the finding: the first fault, and otherwise that of the differences of all rows. With a chosen queue
+-- the rows of other queues are skipped
 unfoldable pub outcome_after : Option (List ℕ) → Columns → List Entry → List Row → Outcome
-outcome_after chosen columns entries [] = (entries, Ok (Clean (counts_of entries)))
+outcome_after chosen columns entries [] = (entries, Ok (finding_by (counts_of entries) (differences_of entries)))
 outcome_after chosen columns entries (row ∷ rows) =
     first_of_both entries (verdict entries (next (counts_of entries).events) (entry_in chosen columns row))
     (outcome_after chosen columns (with_entry entries (entry_in chosen columns row)) rows)
@@ -75,8 +100,8 @@ outcome_of chosen [] = ([], Err (Trace fault.NoOpen))
 outcome_of chosen (names ∷ rows) = outcome_by chosen (columns_of names) rows
 
 -- the finding of an audit
-abbrev pub finding_of : List Row → Result StepsFinding StepsFault
-finding_of rows = (outcome_of None rows).1
+abbrev pub finding_of : Option (List ℕ) → List Row → Result StepsFinding StepsFault
+finding_of chosen rows = (outcome_of chosen rows).1
 
 -- the reader, the writer or memory failed
 abbrev pub is_failure : StepsFault → Bool
@@ -98,7 +123,7 @@ abbrev pub Begins : Option (List ℕ) → Option (List Row) → Columns → Opti
 Begins chosen all columns later =
     IfSome all (λ rows. (rest : List Row) × (later ≡ Some rest) × (outcome_of chosen rows ≡ outcome_after chosen columns [] rest))
 
--- rows were decided after others with this result: exactly those of the outcome, if the rows are known
+-- rows were read after others with this result: exactly those of the outcome, if the rows are known
 pub record Ends (has : List Entry → Type 0) (outcome : List Row → Outcome) (rows : Option (List Row)) (result : Result StepsFinding StepsFault) : Type 0 where
   pub entries : List Entry
   pub has_them : has entries

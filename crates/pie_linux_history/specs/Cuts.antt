@@ -293,7 +293,7 @@ with_row plan entries number moment row later =
 
 abbrev pub cut_by : Plan → List Entry → ℕ → ℕ → Row → Result (Option StepDifference) StepsFault → (StepsFinding → Cut) → Cut → Cut
 cut_by plan entries number moment row (Err why) at_end later = no_rows (Err why)
-cut_by plan entries number moment row (Ok (Some found)) at_end later = with_row plan entries number moment row (at_end (Differs found))
+cut_by plan entries number moment row (Ok (Some found)) at_end later = with_row plan entries number moment row (at_end (Differs found 1))
 cut_by plan entries number moment row (Ok None) at_end later = with_row plan entries number moment row later
 
 abbrev pub at_end : Plan → ℕ → List Row → StepsFinding → Cut

@@ -1,5 +1,5 @@
 -- The decided steps of a text, each with the numbers before and after it, by a look-back over the rows before it.
-use Rattle.std.specs.Prelude.{ℕ, ◌-◌, ◌^◌, ◌++◌, ◌∷◌, if◌then◌else◌, List, [], min, Option, Some, None, option_map}
+use Rattle.std.specs.Prelude.{ℕ, ◌-◌, ◌^◌, ◌++◌, ◌∷◌, if◌then◌else◌, List, [], length, min, Option, Some, None, option_map}
 use Rattle.std.specs.List.{cons_option}
 use Rattle.pie_linux_history.specs.declared.decided.DecidedStep.{DecidedStep}
 use Rattle.pie_linux_history.specs.declared.decided.StepNumbers.{StepNumbers}
@@ -11,8 +11,8 @@ use Rattle.pie_linux_history.specs.declared.numbers.QueueNumbers.{QueueNumbers}
 use Rattle.pie_linux_history.specs.declared.numbers.Waiting.{Waiting}
 use Rattle.pie_linux_history.specs.declared.step.QueueName.{QueueName}
 use Rattle.pie_linux_history.specs.declared.step.Step.{Step}
-use Rattle.pie_linux_history.specs.LookBack.{Entry, Followed, Took, counts_of, dropped_by_step, followed, is_opening, latest, name_of}
-use Rattle.pie_linux_history.specs.Queue.{Stepped, flow_at, next_step, place_of}
+use Rattle.pie_linux_history.specs.LookBack.{Entry, Followed, Took, counts_of, dropped_by_step, follow, followed, is_opening, latest, name_of, next_of}
+use Rattle.pie_linux_history.specs.Queue.{flow_at, place_of}
 use Rattle.pie_linux_history.specs.Views.{FlowView, QueueView}
 
 -- ---- the numbers around a step
@@ -36,12 +36,13 @@ numbers_of_flow queue place flow = record {
 unfoldable pub numbers_at : QueueView → Step → Option StepNumbers
 numbers_at queue step = option_map (numbers_of_flow queue.numbers (place_of queue step)) (flow_at queue step)
 
-abbrev pub taken_as : Followed → Step → Stepped → Taken
-taken_as was step now = record { decision = now.decision; before = numbers_at was.queue step; after = numbers_at now.queue step }
+-- none of a queue that differs
+abbrev pub numbers_of : Followed → Step → Option StepNumbers
+numbers_of was step = if was.differs then None else numbers_at was.queue step
 
 abbrev pub taken_by : Step → Option Followed → Option Taken
 taken_by step None = None
-taken_by step (Some was) = Some (taken_as was step (next_step was.last was.queue step))
+taken_by step (Some was) = Some (record { decision = (next_of was step).decision; before = numbers_of was step; after = numbers_of (follow was step) step })
 
 abbrev pub decision_of : Option Taken → Option Decision
 decision_of None = None
@@ -84,7 +85,7 @@ abbrev pub decided_by : ℕ → ℕ → Option (QueueName × Step) → Option Ta
 decided_by event moment (Some last) (Some taken) = with_numbers event moment last taken.decision.arrival taken.before taken.after
 decided_by event moment _ _ = None
 
--- the decided step of a row after these: none for a first row, and for a row of no step
+-- the decided step of a row after these: none for a first row, for a row of no step, and from a difference to the queue's next first row
 unfoldable pub decided_in : List Entry → Entry → Option DecidedStep
 decided_in entries entry =
     decided_by (counts_of (entries ++ entry ∷ [])).events (latest (entries ++ entry ∷ [])) (last_in entry) (taken_in entries entry)
@@ -98,6 +99,10 @@ for_each one before (entry ∷ rest) = one before entry ++ for_each one (before 
 
 abbrev pub step_in : List Entry → Entry → List DecidedStep
 step_in entries entry = cons_option (decided_in entries entry) []
+
+-- the number of elements, at most 2^64 - 1
+abbrev pub number_of : {A : Type 0} → List A → ℕ
+number_of all = min (length all) (2 ^ 64 - 1)
 
 -- the decided steps of rows, in order
 abbrev pub decided_of : List Entry → List DecidedStep

@@ -14,7 +14,7 @@ use Rattle.pie_linux_history.specs.Decided.{dropped_in, last_in, taken_in}
 use Rattle.pie_linux_history.specs.LookBack.{Entry, Followed, counts_of, entry_in, followed, latest, name_of}
 
 abbrev pub tracked : Known → Followed
-tracked known = record { last = known.last; queue = known.queue }
+tracked known = record { last = known.last; queue = known.queue; differs = known.differs }
 
 abbrev pub named : Known → Named
 named known = record { name = name_of known.name; was = tracked known }

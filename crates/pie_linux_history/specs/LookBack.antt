@@ -1,5 +1,6 @@
--- A queue after the rows of a text, by looking back over them: the last row `init` or `resume` of its name, and each later step of this name.
-use Rattle.std.specs.Prelude.{ℕ, ◌+◌, ◌%◌, ◌^◌, ◌++◌, ◌∷◌, if◌then◌else◌, List, [], length, take, filter, max, nat_le, not, Bool, true, false, Option, Some, None, Result, Ok}
+-- A queue after the rows of a text, by looking back over them: the last row `init` or `resume` of its name, and each later step of this name up to the
+-- first that differs.
+use Rattle.std.specs.Prelude.{ℕ, ◌+◌, ◌%◌, ◌^◌, ◌++◌, ◌∷◌, ◌||◌, if◌then◌else◌, List, [], length, take, filter, max, nat_le, not, Bool, true, false, Option, Some, None, is_some, Result, Ok}
 use Rattle.std.specs.List.{filter_map, fold, sum_by}
 use Rattle.std.specs.Option.{ok_or, option_or}
 use Rattle.std.specs.Str.{bytes_eq}
@@ -19,7 +20,7 @@ use Rattle.pie_linux_history.specs.declared.step.Kind.TheVariants as kind
 use Rattle.pie_linux_history.specs.declared.step.QueueName.{QueueName}
 use Rattle.pie_linux_history.specs.declared.step.Step.{Step}
 use Rattle.pie_linux_history.specs.Columns.{field_or, handle_of, lost_in, queue_name, step_in}
-use Rattle.pie_linux_history.specs.Queue.{is_part, last_after, next_dropped, next_step, opened}
+use Rattle.pie_linux_history.specs.Queue.{Stepped, is_part, last_after, next_dropped, next_step, opened, opening_difference, unchanged}
 use Rattle.pie_linux_history.specs.Views.{QueueView}
 
 -- ---- rows
@@ -91,16 +92,25 @@ steps_of name entries = opening_of (since_last begins (filter (is_of name) entri
 
 -- ---- the queue
 
--- a queue, and the number of its last step
+-- a queue, the number of its last step, and true if a step since its first row differs: the rows up to its next first row are not decided
 pub record Followed : Type 0 where
   pub last : ℕ
   pub queue : QueueView
+  pub differs : Bool
 
 abbrev pub begun : List ℕ → Step → Followed
-begun name step = record { last = step.number; queue = opened (handle_of name) step }
+begun name step = record { last = step.number; queue = opened (handle_of name) step; differs = is_some (opening_difference step) }
+
+-- the next step of a queue: after a difference it changes nothing
+abbrev pub next_of : Followed → Step → Stepped
+next_of was step = if was.differs then unchanged was.queue else next_step was.last was.queue step
 
 abbrev pub follow : Followed → Step → Followed
-follow was step = record { last = last_after was.last step; queue = (next_step was.last was.queue step).queue }
+follow was step = record {
+  last = if was.differs then was.last else last_after was.last step;
+  queue = (next_of was step).queue;
+  differs = was.differs || is_some (next_of was step).decision.difference;
+}
 
 abbrev pub followed_by : List ℕ → Option (Step × List Step) → Option Followed
 followed_by name None = None
@@ -115,11 +125,11 @@ followed name entries = followed_by name (steps_of name entries)
 -- the decision of a step of a queue: none without the queue
 abbrev pub decision_by : Step → Option Followed → Option Decision
 decision_by step None = None
-decision_by step (Some was) = Some (next_step was.last was.queue step).decision
+decision_by step (Some was) = Some (next_of was step).decision
 
 abbrev pub dropped_by_step : Step → Option Followed → List DecidedPacket
 dropped_by_step step None = []
-dropped_by_step step (Some was) = next_dropped was.last was.queue step
+dropped_by_step step (Some was) = if was.differs then [] else next_dropped was.last was.queue step
 
 -- ---- the moment
 

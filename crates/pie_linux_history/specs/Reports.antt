@@ -18,7 +18,7 @@ use Rattle.pie_linux_history.specs.declared.explained.DecidedPacket.{DecidedPack
 use Rattle.pie_linux_history.specs.declared.explained.ExplainedPacket.{ExplainedPacket}
 use Rattle.pie_linux_history.specs.declared.explained.Fate.{Fate}
 use Rattle.pie_linux_history.specs.declared.explained.Fate.TheVariants.{Arrival}
-use Rattle.pie_linux_history.specs.Decided.{decided_in, decided_of, dropped_in, for_each, plain}
+use Rattle.pie_linux_history.specs.Decided.{decided_in, decided_of, dropped_in, for_each, number_of, plain}
 use Rattle.pie_linux_history.specs.Event.{explained_of, tag_of}
 use Rattle.pie_linux_history.specs.LookBack.{Entry}
 
@@ -27,10 +27,6 @@ pub record Writes (says : List ℕ → Type 0) (before now : Option (List ℕ)) 
   pub text : List ℕ
   pub says_it : says text
   pub written : Appends before now text
-
--- the number of elements, at most 2^64 - 1
-abbrev pub number_of : {A : Type 0} → List A → ℕ
-number_of all = min (length all) (2 ^ 64 - 1)
 
 -- ---- events
 

@@ -181,7 +181,7 @@ impl CutText<'_> {
             Err(why) => return Err(StepsFault::Trace(why)),
         }
         match difference {
-            Some(found) => Ok(Some(StepsFinding::Differs(found))),
+            Some(first) => Ok(Some(StepsFinding::Differs { first, count: 1 })),
             None => Ok(None),
         }
     }

@@ -1,20 +1,20 @@
 //! The queues of a text by their names. The queue of a name is the one after its last row `init` or `resume`, unless
-//! steps of it were lost later.
+//! steps of it were lost later. After a step that differs no step of it is decided.
 ghost use Rattle.std.specs.List.{flat_map};
 ghost use Rattle.std.specs.Prelude.{◌≡◌, ◌++◌, [], map, ℕ, List, Option, Some, None, IfOk, OnOk, if◌then◌else◌};
 ghost use Rattle.std.specs.Option.{MatchOption, option_map};
 ghost use Rattle.std.specs.Str.{bytes_eq};
 ghost use Rattle.pie_linux_history.specs.Cuts.{named_rows, with_name, without_name};
-ghost use Rattle.pie_linux_history.specs.Decided.{decision_of, taken_by};
-ghost use Rattle.pie_linux_history.specs.Known.{IsPlaceOf, known_names, looked_up, named};
-ghost use Rattle.pie_linux_history.specs.LookBack.{begun, decision_by, dropped_by_step, follow, name_of};
-ghost use Rattle.pie_linux_history.specs.Queue.{last_after, next_dropped, next_step, opened};
+ghost use Rattle.pie_linux_history.specs.Decided.{decision_of, numbers_of, taken_by};
+ghost use Rattle.pie_linux_history.specs.Known.{IsPlaceOf, known_names, looked_up, named, tracked};
+ghost use Rattle.pie_linux_history.specs.LookBack.{begun, decision_by, dropped_by_step, follow, name_of, next_of};
+ghost use Rattle.pie_linux_history.specs.Queue.{last_after, next_dropped, next_step, opening_difference};
 
 use crate::columns::{Columns, NUMBER, handle_of};
-use crate::decided::Taken;
+use crate::decided::{StepNumbers, Taken};
 use crate::difference::Difference;
 use crate::explained::{DecidedPacket, Decision};
-use crate::queue::Queue;
+use crate::queue::{Queue, opening_difference};
 use crate::resume::QueueRows;
 use crate::step::{QueueName, Step};
 use pie_record::Page;
@@ -26,16 +26,48 @@ pub(crate) struct Known {
     pub(crate) name: QueueName,
     pub(crate) last: u64,
     pub(crate) queue: Queue,
+    /// True if a step since the first row differs.
+    pub(crate) differs: bool,
 }
 
 impl Known {
-    /// Decides a step again, if it is the next one of the queue. Adds the packets that a change or a reset dropped to
-    /// `lost`.
+    /// Returns the numbers of the queue and of the flow of a step, if there is such a flow, and the queue does not differ.
+    fn numbers_at(&self, step: &Step) -> Option<StepNumbers>
+        ensures { result ≡ numbers_of (tracked self.now) step.now }
+    {
+        if self.differs {
+            return None;
+        }
+        self.queue.numbers_at(step)
+    }
+
+    /// Decides a step again, unless an earlier one differs. Adds the packets that a change or a reset dropped to `lost`.
     fn take(&mut self, step: &Step, lost: &mut Vec<DecidedPacket>) -> Result<Decision, AllocError>
+        ensures name { OnOk result (self.new.name ≡ self.old.name) }
+        ensures follows { OnOk result (tracked self.new ≡ follow (tracked self.old) step.now) }
+        ensures decided { IfOk result (λ decision. decision ≡ (next_of (tracked self.old) step.now).decision) }
+        ensures lost { OnOk result (lost.new.items
+            ≡ lost.old.items ++ dropped_by_step step.now (Some (tracked self.old))) }
+    {
+        if self.differs {
+            return Ok(Decision::other(None));
+        }
+        match self.decide(step, lost) {
+            Ok(decision) => {
+                self.differs = decision.difference.is_some();
+                Ok(decision)
+            }
+            Err(why) => Err(why),
+        }
+    }
+
+    /// Decides a step again, if it is the next one of the queue.
+    fn decide(&mut self, step: &Step, lost: &mut Vec<DecidedPacket>) -> Result<Decision, AllocError>
         ensures name { OnOk result (self.new.name ≡ self.old.name) }
         ensures last { OnOk result (self.new.last ≡ last_after self.old.last step.now) }
         ensures made { IfOk result (λ decision. next_step self.old.last self.old.queue step.now
             ≡ record { queue = self.new.queue; decision = decision }) }
+        ensures differs { OnOk result (self.new.differs ≡ self.old.differs) }
         ensures lost { OnOk result (lost.new.items
             ≡ lost.old.items ++ next_dropped self.old.last self.old.queue step.now) }
     {
@@ -125,42 +157,46 @@ impl KnownQueues {
         let Some(known) = self.all.get_mut(place) else {
             return Ok(None);
         };
-        let before = known.queue.numbers_at(step);
+        let before = known.numbers_at(step);
         match known.take(step, lost) {
             Ok(decision) => Ok(Some(Taken {
                 decision,
                 before,
-                after: known.queue.numbers_at(step),
+                after: known.numbers_at(step),
             })),
             Err(why) => Err(why),
         }
     }
 
-    /// Makes a queue from its first step, in the place of an earlier one with the same name.
+    /// Makes a queue from its first step, in the place of an earlier one with the same name. Returns the first number of the
+    /// step that differs.
     pub(crate) fn open(
         &mut self,
         alloc: Global,
         name: QueueName,
         step: &Step,
-    ) -> Result<(), AllocError>
+    ) -> Result<Option<Difference>, AllocError>
+        ensures difference { IfOk result (λ difference. difference ≡ opening_difference step.now) }
         ensures names { OnOk result (known_names self.new.all.items ≡ with_name (name_of name) (known_names self.old.all.items)) }
         ensures queues { OnOk result ((other : List ℕ) → looked_up other self.new.all.items
             ≡ (if bytes_eq (name_of name) other then Some (begun (name_of name) step.now) else looked_up other self.old.all.items)) }
     {
+        let difference = opening_difference(step);
         let made = Known {
             name,
             last: step.number,
             queue: Queue::open(alloc, handle_of(name.bytes()), step)?,
+            differs: difference.is_some(),
         };
         let Some(place) = self.find(name.bytes()) else {
             self.all.push(made)?;
-            return Ok(());
+            return Ok(difference);
         };
         let Some(known) = self.all.get_mut(place) else {
-            return Ok(());
+            return Ok(difference);
         };
         *known = made;
-        Ok(())
+        Ok(difference)
     }
 
     /// Adds the rows of each queue that is alive to a page, in the order in which they began.

@@ -8,11 +8,12 @@
 //!
 //! Proved:
 //!
-//! - The finding of `audit` is exactly `finding_of` (specs/Audit.antt): the first fault, or the first step that differs with
-//!   its event, queue, step, column and both numbers, or otherwise the numbers of rows, steps and lost steps.
+//! - The finding of `audit` is exactly `finding_of` (specs/Audit.antt): the first fault, or the number of steps that differ and
+//!   the first one with its event, queue, step, column and both numbers, or otherwise the numbers of rows, steps and lost steps.
+//!   The differences are `differences_of` the rows, in order: all are counted, and the first 100 are returned.
 //! - The queue of a step is the one with exactly its name, by a look-back over all rows before the step
-//!   (specs/LookBack.antt): the last row `init` or `resume` of the name, and each later step of the name. There is none if
-//!   steps of the name were lost later. `KnownQueues` represents these queues (specs/Known.antt).
+//!   (specs/LookBack.antt): the last row `init` or `resume` of the name, and each later step of the name up to the first that
+//!   differs. There is none if steps of the name were lost later. `KnownQueues` represents these queues (specs/Known.antt).
 //! - The fields of a row by the names of its columns, and each fault of a row (specs/Columns.antt).
 //! - In a queue: its first state, the number of its next step, the flow of a step, the waiting packets of the flow, and those
 //!   that a change or a reset drops (specs/Queue.antt).
@@ -21,7 +22,7 @@
 //! - The comparison. Each recorded number is an input of its step, or it is compared with the number of the rules
 //!   (specs/Right.antt, specs/Differences.antt). A text without the column `rq` is compared in fewer columns, and some of its
 //!   steps lack an input. The input is then taken from the recorded results, and the step is counted.
-//! - The decided steps of a text: each row up to the first fault or difference whose queue has begun, with its event, its
+//! - The decided steps of a text: each row up to the first fault whose queue has begun and has not differed, with its event, its
 //!   effective moment, and the numbers of its queue and flow before and after it (specs/Decided.antt). With a chosen queue the
 //!   rows of other queues are skipped.
 //! - `report` and `explain` end with the finding of an audit of these rows. `report` receives the events (`explained_of`,
@@ -63,4 +64,4 @@ pub use fault::StepsFault;
 pub use queues::{StepDifference, StepsCounts};
 pub use reports::{StepsExplained, explain, report};
 pub use step::QueueName;
-pub use text::{StepsFinding, audit};
+pub use text::{Differences, StepsAudit, StepsFinding, audit};

@@ -13,7 +13,6 @@ use crate::difference::Difference;
 use crate::explained::{DecidedPacket, Input};
 use crate::fault::StepsFault;
 use crate::known::KnownQueues;
-use crate::queue::opening_difference;
 use crate::step::{Kind, QueueName, Step};
 use crate::updates::NONE;
 use pie_record::{Page, Record, RecordFault};
@@ -266,7 +265,7 @@ impl Queues {
             → (result ≡ verdict_of entries self.old.counts.events (Took queue step.now)) × Leaves self.new entries (Took queue step.now) }
     {
         match self.known.open(self.alloc, queue, step) {
-            Ok(()) => Ok(difference_at(self.counts.events, queue, step, opening_difference(step))),
+            Ok(difference) => Ok(difference_at(self.counts.events, queue, step, difference)),
             Err(_) => Err(out_of_memory()),
         }
     }

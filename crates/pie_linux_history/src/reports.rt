@@ -30,7 +30,8 @@ use std::io::{Read, Write};
 pub struct StepsExplained {
     /// The number of explained packets or events.
     pub count: u64,
-    /// The finding of the audit. The selected steps before one that differs are explained.
+    /// The finding of the audit. A step that differs is not explained, nor are the later steps of its queue up to the queue's next
+    /// row `init` or `resume`.
     pub finding: StepsFinding,
 }
 
@@ -144,8 +145,7 @@ impl<P: Report, Q: PacketReport> RowReport for EventRows<P, Q> {
     }
 }
 
-/// Writes a report about the selected events of a text of recorded steps, up to the first fault and the first step that
-/// differs. With a `queue` only the steps of this queue are decided and reported. Returns the number of events and the
+/// Writes a report about the selected events of a text of recorded steps, up to the first fault. With a `queue` only the steps of this queue are decided and reported. Returns the number of events and the
 /// finding.
 ///
 /// The text is `whole` of the report for the explanations (`explained_of`) of the selected steps, in order. With `words` each
@@ -299,9 +299,9 @@ impl<P: PacketReport> RowReport for PacketRows<P> {
     }
 }
 
-/// Explains the selected packets of a text of recorded steps, up to the first fault and the first step that differs: those
-/// that arrived, and those that waited and that a change or a reset dropped. With a `queue` only the steps of this queue are
-/// decided. Returns the number of packets and the finding.
+/// Explains the selected packets of a text of recorded steps, up to the first fault: those that arrived, and those that waited
+/// and that a change or a reset dropped. With a `queue` only the steps of this queue are decided. Returns the number of packets
+/// and the finding.
 ///
 /// # Errors
 ///

@@ -54,7 +54,7 @@ impl QueueName {
     }
 
     /// Returns true if both names are equal.
-    pub(crate) fn equals(&self, other: &QueueName) -> bool
+    pub fn equals(&self, other: &QueueName) -> bool
         ensures { result ≡ bytes_eq (name_of self.now) (name_of other.now) }
     {
         self.is(other.bytes())

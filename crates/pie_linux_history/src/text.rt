@@ -1,9 +1,10 @@
 //! The rows of a text, decided one after another: the finding of an audit, and the loop of reports.
 ghost use Rattle.std.specs.Prelude.{◌≡◌, ◌++◌, ◌∷◌, [], ⊤, ℕ, Err, IfErr, IfOk, IfSome, List, None, Ok, OnOk, Option, false, option_map, true};
+ghost use Rattle.std.specs.List.{cons_option};
 ghost use Rattle.std.specs.Io.KnownBytes.{append_known};
 ghost use Rattle.pie_explain.specs.Report.{Grows};
 ghost use Rattle.pie_record.specs.Text.{TakesRow, records_of};
-ghost use Rattle.pie_linux_history.specs.Audit.{Begins, Ends, ReadsColumns, finding_of, has_failed, is_failure, outcome_after, outcome_of};
+ghost use Rattle.pie_linux_history.specs.Audit.{Begins, Ends, HasFound, ReadsColumns, differences_of, finding_by, finding_of, has_failed, is_failure, outcome_after, outcome_of};
 ghost use Rattle.pie_linux_history.specs.Columns.{columns_of};
 ghost use Rattle.pie_linux_history.specs.Known.{HasRead, Leaves, TakesNext};
 ghost use Rattle.pie_linux_history.specs.LookBack.{Entry};
@@ -30,13 +31,78 @@ impl<R: Read + Drop> Read for StepsReader<R> {
     }
 }
 
-/// The result of an audit.
+/// The result of an audit of all rows.
 #[derive(Clone, Copy)]
 pub enum StepsFinding {
     /// No recorded number differs.
     Clean(StepsCounts),
-    /// This is the first number that differs.
-    Differs(StepDifference),
+    /// Steps differ.
+    Differs {
+        /// The first one.
+        first: StepDifference,
+        /// The number of steps that differ.
+        count: u64,
+    },
+}
+
+/// The most differences that are kept.
+const MOST_KEPT: usize = 100;
+
+/// The steps of a text that differ.
+#[derive(Drop)]
+pub struct Differences {
+    /// Their number.
+    pub count: u64,
+    /// The first 100 of them, in the order of the text.
+    pub first: Vec<StepDifference>,
+}
+
+impl Differences {
+    /// Returns no differences.
+    fn new(alloc: Global) -> Differences
+        ensures { HasFound result [] }
+    {
+        Differences {
+            count: 0,
+            first: Vec::new(alloc),
+        }
+    }
+
+    /// Adds the difference of a row, if it has one.
+    fn add(&mut self, found: Option<StepDifference>) -> Result<(), AllocError>
+        ensures { (all : List StepDifference) → HasFound self.old all → OnOk result (HasFound self.new (all ++ cons_option found [])) }
+    {
+        let Some(found) = found else {
+            return Ok(());
+        };
+        self.count = self.count.saturating_add(1);
+        if self.first.len() < MOST_KEPT {
+            self.first.push(found)?;
+        }
+        Ok(())
+    }
+
+    /// Returns the finding of an audit of rows with these counts.
+    fn finding(&self, counts: StepsCounts) -> StepsFinding
+        ensures { (all : List StepDifference) → HasFound self.now all → result ≡ finding_by counts all }
+    {
+        match self.first.first() {
+            None => StepsFinding::Clean(counts),
+            Some(first) => StepsFinding::Differs {
+                first: *first,
+                count: self.count,
+            },
+        }
+    }
+}
+
+/// The result of an audit of a text.
+#[derive(Drop)]
+pub struct StepsAudit {
+    /// The finding, or the fault of the text.
+    pub finding: Result<StepsFinding, StepsFault>,
+    /// The differences, up to the fault.
+    pub differences: Differences,
 }
 
 /// A report about the rows of a text, one after another. `shows state rows text` relates a state and the text so far to the
@@ -125,6 +191,7 @@ pub(crate) struct Text<'q, R: Read + Drop> {
     /// The only queue whose steps are decided, if there is one.
     queue: Option<&'q str>,
     queues: Queues,
+    differences: Differences,
 }
 
 impl<'q, R: Read + Drop> Text<'q, R> {
@@ -138,7 +205,7 @@ impl<'q, R: Read + Drop> Text<'q, R> {
         input: R,
         queue: Option<&'q str>,
     ) -> Result<Text<'q, R>, StepsFault>
-        ensures begins { IfOk result (λ text. (text.queue ≡ queue.entry) × HasRead text.queues []
+        ensures begins { IfOk result (λ text. (text.queue ≡ queue.entry) × HasRead text.queues [] × HasFound text.differences []
             × Begins (option_map (λ name. name.now) queue.entry) (option_map records_of (R.remaining input)) text.columns text.records) }
         ensures refuses { IfErr result (λ why. is_failure why ≡ false → IfSome (R.remaining input)
             (λ text. outcome_of (option_map (λ name. name.now) queue.entry) (records_of text) ≡ ([], Err why))) }
@@ -155,6 +222,7 @@ impl<'q, R: Read + Drop> Text<'q, R> {
             fields,
             queue,
             queues: Queues::new(alloc),
+            differences: Differences::new(alloc),
         })
     }
 
@@ -162,7 +230,7 @@ impl<'q, R: Read + Drop> Text<'q, R> {
     /// step that differs.
     #[inline(never)]
     fn next(&mut self) -> Result<Option<Option<StepDifference>>, StepsFault>
-        ensures kept { (self.new.columns ≡ self.old.columns) × (self.new.queue ≡ self.old.queue) }
+        ensures kept { (self.new.columns ≡ self.old.columns) × (self.new.queue ≡ self.old.queue) × (self.new.differences ≡ self.old.differences) }
         ensures takes { (entries : List Entry) → HasRead self.old.queues entries → has_failed result ≡ false
             → TakesNext (option_map (λ name. name.now) self.old.queue) self.old.columns entries self.old.records result self.new.records self.new.queues }
     {
@@ -177,7 +245,7 @@ impl<'q, R: Read + Drop> Text<'q, R> {
         }
     }
 
-    /// Decides all rows that remain, and reports those before the first fault and the first step that differs.
+    /// Decides all rows that remain, and reports those before the first fault.
     pub(crate) fn decide<W: Write, P: RowReport>(
         &mut self,
         report: &P,
@@ -185,19 +253,21 @@ impl<'q, R: Read + Drop> Text<'q, R> {
         page: &mut Page,
         writer: &mut W,
     ) -> Result<StepsFinding, StepsFault>
-        ensures { (entries : List Entry) (before : Option (List ℕ)) → HasRead self.old.queues entries
+        ensures { (entries : List Entry) (before : Option (List ℕ)) → HasRead self.old.queues entries → HasFound self.old.differences (differences_of entries)
             → Writes (P.shows report.now state.old entries) before (append_known (W.contents writer.old) page.old) → has_failed result ≡ false
-            → Ends (λ rows. Writes (P.shows report.now state.new rows) before (append_known (W.contents writer.new) page.new))
+            → Ends (λ rows. HasFound self.new.differences (differences_of rows) × Writes (P.shows report.now state.new rows) before (append_known (W.contents writer.new) page.new))
             (outcome_after (option_map (λ name. name.now) self.old.queue) self.old.columns entries) self.old.records result }
     {
         'rows: for _ in 0..u64::MAX {
             match self.next() {
-                Ok(Some(None)) => match write_row(report, state, &self.queues, page, writer) {
-                    Ok(()) => {}
-                    Err(why) => return Err(why),
+                Ok(Some(found)) => match self.differences.add(found) {
+                    Ok(()) => match write_row(report, state, &self.queues, page, writer) {
+                        Ok(()) => {}
+                        Err(why) => return Err(why),
+                    },
+                    Err(_) => return Err(out_of_memory()),
                 },
-                Ok(Some(Some(difference))) => return Ok(StepsFinding::Differs(difference)),
-                Ok(None) => return Ok(StepsFinding::Clean(self.queues.counts)),
+                Ok(None) => return Ok(self.differences.finding(self.queues.counts)),
                 Err(why) => return Err(why),
             }
         }
@@ -205,18 +275,28 @@ impl<'q, R: Read + Drop> Text<'q, R> {
     }
 }
 
-/// Audits a text of recorded steps: decides each step again by Linux's rules, and returns the first recorded number that
-/// differs, or the number of steps.
+/// Audits a text of recorded steps: decides each step again by Linux's rules, and returns the steps with a recorded number that
+/// differs, or the number of steps. After a step that differs, the steps of its queue are not decided until the queue's next row
+/// `init` or `resume`. With a `queue` only the steps of this queue are decided.
 ///
 /// # Errors
 ///
 /// The fault of the first record that cannot be read, a missing column, a queue without its first step, a failure of the
 /// reader, or of memory.
-pub fn audit<R: Read + Drop>(alloc: Global, input: R) -> Result<StepsFinding, StepsFault>
-    ensures { IfSome (R.remaining input) (λ text. has_failed result ≡ false → result ≡ finding_of (records_of text)) }
+pub fn audit<R: Read + Drop>(alloc: Global, input: R, queue: Option<&str>) -> StepsAudit
+    ensures finding { IfSome (R.remaining input) (λ text. has_failed result.finding ≡ false
+        → result.finding ≡ finding_of (option_map (λ name. name.now) queue.entry) (records_of text)) }
+    ensures differences { IfSome (R.remaining input) (λ text. has_failed result.finding ≡ false
+        → HasFound result.differences (differences_of (outcome_of (option_map (λ name. name.now) queue.entry) (records_of text)).0)) }
 {
-    match Text::begin(alloc, input, None) {
-        Ok(mut text) => text.decide(&NoReport, &mut (), &mut Page::new(alloc), &mut io::sink()),
-        Err(why) => Err(why),
+    match Text::begin(alloc, input, queue) {
+        Ok(mut text) => StepsAudit {
+            finding: text.decide(&NoReport, &mut (), &mut Page::new(alloc), &mut io::sink()),
+            differences: text.differences,
+        },
+        Err(why) => StepsAudit {
+            finding: Err(why),
+            differences: Differences::new(alloc),
+        },
     }
 }

@@ -59,8 +59,10 @@ none, reason says why. Without a file, file is -.
 A text that pie-watch wrote has the steps of pie and fq_pie of a Linux kernel. Each step is decided
 again by the kernel's rules. The events are the rows after the first, numbered from 1. After
 differs,<event> standard error has the queue, its step, the column, the recorded number and the one
-that the rules give. For a clean text it has the number of steps that the recorder lost, if any.
---joined is not for such texts.
+that the rules give. The queue's later events are not decided up to its next row init or resume. If
+several events differ, their number follows, and the others, queue by queue; the first 100 are named.
+For a clean text it has the number of steps that the recorder lost, if any. --joined is not for such
+texts.
 
 Example: the output of pie run is clean, and the line is clean,2:
 
@@ -74,6 +76,7 @@ The audit finds a changed verdict, and the line is differs,1:
     arguments: &[
         row!("joined": Nothing, "The files are one history's segments: report if they fit", "The files are the segments of one history, in order: report if they fit together. Default: off"),
         row!("json": Nothing, "Write an object of JSON for each file", "Write an object of JSON for each file. Default: text"),
+        row!("queue": Value("NAME"), "Take only the steps of this queue of pie-watch's text", "Of a text of pie-watch, take only the steps of this queue. Default: all queues"),
         PROGRESS,
         row!("file": Files, "Files to audit; - is standard input. Default: standard input"),
     ],

@@ -1,16 +1,9 @@
-use Rattle.std.proofs.Common.{◌≡◌, Option, Some, arith, sym, ap, ◌∙◌}
+use Rattle.std.proofs.Common.{◌≡◌, ◌∙◌, Option, Some, arith, ap}
 use Rattle.pie_linux_history.specs.declared.explained.Decision.{Decision}
-use Rattle.pie_linux_history.specs.declared.decided.Taken.{Taken}
-use Rattle.pie_linux_history.specs.declared.step.Step.{Step}
-use Rattle.pie_linux_history.specs.Decided.{taken_as}
 use Rattle.pie_linux_history.specs.Known.{looked_up, tracked}
-use Rattle.pie_linux_history.specs.LookBack.{Followed, name_of}
-use Rattle.pie_linux_history.specs.Queue.{Stepped}
-use Rattle.pie_linux_history.proofs.KnownFacts.{looked-at, looked-take, name-at, names-set, place-within}
+use Rattle.pie_linux_history.specs.LookBack.{name_of}
+use Rattle.pie_linux_history.proofs.KnownFacts.{looked-at, looked-take, name-at, names-set, place-within, taken-as}
 use Rattle.pie_linux_history.proofs.known.KnownQueues.take.Goals as goal
-
-abbrev taken_with : Followed → Step → Stepped → Option Taken
-taken_with was step now = Some (taken_as was step now)
 
 pub returns-in_default-get_mut : goal.returns-in_default-get_mut
 returns-in_default-get_mut c =
@@ -22,11 +15,12 @@ returns-in-Ok c =
     let found : looked_up c.args.name.now c.args.self.now.all.items ≡ Some (tracked known) =
     looked-at c.args.self.now.all.items c.in-Some.place c.args.name.now known c.in-Some.ensures c.in-Some-get_mut.ensures.value in
     record {
-      taken = rw (found, c.numbers_at-before.ensures, c.numbers_at.ensures) (ap (taken_with (tracked known) c.args.step.now) (sym c.in-Ok.ensures.made));
-      decision = rw found (ap (λ (x : Stepped). let some : Option Decision = Some x.decision in some) (sym c.in-Ok.ensures.made));
+      taken = rw (found, c.numbers_at-before.ensures, c.numbers_at.ensures)
+          (taken-as (tracked known) (tracked c.take.new.self) c.args.step.now c.in-Ok.decision c.in-Ok.ensures.decided c.in-Ok.ensures.follows);
+      decision = rw found (ap (λ (x : Decision). let some : Option Decision = Some x in some) c.in-Ok.ensures.decided);
       lost = rw found c.in-Ok.ensures.lost;
-      queues = λ other. looked-take c.args.self.now.all.items c.in-Some.place c.args.name.now known c.take.new.self c.args.step.now c.in-Ok.decision other
-          c.in-Some.ensures c.in-Some-get_mut.ensures.value c.in-Ok.ensures.name c.in-Ok.ensures.last c.in-Ok.ensures.made;
+      queues = λ other. looked-take c.args.self.now.all.items c.in-Some.place c.args.name.now known c.take.new.self c.args.step.now other
+          c.in-Some.ensures c.in-Some-get_mut.ensures.value c.in-Ok.ensures.name c.in-Ok.ensures.follows;
       names = names-set c.args.self.now.all.items c.in-Some.place c.args.name.now c.take.new.self c.in-Some.ensures
           (ap name_of c.in-Ok.ensures.name ∙ name-at c.args.self.now.all.items c.in-Some.place c.args.name.now known c.in-Some.ensures c.in-Some-get_mut.ensures.value);
     }

@@ -12,7 +12,7 @@ returns-in-Err-take-clause-takes c = λ entries read is at before ok.
 pub returns-in-Some-clause-takes : goal.returns-in-Some-clause-takes
 returns-in-Some-clause-takes c = λ entries read is at before ok.
     row-taken (plan c.args.self.now.pieces c.args.self.now.names.now c.args.self.now.columns.now) entries c.args.number c.args.moment
-    c.args.fields.now (Ok (Some c.in-Some.found)) c.take.new.self c.args.page.now c.begin.new.page c.copy.new.page c.args.written.now c.copy.new.written is at before
+    c.args.fields.now (Ok (Some c.in-Some.first)) c.take.new.self c.args.page.now c.begin.new.page c.copy.new.page c.args.written.now c.copy.new.written is at before
     (rw c.in-Some.is at (c.in-Ok-take.ensures entries read refl)) (c.in-Ok.ensures.begins entries read) c.in-Ok-copy.ensures.copies c.in-Ok-copy.ensures.counts
 
 pub returns-in-None-clause-takes : goal.returns-in-None-clause-takes

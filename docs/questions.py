@@ -26,12 +26,12 @@ from curves import text_at  # noqa: E402
 from equivalence import LEVEL, student, student_quantile  # noqa: E402
 from queues import ALL, EXCHANGED, RULES_SCENARIOS, SCENARIOS, expected_keys, key_of  # noqa: E402
 
-NAMES = {"stamp": "PIE here", "ecn": "PIE here with ECN", "half": "PIE here, `--decay half`", "rate": "PIE here, `--delay rate`", "pie": "`pie`",
-         "codel": "`codel`", "red": "`red adaptive`", "fq_codel": "`fq_codel`", "cake": "`cake besteffort`", "fq_pie": "`fq_pie`"}
+NAMES = {"half": "`--decay half`", "rate": "`--delay rate`", "fq_codel": "`fq_codel`", "cake": "`cake besteffort`", "fq_pie": "`fq_pie`"}
 WORDS = {"goodput": "goodput, Mbit/s", "wait": "mean wait, ms", "wait99": "99th percentile of waits, ms", "short": "median time of a short flow, ms"}
 CLAUSES = {"goodput": "goodput", "wait": "mean wait", "wait99": "99th percentile of waits", "short": "short flows"}
 COLOURS = {"better": "#2e7d32", "worse": "#b03030", "same": "#2060a0", "open": "#999999"}
 REACH = 4       # margins that a picture reaches to each side
+MOST_NAMES = 6  # scenarios that a sentence names
 # scenarios whose flows differ: in congestion control, in round trip, or in length
 UNLIKE = ("bbrcubic", "udp", "trips", "burst", "short", "mixed")
 
@@ -154,30 +154,30 @@ def shown(number, margin):
 
 def cell(it):
     ours, theirs, difference, reach, margin = (shown(number, it.margin) for number in (it.ours, it.theirs, it.difference, it.reach, it.margin))
-    return f"{ours}/{theirs}, {difference}±{reach}, {margin}, **{it.verdict}**"
-
-
-def name_of(queue):
-    return NAMES.get(queue, f"`{queue}`")
+    return f"{ours}/{theirs}, {difference}±{reach}/{margin}, **{it.verdict}**"
 
 
 def where(found, verdict):
-    return ", ".join(f"`{it.scenario}`" for it in found if it.verdict == verdict)
+    """Names the scenarios with a verdict, or returns their number if they are many."""
+    names = [f"`{it.scenario}`" for it in found if it.verdict == verdict]
+    return ", ".join(names) if len(names) <= MOST_NAMES else f"{len(names)} of {len(found)}"
 
 
-def clause(found, measure):
+def clause(found, measure, is_short=False):
     """Returns the answer by one measure, with its evidence."""
     these = [it for it in found if it.measure == measure]
     counts = {verdict: sum(it.verdict == verdict for it in these) for verdict in COLOURS}
     word = {(True, True): "it depends", (True, False): "yes", (False, True): "no"}.get(
         (counts["better"] > 0, counts["worse"] > 0), "not decided" if counts["open"] else "no difference")
+    if is_short:
+        return f"{CLAUSES[measure]} {word} ({counts['better']} better, {counts['worse']} worse of {len(these)})"
     evidence = [f"`{verdict}` in {where(these, verdict)}" for verdict in ("better", "worse") if counts[verdict]]
     evidence += [f"{counts[verdict]} `{verdict}`" for verdict in ("same", "open") if counts[verdict]]
     return f"{CLAUSES[measure]} **{word}** ({'; '.join(evidence)})"
 
 
-def clauses(found):
-    return ", ".join(clause(found, measure) for measure in MARGINS if any(it.measure == measure for it in found))
+def clauses(found, is_short=False):
+    return ", ".join(clause(found, measure, is_short) for measure in MARGINS if any(it.measure == measure for it in found))
 
 
 def pair_of(found, one, other):
@@ -196,7 +196,7 @@ def reason(found):
 
 
 def completed(rows, question):
-    return f"{sum(map(rows.is_complete, question.scenarios))} of {len(question.scenarios)} scenarios have all their blocks"
+    return f"{sum(map(rows.is_complete, question.scenarios))} of {len(question.scenarios)} scenarios are complete"
 
 
 def sentence(rows, question):
@@ -208,7 +208,7 @@ def sentence(rows, question):
         return f"{reason(found)}."
     if len(question.pairs) == 1:
         return f"{clauses(found)}."
-    return "; ".join(f"{name_of(one)}: {clauses(pair_of(found, one, other))}" for one, other, _ in question.pairs) + "."
+    return "; ".join(f"{NAMES[one]}: {clauses(pair_of(found, one, other))}" for one, other, _ in question.pairs) + "."
 
 
 def answers(rows):
@@ -229,7 +229,8 @@ def stored(rows):
 def readme(rows):
     """Returns what README says of the worth: the answers, or the state of the runs if one is missing."""
     if all(rows.is_complete(*it.scenarios) for it in WORTH):
-        return "\n".join(f"- **{it.words}** {sentence(rows, it)}" for it in WORTH)
+        return ("Waits, goodput and short flows in the scenarios of a [plan](bench/uml/PLAN.md#queues):\n\n"
+                + "\n".join(f"- **{it.words}** {clauses(compared(rows, it), is_short=True)}." for it in WORTH))
     return (f"If it is worth more than `pie`, `codel`, RED, `fq_codel` or `cake` is not answered yet: {stored(rows)} of the "
             "[plan](bench/uml/PLAN.md#queues) are stored.")
 
@@ -248,7 +249,7 @@ def table(found):
         cells = {it.measure: it for it in found if (it.one, it.other, it.scenario) == key}
         first = next(iter(cells.values()))
         words = "|".join(cell(cells[it]) if it in cells else "" for it in columns)
-        lines.append(f"|`{key[2]}`|{name_of(key[0])} and {name_of(key[1])}|{first.blocks}|{words}|")
+        lines.append(f"|`{key[2]}`|`{key[0]}/{key[1]}`|{first.blocks}|{words}|")
     return "\n".join(lines)
 
 

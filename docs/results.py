@@ -106,6 +106,9 @@ LIMIT_ROWS = [row for row in STORED if row["scenario"] in LIMITS]
 LIMIT_RUNS = Runs(LIMIT_ROWS)
 SHORT = read("bench/uml/short.csv.xz")
 PLANNED = questions.Rows(read("bench/uml/queues.csv.xz"))
+# the parts of the sources that go when the runs of the plan are complete
+OLDER = re.compile(r"^<!-- older runs -->\n(.*?)^<!-- to here -->\n", re.M | re.S)
+HAS_OLDER = not PLANNED.is_complete(*questions.SCENARIOS)
 NS3 = read("bindings/ns3/results.csv")
 
 
@@ -660,7 +663,7 @@ def comparisons():
     """Returns the rows of docs/comparisons.csv: each comparison that a page prints or counts."""
     for source in SOURCES.values():
         page(source)
-    for pair in PAIRS:
+    for pair in PAIRS * HAS_OLDER:
         for name, field, part, bounds in pairs_of(*pair):
             PRINTED.setdefault((name, field, bounds, *pair, None), part)
     lines = [["scenario", "from", "to", "measure", "queue", "beside", "blocks", "difference", "least", "most", "margin", "verdict"]]
@@ -669,7 +672,7 @@ def comparisons():
         if found:
             beside_it = f"{other} of {other_name}" if other_name else other
             lines.append([name, *bounds, field, one, beside_it, len(theirs), *found[:3], margin_of(name, one, other, field, part, theirs), found[3]])
-    for name, part, most, least, found, margin, blocks in extremes():
+    for name, part, most, least, found, margin, blocks in extremes() * HAS_OLDER:
         lines.append([name, *RUNS.part(name, part), "goodput", most, least, blocks, *found[:3], margin, found[3]])
     for name in LIMITS:
         for queue in (it for it in limit_queues(name) if it != present_limit(name)):
@@ -1082,7 +1085,7 @@ def wrapped(block):
 
 @functools.cache
 def page(source="docs/RESULTS.in"):
-    text = (ROOT / source).read_text()
+    text = OLDER.sub(r"\1" if HAS_OLDER else "", (ROOT / source).read_text())
     IS_PRINTING.append(source)
     text = re.sub(r"\{\{(.*?)\}\}", lambda found: str(eval(found[1], globals())), text, flags=re.S)  # noqa: S307 (its own page)
     IS_PRINTING.pop()
@@ -1101,23 +1104,27 @@ WORTH = re.compile(r"(?<=<!-- by docs/results.py -->\n).*?(?=<!-- to here -->)",
 
 
 def worth():
-    """Returns what README.md says of the plan's answers."""
-    return wrapped(questions.readme(PLANNED)) + "\n"
+    """Returns what README.md says of the worth: four flows behind tail drop and PIE, and the plan's answers."""
+    if PLANNED.is_complete("four"):
+        waits, carried = ([shown(fmean(PLANNED.values("four", queue, measure, 3)), digits=digits) for queue in ("tail", "stamp")]
+                          for measure, digits in (("wait", 0), ("goodput", 2)))
+    else:
+        waits, carried = ([value("four", queue, measure, digits=digits) for queue in ("tail", "stamp")] for measure, digits in (("wait", 0), ("goodput", 2)))
+    four = (f"With four CUBIC flows at 10 Mbit/s a packet waits {waits[0]} ms on average with tail drop and {waits[1]} ms with PIE. "
+            f"The goodput is {carried[0]} and {carried[1]} Mbit/s ([docs/RESULTS.md](docs/RESULTS.md)).")
+    return "\n\n".join(map(wrapped, [four, *questions.readme(PLANNED).split("\n\n")])) + "\n"
 
 
 def elsewhere():
     """Returns sentences of other pages that rest on stored runs, as (page, sentence)."""
-    waits = [value("four", queue, "wait", digits=0) for queue in ("tail", "stamp")]
-    carried = [value("four", queue, "goodput") for queue in ("tail", "stamp")]
     return [("README.md", f"<!-- by docs/results.py --> {' '.join(worth().split())} <!-- to here -->"),
-            ("README.md", f"With four CUBIC flows at 10 Mbit/s a packet waits {waits[0]} ms on average with tail drop and {waits[1]} ms with PIE. "
-                          f"The goodput is {carried[0]} and {carried[1]} Mbit/s ([docs/RESULTS.md]"),
             ("docs/PARAMETERS.md", f"Many flows exceed it: sixteen flows settle at a probability of {percent('ecnmany', 'stamp', 'prob', digits=0)} "
                                    "per cent ([RESULTS.md]")]
 
 
 SOURCES = {"docs/RESULTS.md": "docs/RESULTS.in", "bench/uml/README.md": "bench/uml/README.in"}
-MADE = {**{name: functools.partial(page, source) for name, source in SOURCES.items()}, "docs/comparisons.csv": comparisons, "docs/ellipses.svg": picture,
+MADE = {**{name: functools.partial(page, source) for name, source in SOURCES.items()}, "docs/comparisons.csv": comparisons,
+        **({"docs/ellipses.svg": picture} if HAS_OLDER else {}),
         **{f"docs/{name}": functools.partial(str, text) for name, text in questions.pictures(PLANNED).items()}}
 
 

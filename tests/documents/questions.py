@@ -25,8 +25,6 @@ PLAN = (ROOT / "bench/uml/PLAN.md").read_text().split("## Queues")[1]
 SCRIPT = ROOT / "docs/questions.py"
 NINE = ["stamp", "pie", "codel", "red", "fq_pie", "fq_codel", "cake", "tail", "pfifo"]
 RULES = ["decay", "small", "holds", "far", "delay", "burst", "calm"]
-SHOWN = {"PIE here": "stamp", "PIE here with ECN": "ecn", "PIE here, `--decay half`": "half", "PIE here, `--delay rate`": "rate", "`red adaptive`": "red",
-         "`cake besteffort`": "cake"}
 MEASURES = ["goodput", "wait", "wait99", "short"]
 IN_WORDS = {"goodput": "goodput", "wait": "mean wait", "wait99": "99th percentile of waits", "short": "short flows"}
 IN_LIST = {"goodput": "goodput in Mbit/s", "wait": "packets' wait in ms", "wait99": "99th percentile of packets' waits in ms",
@@ -158,6 +156,14 @@ class Expected:
     def clauses(self, found):
         return ", ".join(self.clause([it for it in found if it.measure == measure]) for measure in MEASURES if any(it.measure == measure for it in found))
 
+    def short(self, number):
+        parts = []
+        for measure in MEASURES:
+            found = [it for it in self.questions[number] if it.measure == measure]
+            better, worse = (sum(it.verdict == verdict for it in found) for verdict in ("better", "worse"))
+            parts.append(f"{self.clause(found).replace('*', '').partition(' (')[0]} ({better} better, {worse} worse of {len(found)})")
+        return f"{', '.join(parts)}."
+
     @staticmethod
     def clause(found):
         names = {verdict: [f"`{it.scenario}`" for it in found if it.verdict == verdict] for verdict in ("better", "worse", "same", "open")}
@@ -167,13 +173,13 @@ class Expected:
             word = "yes" if names["better"] else "no"
         else:
             word = "not decided" if names["open"] else "no difference"
-        parts = [f"`{it}` in {', '.join(names[it])}" for it in ("better", "worse") if names[it]]
+        parts = [f"`{it}` in {', '.join(names[it]) if len(names[it]) < 7 else f'{len(names[it])} of {len(found)}'}" for it in ("better", "worse") if names[it]]
         parts += [f"{len(names[it])} `{it}`" for it in ("same", "open") if names[it]]
         return f"{IN_WORDS[found[0].measure]} **{word}** ({'; '.join(parts)})"
 
     def whole(self, number):
         names = dict.fromkeys(name for _, _, names in PAIRS[number] for name in names)
-        return f"{sum(self.is_whole[name] for name in names)} of {len(names)} scenarios have all their blocks"
+        return f"{sum(self.is_whole[name] for name in names)} of {len(names)} scenarios are complete"
 
     def of(self, number, one, other):
         return [it for it in self.questions[number] if it.one == one and it.other == other]
@@ -183,7 +189,7 @@ class Expected:
             return f"not answered yet: {self.whole(number)}."
         found = self.questions[number]
         if number == 8:
-            return f"PIE here, `--decay half`: {self.clauses(self.of(8, 'half', 'stamp'))}; PIE here, `--delay rate`: {self.clauses(self.of(8, 'rate', 'stamp'))}."
+            return f"`--decay half`: {self.clauses(self.of(8, 'half', 'stamp'))}; `--delay rate`: {self.clauses(self.of(8, 'rate', 'stamp'))}."
         if number < 9:
             return f"{self.clauses(found)}."
         parts = []
@@ -230,7 +236,7 @@ def near(text, number):
     return abs(float(text) - number) <= 0.5001 * 10 ** -len(text.partition(".")[2]) + 1e-12
 
 
-CELL = re.compile(r"(-?[\d.]+)/(-?[\d.]+), (-?[\d.]+)±([\d.]+), ([\d.]+), \*\*(\w+)\*\*")
+CELL = re.compile(r"(-?[\d.]+)/(-?[\d.]+), (-?[\d.]+)±([\d.]+)/([\d.]+), \*\*(\w+)\*\*")
 
 
 def cell_faults(cell, it):
@@ -252,7 +258,7 @@ def table_faults(text, judged):
             heads = [{"goodput, Mbit/s": "goodput", "mean wait, ms": "wait", "99th percentile of waits, ms": "wait99",
                       "median time of a short flow, ms": "short"}[it] for it in cells[3:]]
         elif cells[0].startswith("`"):
-            one, other = (SHOWN.get(it, it.strip("`")) for it in cells[1].split(" and "))
+            one, other = cells[1].strip("`").split("/")
             for measure, cell in zip(heads, cells[3:]):
                 it = left.pop((cells[0].strip("`"), one, other, measure), None)
                 if it is None:
@@ -354,7 +360,7 @@ def faults(expected, page, readme, comparisons, pictures):
     text = parts.pop(CALIBRATION, "")
     wrong += table_faults(text, expected.tails) + [f"an unknown section: {it}" for it in parts]
     if all(expected.is_answered(number) for number in range(1, 6)):
-        wrong += ["README's answers"] * (list_of(readme) != [f"**{HEADS[number]}** {expected.answer(number)}" for number in range(1, 6)])
+        wrong += ["README's answers"] * (list_of(readme) != [f"**{HEADS[number]}** {expected.short(number)}" for number in range(1, 6)])
     else:
         wrong += ["README's state of the runs"] * (f"{expected.stored()} of the" not in " ".join(readme.split()) or "**" in readme)
     return wrong + list_faults(comparisons, expected)
@@ -453,7 +459,7 @@ PLANTS = [
     ("for name in filter(rows.is_complete, names):", "for name in names:"), ("return all(self.blocks[name]", "return any(self.blocks[name]"),
     ("0.1 * len(found)", "0.05 * len(found)"), ("abs(self.difference) > self.reach", "abs(self.difference) > self.margin"),
     ("100 * lost / (lost + packets)", "100 * lost / packets"), ('for queue in ("ecn", "stamp"):', 'for queue in ("stamp", "ecn"):'),
-    ('return f"{ours}/{theirs}, ', 'return f"{theirs}/{ours}, '), ("{difference}±{reach}, {margin}", "{difference}±{margin}, {reach}"),
+    ('return f"{ours}/{theirs}, ', 'return f"{theirs}/{ours}, '), ("{difference}±{reach}/{margin}", "{difference}±{margin}/{reach}"),
     ("1 - math.floor(math.log10(margin))", "-math.floor(math.log10(margin))"), ('"\\n".join(lines)', '"\\n".join(lines[:-1])'),
     ('1 if it.measure == "goodput" else -1', "1"), ("sign * it.difference / it.margin))", "sign * it.difference))"),
     ("sign * (it.difference + side * it.reach) / it.margin", "sign * (it.difference + side * it.margin) / it.margin"), ("REACH = 4 ", "REACH = 5 "),
@@ -465,11 +471,12 @@ PLANTS = [
     ('(True, False): "yes", (False, True): "no"', '(True, False): "no", (False, True): "yes"'), ('(True, True): "it depends"', '(True, True): "yes"'),
     ('"not decided" if counts["open"] else "no difference"', '"no difference"'), ('counts["better"] > 0, counts["worse"] > 0', 'counts["better"] > 1, counts["worse"] > 0'),
     ('for verdict in ("better", "worse") if counts[verdict]]', 'for verdict in ("better",) if counts[verdict]]'),
-    ("if it.verdict == verdict)\n\n\ndef clause", 'if it.verdict in (verdict, "open"))\n\n\ndef clause'),
+    ("for it in found if it.verdict == verdict]", 'for it in found if it.verdict in (verdict, "open")]'),
     ('("stamp", "red", ALL)', '("stamp", "codel", ALL)'), ('("exchanged alone", "pie-", "pie")', '("exchanged alone", "pie-all-", "pie-all")'),
     ('it.verdict in ("better", "worse")] for rule', 'it.verdict in ("better",)] for rule'), ("pair_of(found, 'stamp', 'pie-all')", "pair_of(found, 'stamp', 'pie')"),
     ('(queue, "pie-all" if "all-" in queue else "pie", RULES_SCENARIOS)', '(queue, "pie", RULES_SCENARIOS)'),
     ('for queue in ("tail", "pfifo")))', 'for queue in ("pfifo", "tail")))'), ('blocks_of("tail")) for queue', 'blocks_of("tail") - 1) for queue'),
+    ("MOST_NAMES = 6 ", "MOST_NAMES = 5 "), ("{counts['better']} better, {counts['worse']} worse", "{counts['worse']} better, {counts['better']} worse"),
     ("WORTH = QUESTIONS[:5]", "WORTH = QUESTIONS[1:5]"), ("{len(rows.found):,} of", "{len(rows.found) + 1:,} of"),
     ("{sum(map(rows.is_complete, question.scenarios))} of", "{len(question.scenarios)} of"), ("{rows.blocks[name]} of", "{it.blocks} of"),
     ("judge(found, question.planned())", "judge(found, len(found))"), ('if it != "short" or SCENARIOS[name].options.short', 'if it != "short"'),
@@ -491,7 +498,7 @@ def check_repository():
         rows = list(csv.DictReader(file))
     check(all(row["version"] in PLAN for row in rows), "a stored row has another version than the plan")
     results, readme = (ROOT / "docs/RESULTS.md").read_text(), (ROOT / "README.md").read_text()
-    page = results.split("## Should I use this PIE?\n")[1].split("\n## ")[0]
+    page = results.split("## What to choose\n")[1].split("\n## ")[0]
     worth = readme.split("<!-- by docs/results.py -->\n")[1].split("<!-- to here -->")[0]
     pictures = {file.name: file.read_text() for file in (ROOT / "docs").glob("question_*.svg")}
     expected = Expected(rows)

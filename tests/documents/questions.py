@@ -8,7 +8,6 @@ plan, and a run that is there twice are refused.
 usage: tests/documents/questions.py [--plants]     --plants: names each planted fault and its first finding
 needs: nothing"""
 import csv
-import functools
 import io
 import lzma
 import math
@@ -20,6 +19,7 @@ from pathlib import Path
 
 sys.path.insert(0, str(Path(__file__).resolve().parents[1] / "shared"))
 from checks import NAME, ROOT, check, finish  # noqa: E402
+from student import mean, spread, t95, tail  # noqa: E402
 
 PLAN = (ROOT / "bench/uml/PLAN.md").read_text().split("## Queues")[1]
 SCRIPT = ROOT / "docs/questions.py"
@@ -77,32 +77,7 @@ EVERY = [name for name in SCENARIOS if not name.endswith("rules")]
 KEYS = {(name, queue, block) for name, it in SCENARIOS.items() for queue in it.queues for block in range(1, it.planned(queue) + 1)}
 
 
-# ---- Student's t ----
-
-def tail(t, freedom):
-    """Returns the probability of more than t, for t from 0: the integral of cos ** (freedom - 1) from atan(t / sqrt(freedom)), by Simpson's rule."""
-    def area(begin, parts=400):
-        step = (math.pi / 2 - begin) / parts
-        at = [math.cos(begin + place * step) ** (freedom - 1) for place in range(parts)] + [1.0 if freedom == 1 else 0.0]
-        return step / 3 * (at[0] + at[-1] + 4 * sum(at[1:-1:2]) + 2 * sum(at[2:-1:2]))
-    return area(math.atan(t / math.sqrt(freedom))) / area(0.0) / 2
-
-
-@functools.cache
-def t95(freedom):
-    """Returns the t that is exceeded with a probability of 5 %."""
-    low, high = 0.0, 100.0
-    for _ in range(60):
-        middle = (low + high) / 2
-        low, high = (middle, high) if tail(middle, freedom) > 0.05 else (low, middle)
-    return low
-
-
 # ---- the verdicts ----
-
-def mean(values):
-    return math.fsum(values) / len(values)
-
 
 class Judged:
     """A comparison, from the rows."""
@@ -113,7 +88,7 @@ class Judged:
         self.ours, self.theirs = mean(ours), mean(theirs)
         each = [a - b for a, b in zip(ours, theirs)]
         self.difference = mean(each)
-        error = math.sqrt(math.fsum((it - self.difference) ** 2 for it in each) / (blocks - 1) / blocks)
+        error = math.sqrt(spread(each))
         self.half = t95(blocks - 1) * error
         self.margin = {"goodput": 0.01 * self.theirs, "wait": max(1, 0.1 * self.theirs), "wait99": max(2, 0.1 * self.theirs), "short": 0.1 * self.theirs}[measure]
         beyond = (abs(self.difference) - self.margin) / error

@@ -368,8 +368,8 @@ def main():
     words = parser.parse_args()
     rows = Rows(read(words.rows))
     lines = "".join(",".join(str(it) for it in line) + "\n" for line in listed(rows))
-    for name, text in {"answers.md": answers(rows) + "\n", "progress.md": progress(rows) + "\n", "sections.md": sections(rows) + "\n", "readme.md": readme(rows) + "\n", "comparisons.csv": lines,
-                       **pictures(rows)}.items():
+    pages = {"answers.md": answers(rows), "progress.md": progress(rows), "sections.md": sections(rows), "readme.md": readme(rows)}
+    for name, text in {**{name: text + "\n" for name, text in pages.items()}, "comparisons.csv": lines, **pictures(rows)}.items():
         (words.folder / name).write_text(text)
 
 

@@ -129,7 +129,8 @@ def of_ns3(queue, mbit, flows, ecn, field="seed"):
 
 def share_of_waits():
     """Returns half the difference of Linux's pie with two targets, as a share of their mean."""
-    rows = {queue: {row["block"]: float(row["probe"]) for row in UML if (row["scenario"], row["queue"], float(row["from"]), float(row["to"])) == ("four", queue, 4, 12)}
+    four = [row for row in UML if (row["scenario"], float(row["from"]), float(row["to"])) == ("four", 4, 12)]
+    rows = {queue: {row["block"]: float(row["probe"]) for row in four if row["queue"] == queue}
             for queue in ("pie-high", "pie-low")}
     both = rows["pie-high"].keys() & rows["pie-low"].keys()
     high, low = (mean([them[block] for block in both]) for them in rows.values())
@@ -163,8 +164,8 @@ def ns3():
     says = [f"Of {len(verdicts)} comparisons, {count('same')} are `same`, {count('different')} are `different`, and {count('open')} are `open`",
             f"and that of waits {100 * share:.0f} %"]
     (one, half, verdict), (other, its, plain) = (found["10", "4", "1", queue, "link_mbit"] for queue in ("pie-mark-stamp", "pie-stamp"))
-    says.append(f"differs by {one:.2f} ({one - half:.2f} to {one + half:.2f}) Mbit/s, `{verdict}`, instead of {other:.2f} ({other - its:.2f} to {other + its:.2f}) "
-                f"Mbit/s, `{plain}`")
+    says.append(f"differs by {one:.2f} ({one - half:.2f} to {one + half:.2f}) Mbit/s, `{verdict}`, instead of {other:.2f} "
+                f"({other - its:.2f} to {other + its:.2f}) Mbit/s, `{plain}`")
     return lines, says + unsettled()
 
 
@@ -173,7 +174,8 @@ def four(queue):
 
 
 def unsettled():
-    long = {queue: [row for row in four(queue) if float(row["wait_mean_ms"]) > 20] for queue in ("pie-stamp", "recorded-stamp", "pie-mark-burst-stamp", "recorded-stamp+bounded")}
+    long = {queue: [row for row in four(queue) if float(row["wait_mean_ms"]) > 20]
+            for queue in ("pie-stamp", "recorded-stamp", "pie-mark-burst-stamp", "recorded-stamp+bounded")}
     parts = [f"{len(long[queue])} of {len(four(queue))} with {words}" for queue, words in (
         ("pie-stamp", "`PieQueueDisc`"), ("recorded-stamp", "this repository"), ("pie-mark-burst-stamp", "`PieQueueDisc` with marks and bursts changed"))]
     names = [f"seed {row['seed']} at {row['mbit']} Mbit/s (mean wait {float(row['wait_mean_ms']):.0f} ms, {float(row['link_mbit']):.1f} Mbit/s on the link)"
@@ -191,11 +193,12 @@ def unsettled():
 def bursts():
     lines = []
     for row in (row for row in BURSTS if row["queue"] == "recorded-stamp"):
-        run, bounded = (next(it for it in four(queue) if (it["mbit"], it["seed"]) == (row["mbit"], row["seed"])) for queue in ("recorded-stamp", "recorded-stamp+bounded"))
+        run, bounded = (next(it for it in four(queue) if (it["mbit"], it["seed"]) == (row["mbit"], row["seed"]))
+                        for queue in ("recorded-stamp", "recorded-stamp+bounded"))
         its = next(it for it in BURSTS if (it["queue"], it["mbit"], it["seed"]) == ("recorded-stamp+bounded", row["mbit"], row["seed"]))
         rate, wait = ([f"{float(it[field]):.{digits}f}" for it in (run, bounded)] for field, digits in (("link_mbit", 1), ("wait_mean_ms", 0)))
-        lines.append("|" + "|".join([row["mbit"], row["seed"], rate[0], wait[0], row["bursts"], row["opened"], row["greatest"], row["greatest_opening"], row["empty"],
-                                     rate[1], wait[1], its["bursts"]]) + "|")
+        middle = [row[field] for field in ("bursts", "opened", "greatest", "greatest_opening", "empty")]
+        lines.append("|" + "|".join([row["mbit"], row["seed"], rate[0], wait[0], *middle, rate[1], wait[1], its["bursts"]]) + "|")
     return lines
 
 

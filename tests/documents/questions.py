@@ -3,8 +3,8 @@
 and comparisons.csv. No code of docs/questions.py, bench/uml/queues.py or bench/equivalence.py is used for it.
 
 The pages of the repository are compared with the stored rows, and what docs/questions.py makes of invented rows with those: all blocks, some scenarios
-with missing blocks, equal queues, shares at the edge of Holm's correction, and rows with which each prediction of the plan comes true. A fault that is planted in docs/questions.py must be found (PLANTS). Rows of two versions, a run that is not of the
-plan, and a run that is there twice are refused.
+with missing blocks, equal queues, shares at the edge of Holm's correction, and rows with which each prediction of the plan comes true. A fault that is
+planted in docs/questions.py must be found (PLANTS). Rows of two versions, a run that is not of the plan, and a run that is there twice are refused.
 usage: tests/documents/questions.py [--plants]     --plants: names each planted fault and its first finding
 needs: nothing"""
 import csv
@@ -90,7 +90,8 @@ class Judged:
         self.difference = mean(each)
         error = math.sqrt(spread(each))
         self.half = t95(blocks - 1) * error
-        self.margin = {"goodput": 0.01 * self.theirs, "wait": max(1, 0.1 * self.theirs), "wait99": max(2, 0.1 * self.theirs), "short": 0.1 * self.theirs}[measure]
+        tenth = 0.1 * self.theirs
+        self.margin = {"goodput": 0.01 * self.theirs, "wait": max(1, tenth), "wait99": max(2, tenth), "short": tenth}[measure]
         beyond = (abs(self.difference) - self.margin) / error
         self.chance = tail(beyond, blocks - 1) if beyond > 0 else 1 - tail(-beyond, blocks - 1)
         self.is_good = self.difference > 0 if measure == "goodput" else self.difference < 0
@@ -245,7 +246,8 @@ def table_faults(text, judged):
 
 def picture_faults(text, judged):
     """Compares each line of a picture with its comparison: names, interval, middle and verdict."""
-    lines = re.findall(r'text-anchor="end"[^>]*>([^<]*)</text>\n<path d="M([\d.]+) [\d.]+ H([\d.]+)" stroke="([^"]+)"[^>]*/><circle cx="([\d.]+)"[^>]*fill="([^"]+)"/>'
+    lines = re.findall(r'text-anchor="end"[^>]*>([^<]*)</text>\n<path d="M([\d.]+) [\d.]+ H([\d.]+)" stroke="([^"]+)"[^>]*/>'
+                       r'<circle cx="([\d.]+)"[^>]*fill="([^"]+)"/>'
                        r"<text[^>]*>(\w+)</text>", text)
     if len(lines) != len(judged):
         return [f"the picture has {len(lines)} comparisons of {len(judged)}"]
@@ -279,7 +281,8 @@ def list_faults(text, expected):
             wrong.append(f"comparisons.csv has a line that is not of the plan: {row}")
             continue
         seconds = SCENARIOS[it.scenario].seconds
-        wanted = (seconds / 4 if it.measure.startswith("wait") else 0, seconds, it.blocks, it.difference, it.difference - it.half, it.difference + it.half, it.margin)
+        least, most = it.difference - it.half, it.difference + it.half
+        wanted = (seconds / 4 if it.measure.startswith("wait") else 0, seconds, it.blocks, it.difference, least, most, it.margin)
         if row[11] != it.verdict or any(abs(float(a) - b) > 0.00006 + 1e-6 * abs(b) for a, b in zip([row[1], row[2], *row[6:11]], wanted)):
             wrong.append(f"comparisons.csv has {row}, and the rows give {wanted}, {it.verdict}")
     return wrong + [f"comparisons.csv lacks {key}" for key in left]
@@ -315,15 +318,15 @@ def faults(expected, page, readme, comparisons, pictures):
             continue
         excluding = sum(abs(it.difference) > it.half for it in judged)
         says = f"{expected.whole(number)}; the others have no verdict." if not expected.is_answered(number) else (
-            f"{excluding} of {len(judged)} intervals exclude 0; about {round(0.1 * len(judged))} would if the queues were equal. `better` and `worse` hold together with "
-            f"a chance of 95 % (Holm's correction over {len(judged)} comparisons).")
+            f"{excluding} of {len(judged)} intervals exclude 0; about {round(0.1 * len(judged))} would if the queues were equal. `better` and `worse` hold "
+            f"together with a chance of 95 % (Holm's correction over {len(judged)} comparisons).")
         wrong += [f"{head} does not say: {says}"] * (says not in " ".join(text.split()))
         wrong += table_faults(text, judged) + picture_faults(pictures[f"question_{number}.svg"], judged)
         if number == 7:
             found = re.search(r"in per cent: (.*?)\.(?=\s|$)", " ".join(text.split()))
             lost = {name: (a, b) for name, a, b in re.findall(r"`(\w+)` ([\d.]+) and ([\d.]+)", found[1] if found else "")}
             names = [name for name in PAIRS[7][0][2] if expected.is_whole[name]]
-            is_right = list(lost) == names and all(near(lost[name][0], expected.lost(name, "ecn")) and near(lost[name][1], expected.lost(name, "stamp")) for name in names)
+            is_right = list(lost) == names and all(near(text, expected.lost(name, queue)) for name in names for text, queue in zip(lost[name], ("ecn", "stamp")))
             wrong += [f"the lost packets: {lost}"] * (not is_right)
     these, unknown, every = expected.wrong_predictions()
     text = parts.pop(PREDICTED, "")
@@ -356,9 +359,9 @@ def invented(seed, missing=(), by_name=None):
                 row = {"scenario": name, "queue": queue, "block": str(block), "version": "one", "lost": str(lost), "packets": str(dice.randint(900, 9000))}
                 for measure, value in common.items():
                     margin = max({"goodput": 0.01, "wait": 0.1, "wait99": 0.1, "short": 0.1}[measure] * value, {"wait": 1, "wait99": 2}.get(measure, 0))
-                    by, spread = shift.setdefault((name, queue, measure), (dice.choice([0, 0, 0.4, -0.4, 1, -1, 1.4, -1.4, 2, -3]), dice.choice([0.1, 0.3, 0.8])))
-                    by, spread = (by_name(name, queue, measure), 0.05) if by_name else (by, spread)
-                    row[measure] = f"{value + margin * (by + dice.gauss(0, spread)):.4f}"
+                    drawn = dice.choice([0, 0, 0.4, -0.4, 1, -1, 1.4, -1.4, 2, -3]), dice.choice([0.1, 0.3, 0.8])
+                    by, reach = (by_name(name, queue, measure), 0.05) if by_name else shift.setdefault((name, queue, measure), drawn)
+                    row[measure] = f"{value + margin * (by + dice.gauss(0, reach)):.4f}"
                 rows[name, queue, block] = row
     for name in missing:
         rows.pop(dice.choice([key for key in rows if key[0] == name]))
@@ -424,7 +427,8 @@ PLANTS = [
     ("abs(self.difference) - self.margin", "abs(self.difference)"), ("(1 - student(beyond / error, freedom))", "student(beyond / error, freedom)"),
     ("(1 - student(beyond / error, freedom))", "2 * (1 - student(beyond / error, freedom))"),
     ('(self.measure == "goodput")', '(self.measure != "goodput")'), ('(self.measure == "goodput")', '(self.measure in ("goodput", "wait99"))'),
-    ("LEVEL / (planned - place)", "LEVEL / planned"), ("LEVEL / (planned - place)", "LEVEL"), ("LEVEL / (planned - place)", "LEVEL / (len(comparisons) - place)"),
+    ("LEVEL / (planned - place)", "LEVEL / planned"), ("LEVEL / (planned - place)", "LEVEL"),
+    ("LEVEL / (planned - place)", "LEVEL / (len(comparisons) - place)"),
     ("sorted(comparisons, key=lambda it: it.share)", "sorted(comparisons, key=lambda it: -it.share)"),
     ("sorted(comparisons, key=lambda it: it.share)", "comparisons"), ("            return\n        it.verdict", "            continue\n        it.verdict"),
     ('"better" if it.is_good() else "worse"', '"worse" if it.is_good() else "better"'),
@@ -441,14 +445,17 @@ PLANTS = [
     ("COLOURS[it.verdict]\n        words", 'COLOURS["same"]\n        words'), ("it.verdict, size=11, colour=colour", '"same", size=11, colour=colour'),
     ("it.difference - it.reach, it.difference + it.reach, it.margin", "it.difference - it.reach, it.difference + it.reach, it.reach"),
     ("it.difference - it.reach, it.difference + it.reach, it.margin", "it.difference + it.reach, it.difference - it.reach, it.margin"),
-    ("seconds / 4", "seconds / 2"), ("if not is_met(", "if is_met("), ('"short", "mixed")\n\n', '"short")\n\n'), ("if wrong else [", "if not wrong else ["), ("ecn < stamp", "ecn > stamp"),
+    ("seconds / 4", "seconds / 2"), ("if not is_met(", "if is_met("), ('"short", "mixed")\n\n', '"short")\n\n'), ("if wrong else [", "if not wrong else ["),
+    ("ecn < stamp", "ecn > stamp"),
     ('if it.scenario in UNLIKE], ("wait",)', 'if it.scenario in UNLIKE], ("wait", "goodput")'), ('if it.scenario != "slow"', 'if it.scenario != "two"'),
     ('(True, False): "yes", (False, True): "no"', '(True, False): "no", (False, True): "yes"'), ('(True, True): "it depends"', '(True, True): "yes"'),
-    ('"not decided" if counts["open"] else "no difference"', '"no difference"'), ('counts["better"] > 0, counts["worse"] > 0', 'counts["better"] > 1, counts["worse"] > 0'),
+    ('"not decided" if counts["open"] else "no difference"', '"no difference"'),
+    ('counts["better"] > 0, counts["worse"] > 0', 'counts["better"] > 1, counts["worse"] > 0'),
     ('for verdict in ("better", "worse") if counts[verdict]]', 'for verdict in ("better",) if counts[verdict]]'),
     ("for it in found if it.verdict == verdict]", 'for it in found if it.verdict in (verdict, "open")]'),
     ('("stamp", "red", ALL)', '("stamp", "codel", ALL)'), ('("exchanged alone", "pie-", "pie")', '("exchanged alone", "pie-all-", "pie-all")'),
-    ('it.verdict in ("better", "worse")] for rule', 'it.verdict in ("better",)] for rule'), ("pair_of(found, 'stamp', 'pie-all')", "pair_of(found, 'stamp', 'pie')"),
+    ('it.verdict in ("better", "worse")] for rule', 'it.verdict in ("better",)] for rule'),
+    ("pair_of(found, 'stamp', 'pie-all')", "pair_of(found, 'stamp', 'pie')"),
     ('(queue, "pie-all" if "all-" in queue else "pie", RULES_SCENARIOS)', '(queue, "pie", RULES_SCENARIOS)'),
     ('for queue in ("tail", "pfifo")))', 'for queue in ("pfifo", "tail")))'), ('blocks_of("tail")) for queue', 'blocks_of("tail") - 1) for queue'),
     ("MOST_NAMES = 6 ", "MOST_NAMES = 5 "), ("{counts['better']} better, {counts['worse']} worse", "{counts['worse']} better, {counts['better']} worse"),
@@ -480,6 +487,19 @@ def check_repository():
     wrong = faults(expected, page, worth, (ROOT / "docs/comparisons.csv").read_text(), pictures)
     check(not wrong, f"the pages are not those of the stored rows: {wrong[:5]}")
     check(f"{expected.stored()} are stored" in " ".join(page.split()), f"RESULTS does not say that {expected.stored()} are stored")
+    # README's four flows: the plan's blocks of tail drop, or until they are there the later part of the older runs that all queues have
+    if expected.is_whole["four"]:
+        four = [[mean([float(expected.rows["four", queue, block][field]) for block in (1, 2, 3)]) for queue in ("tail", "stamp")] for field in ("wait", "goodput")]
+    else:
+        with lzma.open(ROOT / "bench/uml/results.csv.xz", "rt", newline="") as file:
+            older = [row for row in csv.DictReader(file) if (row["scenario"], float(row["from"]), float(row["to"])) == ("four", 4, 12)]
+        blocks = set.intersection(*({row["block"] for row in older if row["queue"] == queue} for queue in {row["queue"] for row in older}))
+        four = [[mean([float(row[field]) for row in older if row["queue"] == queue and row["block"] in blocks]) for queue in ("tail", "stamp")]
+                for field in ("wait", "goodput")]
+    (waits, carried), words = four, " ".join(worth.split())
+    for says in (f"a packet waits {waits[0]:.0f} ms on average with tail drop and {waits[1]:.0f} ms with PIE",
+                 f"The goodput is {carried[0]:.2f} and {carried[1]:.2f} Mbit/s"):
+        check(says in words, f"README does not say: {says}")
     print(f"{NAME}: {expected.stored()}, {sum(map(len, expected.questions.values()))} comparisons")
 
 

@@ -295,32 +295,38 @@ def lost_text(rows):
     return [f"Lost packets with ECN and without, in per cent: {', '.join(parts)}."] if parts else []
 
 
-def all_of(verdict, found, measures=tuple(MARGINS)):
-    return all(it.verdict == verdict for it in found if it.measure in measures)
-
-
-# what the plan expects, the question, and the test of its comparisons and rows
+# what the plan expects, the question, the verdict, and the comparisons that should have it
 EXPECTED = [
-    ("PIE here is `same` as `pie` except in `slow`", 1, lambda found, _: all_of("same", [it for it in found if it.scenario != "slow"])),
-    *((f"PIE here is `worse` than {NAMES[queue]} in the mean wait wherever flows differ ({', '.join(f'`{it}`' for it in UNLIKE)})", number,
-       lambda found, _: all_of("worse", [it for it in found if it.scenario in UNLIKE], ("wait",)))
-      for number, queue in ((4, "fq_codel"), (5, "cake"), (6, "fq_pie"))),
-    ("waits with ECN are `same`", 7, lambda found, _: all_of("same", found, ("wait", "wait99"))),
-    ("fewer packets are lost with ECN", 7, lambda _, rows: all(ecn < stamp for ecn, stamp in (lost_shares(rows, it) for it in QUESTIONS[6].scenarios))),
-    ("`half` is `better` in the goodput of `far`", 8,
-     lambda found, _: all_of("better", [it for it in found if it.one == "half" and it.scenario == "far"], ("goodput",))),
-    ("`pie` with all rules exchanged is `same` as PIE here", 9, lambda found, _: all_of("same", pair_of(found, "stamp", "pie-all"))),
-    ("the rule `small`, exchanged alone, makes the waits of `slow` `better`", 9,
-     lambda found, _: all_of("better", [it for it in pair_of(found, "pie-small", "pie") if it.scenario == "slowrules"], ("wait",))),
+    ("PIE here is `same` as `pie` except in `slow`", 1, "same", lambda it: it.scenario != "slow"),
+    *((f"PIE here is `worse` than {NAMES[queue]} in the mean wait wherever flows differ ({', '.join(f'`{it}`' for it in UNLIKE)})", number, "worse",
+       lambda it: it.scenario in UNLIKE and it.measure == "wait") for number, queue in ((4, "fq_codel"), (5, "cake"), (6, "fq_pie"))),
+    ("waits with ECN are `same`", 7, "same", lambda it: it.measure in ("wait", "wait99")),
+    ("`half` is `better` in the goodput of `far`", 8, "better", lambda it: (it.one, it.scenario, it.measure) == ("half", "far", "goodput")),
+    ("`pie` with all rules exchanged is `same` as PIE here", 9, "same", lambda it: (it.one, it.other) == ("stamp", "pie-all")),
+    ("the rule `small`, exchanged alone, makes the waits of `slow` `better`", 9, "better",
+     lambda it: (it.one, it.other, it.scenario, it.measure) == ("pie-small", "pie", "slowrules", "wait")),
 ]
+FEWER_LOST = "fewer packets are lost with ECN"
+
+
+def unmet(rows, number, wanted, is_meant):
+    """Returns the verdicts that a prediction did not expect, with their scenarios."""
+    found = list(filter(is_meant, compared(rows, QUESTIONS[number - 1])))
+    others = {verdict: list(dict.fromkeys(f"`{it.scenario}`" for it in found if it.verdict == verdict)) for verdict in COLOURS if verdict != wanted}
+    return ", ".join(f"`{verdict}` in {', '.join(names)}" for verdict, names in others.items() if names)
 
 
 def predictions(rows):
-    """Returns the predictions of the plan that did not come true, and the number of those that are not decided, in words."""
-    known = [(words, QUESTIONS[number - 1], is_met) for words, number, is_met in EXPECTED if rows.is_complete(*QUESTIONS[number - 1].scenarios)]
-    wrong = [words for words, question, is_met in known if not is_met(compared(rows, question), rows)]
-    parts = ["\n".join(f"- {it}" for it in wrong)] if wrong else ["Every prediction that is decided came true."] if known else []
-    return parts + [f"{len(EXPECTED) - len(known)} of {len(EXPECTED)} predictions are not decided yet."] * (len(known) < len(EXPECTED))
+    """Returns the predictions of the plan that did not come true, with what came, and the number of those that are not decided, in words."""
+    known = [(words, unmet(rows, number, wanted, is_meant)) for words, number, wanted, is_meant in EXPECTED
+             if rows.is_complete(*QUESTIONS[number - 1].scenarios)]
+    if rows.is_complete(*QUESTIONS[6].scenarios):
+        more = [f"`{name}`" for name in QUESTIONS[6].scenarios if float.__ge__(*lost_shares(rows, name))]
+        known.append((FEWER_LOST, f"not in {', '.join(more)}" if more else ""))
+    wrong = [f"- {words}: {came}" for words, came in known if came]
+    parts = ["\n".join(wrong)] if wrong else ["Every prediction that is decided came true."] if known else []
+    every = len(EXPECTED) + 1
+    return parts + [f"{every - len(known)} of {every} predictions are not decided yet."] * (len(known) < every)
 
 
 def calibrations(rows):

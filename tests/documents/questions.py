@@ -184,22 +184,30 @@ class Expected:
         return 100 * lost / (lost + passed)
 
     def wrong_predictions(self):
-        """Returns a word of each prediction of the plan that did not come true, and the number of those that are not decided."""
-        unlike = [name for name in EVERY if name in ("bbrcubic", "udp", "trips", "burst", "short", "mixed")]
-        is_all = {
-            "PIE here is `same` as `pie` except in `slow`": (1, lambda: [it.verdict == "same" for it in self.questions[1] if it.scenario != "slow"]),
-            **{f"PIE here is `worse` than `{queue}`": (number, lambda number=number: [
-                it.verdict == "worse" for it in self.questions[number] if it.measure == "wait" and it.scenario in unlike])
-               for number, queue in ((4, "fq_codel"), (5, "cake besteffort"), (6, "fq_pie"))},
-            "waits with ECN are `same`": (7, lambda: [it.verdict == "same" for it in self.questions[7] if it.measure != "goodput"]),
-            "fewer packets are lost with ECN": (7, lambda: [self.lost(name, "ecn") < self.lost(name, "stamp") for name in PAIRS[7][0][2]]),
-            "`half` is `better` in the goodput of `far`": (8, lambda: [it.verdict == "better" for it in self.of(8, "half", "stamp")
-                                                                       if (it.scenario, it.measure) == ("far", "goodput")]),
-            "`pie` with all rules exchanged is `same` as PIE here": (9, lambda: [it.verdict == "same" for it in self.of(9, "stamp", "pie-all")]),
-            "the rule `small`, exchanged alone, makes the waits of `slow` `better`": (9, lambda: [
-                it.verdict == "better" for it in self.of(9, "pie-small", "pie") if (it.scenario, it.measure) == ("slowrules", "wait")])}
-        known = {words: test for words, (number, test) in is_all.items() if self.is_answered(number)}
-        return [words for words, test in known.items() if not all(test())], len(is_all) - len(known), len(is_all)
+        """Returns each prediction of the plan that did not come true, with what came, and the number of those that are not decided, and of all."""
+        unlike = ("bbrcubic", "udp", "trips", "burst", "short", "mixed")
+        wide = f"in the mean wait wherever flows differ ({', '.join(f'`{name}`' for name in unlike)})"
+        found = [
+            (1, "PIE here is `same` as `pie` except in `slow`", "same", [it for it in self.questions[1] if it.scenario != "slow"]),
+            *((number, f"PIE here is `worse` than `{queue}` {wide}", "worse", [it for it in self.questions[number] if it.scenario in unlike and it.measure == "wait"])
+              for number, queue in ((4, "fq_codel"), (5, "cake besteffort"), (6, "fq_pie"))),
+            (7, "waits with ECN are `same`", "same", [it for it in self.questions[7] if it.measure != "goodput"]),
+            (8, "`half` is `better` in the goodput of `far`", "better", [it for it in self.of(8, "half", "stamp") if it.scenario + it.measure == "fargoodput"]),
+            (9, "`pie` with all rules exchanged is `same` as PIE here", "same", self.of(9, "stamp", "pie-all")),
+            (9, "the rule `small`, exchanged alone, makes the waits of `slow` `better`", "better",
+             [it for it in self.of(9, "pie-small", "pie") if it.scenario + it.measure == "slowruleswait"])]
+        wrong = []
+        for _, words, wanted, them in (it for it in found if self.is_answered(it[0])):
+            came = []
+            for verdict in ("better", "worse", "same", "open"):
+                if verdict != wanted and (names := list(dict.fromkeys(it.scenario for it in them if it.verdict == verdict))):
+                    came.append(f"`{verdict}` in {', '.join(f'`{name}`' for name in names)}")
+            wrong += [f"{words}: {', '.join(came)}"] * bool(came)
+        if self.is_answered(7):
+            more = [name for name in PAIRS[7][0][2] if self.lost(name, "ecn") >= self.lost(name, "stamp")]
+            wrong += [f"fewer packets are lost with ECN: not in {', '.join(f'`{name}`' for name in more)}"] * bool(more)
+        unknown = sum(not self.is_answered(number) for number in [7, *(it[0] for it in found)])
+        return wrong, unknown, len(found) + 1
 
     def stored(self):
         return f"{len(self.rows):,} of {len(KEYS):,} runs"
@@ -331,8 +339,7 @@ def faults(expected, page, readme, comparisons, pictures):
     these, unknown, every = expected.wrong_predictions()
     text = parts.pop(PREDICTED, "")
     printed = list_of(text)
-    wrong += [f"the predictions: {printed}, and the rows give {these}"] * (
-        len(printed) != len(these) or not all(a.startswith(b) for a, b in zip(printed, these)))
+    wrong += [f"the predictions: {printed}, and the rows give {these}"] * (printed != these)
     wrong += [f"{unknown} predictions are unknown"] * ((f"{unknown} of {every} predictions are not decided yet." in text) != (unknown > 0))
     wrong += ["the predictions that came true"] * (("Every prediction" in text) != (unknown < every and not these))
     text = parts.pop(CALIBRATION, "")
@@ -445,9 +452,11 @@ PLANTS = [
     ("COLOURS[it.verdict]\n        words", 'COLOURS["same"]\n        words'), ("it.verdict, size=11, colour=colour", '"same", size=11, colour=colour'),
     ("it.difference - it.reach, it.difference + it.reach, it.margin", "it.difference - it.reach, it.difference + it.reach, it.reach"),
     ("it.difference - it.reach, it.difference + it.reach, it.margin", "it.difference + it.reach, it.difference - it.reach, it.margin"),
-    ("seconds / 4", "seconds / 2"), ("if not is_met(", "if is_met("), ('"short", "mixed")\n\n', '"short")\n\n'), ("if wrong else [", "if not wrong else ["),
-    ("ecn < stamp", "ecn > stamp"),
-    ('if it.scenario in UNLIKE], ("wait",)', 'if it.scenario in UNLIKE], ("wait", "goodput")'), ('if it.scenario != "slow"', 'if it.scenario != "two"'),
+    ("seconds / 4", "seconds / 2"), ("words, came in known if came", "words, came in known if not came"), ('"short", "mixed")\n\n', '"short")\n\n'), ("if wrong else [", "if not wrong else ["),
+    ("float.__ge__(*", "float.__le__(*"),
+    ('it.scenario in UNLIKE and it.measure == "wait"', "it.scenario in UNLIKE"), ('it.scenario != "slow")', 'it.scenario != "two")'),
+    ("if verdict != wanted}", 'if verdict not in (wanted, "open")}'), ('("half", "far", "goodput")', '("half", "trips", "goodput")'),
+    ('"slowrules", "wait")', '"tworules", "wait")'), ('it.measure in ("wait", "wait99")', 'it.measure == "wait"'),
     ('(True, False): "yes", (False, True): "no"', '(True, False): "no", (False, True): "yes"'), ('(True, True): "it depends"', '(True, True): "yes"'),
     ('"not decided" if counts["open"] else "no difference"', '"no difference"'),
     ('counts["better"] > 0, counts["worse"] > 0', 'counts["better"] > 1, counts["worse"] > 0'),

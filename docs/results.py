@@ -1,7 +1,8 @@
 #!/usr/bin/env python3
-"""Writes docs/RESULTS.md, bench/uml/README.md, docs/comparisons.csv and docs/ellipses.svg from docs/RESULTS.in, bench/uml/README.in and the stored runs: bench/uml/results.csv.xz,
-bench/uml/short.csv.xz, bindings/bpf/sparse.csv.xz and bindings/ns3/results.csv. Every figure of the pages is an expression in their sources, between {{ and }}, which this script
-evaluates. `elsewhere` has the sentences of other pages that rest on runs.
+"""Writes docs/RESULTS.md, bench/uml/README.md, docs/comparisons.csv, the pictures and a part of README.md from docs/RESULTS.in, bench/uml/README.in and
+the stored runs: bench/uml/queues.csv.xz (by docs/questions.py), bench/uml/results.csv.xz, bench/uml/short.csv.xz, bindings/bpf/sparse.csv.xz and
+bindings/ns3/results.csv. Every figure of the pages is an expression in their sources, between {{ and }}, which this script evaluates. `elsewhere` has the
+sentences of other pages that rest on runs.
 
 usage: docs/results.py [--check | --needs]
   --check   writes nothing. Status 1 if a file differs from the result of the runs, if a source has a figure of its own, or if a sentence of
@@ -24,7 +25,7 @@ sys.path[:0] = [str(ROOT / "bench"), str(ROOT / "bench/uml"), str(ROOT / "bindin
 sys.dont_write_bytecode = True
 from equivalence import compare, compare_pairs, power  # noqa: E402
 import beside  # noqa: E402
-import queues as planned  # noqa: E402
+import questions  # noqa: E402
 import sparse  # noqa: E402
 from rfc7928 import estimate  # noqa: E402
 from scenarios import FIVE, SAME_BLOCKS, SCENARIOS, TWICE, queues_of  # noqa: E402
@@ -104,6 +105,10 @@ RUNS = Runs(ROWS)
 LIMIT_ROWS = [row for row in STORED if row["scenario"] in LIMITS]
 LIMIT_RUNS = Runs(LIMIT_ROWS)
 SHORT = read("bench/uml/short.csv.xz")
+PLANNED = questions.Rows(read("bench/uml/queues.csv.xz"))
+# the parts of the sources that go when the runs of the plan are complete
+OLDER = re.compile(r"^<!-- older runs -->\n(.*?)^<!-- to here -->\n", re.M | re.S)
+HAS_OLDER = not PLANNED.is_complete(*questions.SCENARIOS)
 NS3 = read("bindings/ns3/results.csv")
 
 
@@ -495,17 +500,11 @@ def versions():
             "runs of several versions.")
 
 
-def planned_runs():
-    """Returns the number of runs of PLAN.md's section Queues that are stored, and the number of all."""
-    stored = planned.STORED.relative_to(ROOT)
-    return f"{len(read(str(stored))) if (ROOT / stored).exists() else 0} of {len(planned.expected_keys())} runs"
-
-
 def mixed_versions():
     """Returns the number of versions of the link and of dist/ that the runs mix, in words."""
     found = {tuple(row["version"].split(".")[2:4]) for row in ROWS}
     return (f"The runs without those of [Limits](#limits) mix {len(found)} versions of the link and of dist/ "
-            "([which](../bench/uml/README.md#how-it-was-measured)).")
+            "([which](../bench/uml/README.md#how-older-runs-were-measured)).")
 
 
 def not_run():
@@ -528,20 +527,6 @@ def pairs_of(one="stamp", other="pie"):
             yield name, "goodput", "whole", RUNS.part(name, "whole")
             for part in split_of(RUNS, name):
                 yield name, "probe", f"{part[0]:g}-{part[1]:g}", part
-
-
-def same_table(one="stamp", other="pie"):
-    lines = {}
-    for name, field, part, bounds in pairs_of(one, other):
-        if found := test(name, one, other, field, part):
-            cells = lines.setdefault(name, [f"`{name}`", str(len(difference_of(name, one, other, field, part)[0])), "", ""])
-            margin = margin_text(name, one, other, field, part)
-            if field == "goodput":
-                is_slow = fmean(difference_of(name, one, other, field, part)[0]) < 3
-                cells[2] = plus_minus(found, field, 3 if is_slow else None, margin)
-            else:
-                cells[3] += f"{'; ' * bool(cells[3])}{name_of_part(bounds)} s: {plus_minus(found, field, margin=margin)}"
-    return table(["scenario", "blocks", "goodput", "wait"], lines.values())
 
 
 def verdicts(field, one="stamp", other="pie"):
@@ -678,7 +663,7 @@ def comparisons():
     """Returns the rows of docs/comparisons.csv: each comparison that a page prints or counts."""
     for source in SOURCES.values():
         page(source)
-    for pair in PAIRS:
+    for pair in PAIRS * HAS_OLDER:
         for name, field, part, bounds in pairs_of(*pair):
             PRINTED.setdefault((name, field, bounds, *pair, None), part)
     lines = [["scenario", "from", "to", "measure", "queue", "beside", "blocks", "difference", "least", "most", "margin", "verdict"]]
@@ -687,7 +672,7 @@ def comparisons():
         if found:
             beside_it = f"{other} of {other_name}" if other_name else other
             lines.append([name, *bounds, field, one, beside_it, len(theirs), *found[:3], margin_of(name, one, other, field, part, theirs), found[3]])
-    for name, part, most, least, found, margin, blocks in extremes():
+    for name, part, most, least, found, margin, blocks in extremes() * HAS_OLDER:
         lines.append([name, *RUNS.part(name, part), "goodput", most, least, blocks, *found[:3], margin, found[3]])
     for name in LIMITS:
         for queue in (it for it in limit_queues(name) if it != present_limit(name)):
@@ -695,6 +680,7 @@ def comparisons():
                 found = limit_test(name, queue, field, part)
                 blocks = len(limit_values(name, queue, field, part))
                 lines.append([name, *LIMIT_RUNS.part(name, part), field, queue, present_limit(name), blocks, *found[:3], found[4], found[3]])
+    lines += questions.listed(PLANNED)
     for mbit, flows, ecn in sorted({(row["mbit"], row["flows"], row["ecn"]) for row in NS3}, key=lambda it: (int(it[0]), int(it[1]), it[2])):
         for queue in NS3_OTHERS:
             for field in ("link_mbit", "wait_mean_ms"):
@@ -759,14 +745,12 @@ def base_text():
     return f"{parts[0]} at the link{grants}, and by {parts[1]}"
 
 
-def queues_table(scenario, queues, more=()):
-    """Returns goodput, waits and losses of queues, in the blocks that all of them ran. A queue of `more` has its runs in another scenario, with the same
-    blocks."""
-    names = {queue: more[queue] if queue in more else scenario for queue in queues}
-    names = {queue: name for queue, name in names.items() if RUNS.blocks(name, queue)}
-    blocks = set.intersection(*(set(RUNS.blocks(name, queue)) for queue, name in names.items()))
+def queues_table(it, queues):
+    """Returns goodput, waits and losses of queues of a scenario, in the blocks that all of them ran."""
+    queues = [queue for queue in queues if RUNS.blocks(it, queue)]
+    blocks = set.intersection(*(set(RUNS.blocks(it, queue)) for queue in queues))
     lines = []
-    for queue, it in names.items():
+    for queue in queues:
         start = [value(it, queue, field, "start", blocks=blocks) for field in ("goodput", "probe")]
         waits = [value(it, queue, "wait", blocks=blocks), value(it, queue, "wait99", digits=0, blocks=blocks), spread(it, queue, "probe", blocks=blocks),
                  value(it, queue, "probe95", digits=0, blocks=blocks)]
@@ -1101,7 +1085,7 @@ def wrapped(block):
 
 @functools.cache
 def page(source="docs/RESULTS.in"):
-    text = (ROOT / source).read_text()
+    text = OLDER.sub(r"\1" if HAS_OLDER else "", (ROOT / source).read_text())
     IS_PRINTING.append(source)
     text = re.sub(r"\{\{(.*?)\}\}", lambda found: str(eval(found[1], globals())), text, flags=re.S)  # noqa: S307 (its own page)
     IS_PRINTING.pop()
@@ -1116,18 +1100,32 @@ def own_figures(source):
     return [it for it in (" ".join(it.split()) for it in found) if it[0].isdigit() and it not in SETTINGS]
 
 
+WORTH = re.compile(r"(?<=<!-- by docs/results.py -->\n).*?(?=<!-- to here -->)", re.S)
+
+
+def worth():
+    """Returns what README.md says of the worth: four flows behind tail drop and PIE, and the plan's answers."""
+    if PLANNED.is_complete("four"):
+        waits, carried = ([shown(fmean(PLANNED.values("four", queue, measure, 3)), digits=digits) for queue in ("tail", "stamp")]
+                          for measure, digits in (("wait", 0), ("goodput", 2)))
+    else:
+        waits, carried = ([value("four", queue, measure, digits=digits) for queue in ("tail", "stamp")] for measure, digits in (("wait", 0), ("goodput", 2)))
+    four = (f"With four CUBIC flows at 10 Mbit/s a packet waits {waits[0]} ms on average with tail drop and {waits[1]} ms with PIE. "
+            f"The goodput is {carried[0]} and {carried[1]} Mbit/s ([docs/RESULTS.md](docs/RESULTS.md)).")
+    return "\n\n".join(map(wrapped, [four, *questions.readme(PLANNED).split("\n\n")])) + "\n"
+
+
 def elsewhere():
     """Returns sentences of other pages that rest on stored runs, as (page, sentence)."""
-    waits = [value("four", queue, "wait", digits=0) for queue in ("tail", "stamp")]
-    carried = [value("four", queue, "goodput") for queue in ("tail", "stamp")]
-    return [("README.md", f"With four CUBIC flows at 10 Mbit/s a packet waits {waits[0]} ms on average with tail drop and {waits[1]} ms with PIE. "
-                          f"The goodput is {carried[0]} and {carried[1]} Mbit/s ([docs/RESULTS.md]"),
+    return [("README.md", f"<!-- by docs/results.py --> {' '.join(worth().split())} <!-- to here -->"),
             ("docs/PARAMETERS.md", f"Many flows exceed it: sixteen flows settle at a probability of {percent('ecnmany', 'stamp', 'prob', digits=0)} "
                                    "per cent ([RESULTS.md]")]
 
 
 SOURCES = {"docs/RESULTS.md": "docs/RESULTS.in", "bench/uml/README.md": "bench/uml/README.in"}
-MADE = {**{name: functools.partial(page, source) for name, source in SOURCES.items()}, "docs/comparisons.csv": comparisons, "docs/ellipses.svg": picture}
+MADE = {**{name: functools.partial(page, source) for name, source in SOURCES.items()}, "docs/comparisons.csv": comparisons,
+        **({"docs/ellipses.svg": picture} if HAS_OLDER else {}),
+        **{f"docs/{name}": functools.partial(str, text) for name, text in questions.pictures(PLANNED).items()}}
 
 
 def differences(stored):
@@ -1147,6 +1145,8 @@ def main():
     if "--check" not in sys.argv:
         for name, text in MADE.items():
             (ROOT / name).write_text(text())
+        readme = ROOT / "README.md"
+        readme.write_text(WORTH.sub(lambda _: worth(), readme.read_text()))
         return 0
     wrong = differences({})
     for it in wrong:

@@ -37,6 +37,7 @@ MACHINES = "needs other machines"
 NOT_RUN = {
     "README.md": {"# pie-watch eth0": KERNEL},
     "CONTRIBUTING.md": {".ci/quick": "minutes; the gate runs this test"},
+    "bench/uml/PLAN.md": {"commit 6a280361": "a version, not a command"},
     "bench/uml/README.md": {"bench/steps/install.sh": "builds a Linux and measures for hours"},
     "bindings/bpf/README.md": {"# pie-qdisc attach": KERNEL},
     "bindings/dpdk/README.md": {"$ dpdk-telemetry.py": "needs a program of DPDK that runs"},

@@ -3,15 +3,18 @@
 medians, and the ratio in brackets the least figures. A ratio must lie between the least and the greatest quotient that the rounded figures allow.
 A section in which ratios are medians of those of the runs says so, and is left out.
 
-The tables of times in TIMES are those of the rows in bench/times.csv.xz, which PIE_ROWS of bench/ratios.py stores.
+The tables of times in TIMES are those of the rows in bench/times.csv.xz, which PIE_ROWS of bench/ratios.py stores. A ratio there is that of the medians,
+and has a 95 % interval: the ratios of the medians of runs that are drawn from these runs again and again, both sides of a run together.
 
 The table of a packet's instructions through DPDK is that of bench/dpdk_counts.csv, and the counts of the library for C are those of
 bench/pie_c_count.txt.
 usage: tests/documents/performance.py [--write]     --write: writes the tables of DPDK and of times
 needs: nothing"""
 import csv
+import itertools
 import lzma
 import os
+import random
 import re
 import statistics
 import sys
@@ -71,20 +74,38 @@ def dpdk_table():
     return "\n".join(lines) + "\n"
 
 
-# the head of a table, and the names of its rows in bench/times.csv.xz
+# the head of a table, the number of its runs, and the names of its rows in bench/times.csv.xz
 TIMES = {
-    "| per event | here | C, decided only | ratio |": [(name, "c_book_decided") for name in (
-        "book_decided", "book_recorded_bounded", "book_recorded_rolling", "c_book_recorded_bounded", "c_book_recorded_rolling")],
-    "| measured; compared with | library | the other | ratio |": [
+    "| per event | here | C, decided only | ratio |": (9, [(name, "c_book_decided") for name in (
+        "book_decided", "book_recorded_bounded", "book_recorded_rolling", "c_book_recorded_bounded", "c_book_recorded_rolling")]),
+    "| measured; compared with | library | the other | ratio |": (28, [
         ("arrive_library", "arrive_c"), ("arrive_library", "arrive_c_checked"), ("depart_library", "depart_c"), ("depart_library", "depart_c_checked"),
-        ("update_library", "update_c"), ("stream_library", "stream_none"), ("stream_library", "stream_c"), ("stream_library", "stream_dpdk")]}
+        ("update_library", "update_c"), ("stream_library", "stream_none"), ("stream_library", "stream_c"), ("stream_library", "stream_dpdk")])}
 
 
-def time_cells(rows, here, other):
-    """Returns the cells of a row: the median in ns of each side with its least value, and their ratios."""
-    ours, theirs = (sorted(float(row["value"]) for row in rows if row["name"] == name) for name in (here, other))
-    cells = [f"{statistics.median(them):.1f} ns ({them[0]:.1f})" for them in (ours, theirs)]
-    return [*cells, f"{statistics.median(ours) / statistics.median(theirs):.2f} ({ours[0] / theirs[0]:.2f})"]
+DRAWS = 400
+
+
+def ratio_of(runs):
+    """Returns the ratio of the medians of runs; each has the values of both sides."""
+    ours, theirs = (statistics.median(itertools.chain(*them)) for them in zip(*runs))
+    return ours / theirs
+
+
+def interval(runs):
+    """Returns the 95 % interval of the ratio of medians."""
+    dice = random.Random(len(runs))
+    found = sorted(ratio_of(dice.choices(runs, k=len(runs))) for _ in range(DRAWS))
+    return found[DRAWS // 40], found[-1 - DRAWS // 40]
+
+
+def time_cells(rows, count, here, other):
+    """Returns the cells of a row: the median in ns of each side with its least value, and the ratio of the medians with its interval. A run has several
+    rounds, which follow each other."""
+    sides = [[float(row["value"]) for row in rows if row["name"] == name] for name in (here, other)]
+    runs = [[them[place * len(them) // count:(place + 1) * len(them) // count] for them in sides] for place in range(count)]
+    low, high = interval(runs)
+    return [*(f"{statistics.median(them):.1f} ns ({min(them):.1f})" for them in sides), f"{ratio_of(runs):.2f} ({low:.2f} to {high:.2f})"]
 
 
 def with_times(page):
@@ -92,18 +113,24 @@ def with_times(page):
     with lzma.open(ROOT / "bench/times.csv.xz", "rt", newline="") as file:
         rows = list(csv.DictReader(file))
     lines = page.split("\n")
-    for head, pairs in TIMES.items():
+    for head, (count, pairs) in TIMES.items():
         check(head in lines, f"{PAGE} has no table {head}")
         first = lines.index(head) + 2
         for at, pair in enumerate(pairs, first):
             check(lines[at].startswith("| ") and lines[at].count("|") == 5, f"{PAGE}: no row of the table {head}: {lines[at]}")
-            lines[at] = "| ".join([*lines[at].split("| ")[:2], " | ".join(time_cells(rows, *pair)) + " |"])
+            lines[at] = "| ".join([*lines[at].split("| ")[:2], " | ".join(time_cells(rows, count, *pair)) + " |"])
     return "\n".join(lines)
 
 
 def check_times(page):
-    sample = [{"name": name, "value": value} for name, values in {"a": "234", "b": "468"}.items() for value in values]
-    check(time_cells(sample, "a", "b") == ["3.0 ns (2.0)", "6.0 ns (4.0)", "0.50 (0.50)"], "the cells of a sample are wrong")
+    sample = [{"name": name, "value": value} for name, values in {"a": "234567892", "b": "468246825"}.items() for value in values]
+    *cells, ratio = time_cells(sample, 9, "a", "b")
+    check(cells == ["5.0 ns (2.0)", "5.0 ns (2.0)"] and ratio.startswith("1.00 ("), f"the cells of a sample are wrong: {cells}, {ratio}")
+    # runs of two equal sides, and runs whose ratio is 2 in all but four: the interval of the median of 100
+    alike, unlike = [[[it], [it]] for it in range(1, 30)], [[[2.0], [1.0]]] * 96 + [[[9.0], [1.0]]] * 4
+    check(interval(alike) == (1, 1) and interval(unlike) == (2, 2), "the interval of a ratio is wrong")
+    low, high = interval([[[1 + it / 1000], [1.0]] for it in range(101)])
+    check(abs(low - 1.04) < 0.012 and abs(high - 1.06) < 0.012, f"the interval of a ratio of 1.05 is {low} to {high}")
     for line, wanted in zip(page.split("\n"), with_times(page).split("\n")):
         check(line == wanted, f"{PAGE}: bench/times.csv.xz gives {wanted}: {line}")
 
@@ -132,7 +159,7 @@ def main():
     for row, ratio, here, other in (it for section in sections for it in ratios_of(section)):
         tried += 1
         check(agrees(ratio, here, other), f"{PAGE}: {here} to {other} is {float(here) / float(other):.2f}, and not {ratio}: {row}")
-    check(tried > 30, f"{PAGE}: only {tried} ratios were found")
+    check(tried > 20, f"{PAGE}: only {tried} ratios were found")
     check(not agrees("1.46", "40.5", "31.0"), "a wrong ratio passes")
     print(f"{NAME}: {tried} ratios of {PAGE} are the quotients of their figures")
 

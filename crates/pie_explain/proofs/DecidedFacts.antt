@@ -3,14 +3,16 @@ use Rattle.std.proofs.Common.{◌∙◌, ap, append_assoc, arith, refl, subst, s
 use Rattle.std.specs.Option.{option_or}
 use Rattle.std.specs.Prelude.{ℕ, Bool, true, false, List, [], Option, Some, None, Result, Ok, Err, IfSome, cond, map, if◌then◌else◌, ◌≡◌, ◌+◌, ◌<◌, ◌∷◌, ◌++◌}
 use Rattle.pie_aqm.specs.Steps.{delay_in}
+use Rattle.pie_explain.proofs.ExplainFacts.{ended-by, explained-by}
 use Rattle.pie_explain.proofs.Names.{along-push, append-nil, count-push, difference-push, nat_tests}
 use Rattle.pie_audit.specs.{Replay.AuditorView, Replay.difference_from, Replay.differs_from, Replay.finding_by, Replay.line_places, Replay.Origin, Replay.RepresentsAfter, Replay.at_core, Replay.at_opening, Replay.count_after, Replay.start_after, Replay.start_at, Replay.Replays, Replay.next_number, Replay.Start, Beginnings.ReplaysText, Text.BeginsAtCore, Text.remaining_of, Text.text_fault}
 use Rattle.pie_audit.specs.declared.{auditor.Finding.TheVariants.Differs, replay.Replay.Replay}
-use Rattle.pie_book.specs.{Core.CoreView, Core.Represents, Core.answer_in, Core.core_after, Core.refusal_of, Core.registers_of, Decision.decision, Decision.refusal_by_rule, Decision.delay_after, Decision.registers_after, Decision.wait_of, Book.refused_or, Book.step_in}
+use Rattle.pie_book.specs.{Core.CoreView, Core.Represents, Core.answer_in, Core.core_after, Core.refusal_of, Core.registers_of, Decision.wait_of, Book.refused_or, Book.step_in}
+use Rattle.pie_book.proofs.CoreFacts.{next_decided, refusal_is}
 use Rattle.pie_event.specs.Event.{effect}
-use Rattle.pie_event.specs.declared.{command.Answer.Answer, command.Event.Event, opening.Opening.Opening, refusal.Refusal.Refusal, registers.Registers.Registers, command.Setter.Setter}
+use Rattle.pie_event.specs.declared.{command.Answer.Answer, command.Command.Command, command.Event.Event, opening.Opening.Opening, refusal.Refusal.Refusal, registers.Registers.Registers, command.Setter.Setter}
 use Rattle.pie_excerpt.specs.Beginning.{Beginning, beginning_of}
-use Rattle.pie_explain.specs.{DecidedEvent.DecidesAfter, DecidedEvent.DecidesEvent, DecidedEvent.HasReached, DecidedEvent.IsDecided, DecidedEvent.IsPast, DecidedEvent.last_decided, DecidedEvent.decision_at, DecidedEvent.decision_by, DecidedEvent.result_after, DecidedEvent.wait_if_decided, DecidedEvent.with_answer, Explanation.explanation, Explanation.explanation_in, Explanation.with_core}
+use Rattle.pie_explain.specs.{DecidedEvent.DecidesAfter, DecidedEvent.DecidesEvent, DecidedEvent.HasReached, DecidedEvent.IsDecided, DecidedEvent.IsPast, DecidedEvent.last_decided, DecidedEvent.decision_at, DecidedEvent.decision_by, DecidedEvent.result_after, DecidedEvent.wait_if_decided, DecidedEvent.with_answer, Explanation.explanation_in, Explanation.with_core}
 use Rattle.pie_explain.specs.declared.{decided_event.DecidedEvent.DecidedEvent, decided_event.EventDecision.EventDecision, decided_event.EventDecision.TheVariants.Answered, explanation.Explained.Explained, explanation.Explanation.Explanation}
 use Rattle.pie_record.specs.{HistoryLines.RemainingLines, HistoryLines.event_count, HistoryLines.is_event, Text.Row}
 use Rattle.pie_record.specs.declared.{clock.Clock.Clock, fault.TraceFault.TraceFault, history_record.Line.Line, history_record.Line.TheVariants.Invalid, history_record.Line.TheVariants.Valid}
@@ -87,6 +89,20 @@ abbrev pub explained_with : Explanation → Answer → ℕ → Registers → ℕ
 explained_with found answer waited after delay =
     record { explanation = record found { event = with_answer found.event answer; waited = waited }; after = after; delay = delay }
 
+-- the result of a core's step is that of the rules after the events before it, and the core then represents one event more
+result-by : (origin : Origin) (core : CoreView) (events : List Event) (command : Command) → RepresentsAfter origin core events
+    → step_in core command ≡ result_after origin events command
+result-by (at_opening opening) core events command shows =
+    λ i. refused_or (refusal_is opening core events shows command i) (next_decided opening core events shows command i)
+result-by (at_core opening first it) core events command stands = ap (λ (c : CoreView). step_in c command) stands
+
+stepped : (origin : Origin) (core later : CoreView) (events : List Event) (event : Event) → later ≡ core_after core event.command
+    → ((opening : Opening) (history : List Event) → Represents opening core history → Represents opening later (history ++ event ∷ []))
+    → RepresentsAfter origin core events → RepresentsAfter origin later (events ++ event ∷ [])
+stepped (at_opening opening) core later events event is represents shows = represents opening events shows
+stepped (at_core opening first it) core later events event is represents stands =
+    is ∙ ap (λ (c : CoreView). core_after c event.command) stands ∙ sym (along-push first events event)
+
 module _ (core later : CoreView) (number : ℕ) (event : Event) (set_by : Setter) (clock : Option Clock) (answer : Answer) (found : Explanation)
     (waited : ℕ) (after : Registers) (delay : ℕ) where
   -- the result of the core's own step
@@ -95,45 +111,27 @@ module _ (core later : CoreView) (number : ℕ) (event : Event) (set_by : Setter
       × (Ok answer ≡ step_in core event.command) × (later ≡ core_after core event.command)
       × (after ≡ registers_of later) × (delay ≡ delay_in later.controller (bytes_of later.waiting))
 
-  -- the result by a history that the core represents
-  abbrev pub StepsAfter : Type 0
-  StepsAfter = (opening : Opening) (history : List Event) → Represents opening core history
-      → (found ≡ explanation opening history number event set_by clock)
-      × (Ok answer ≡ refused_or (refusal_by_rule opening history event.command) (decision opening history event.command))
-      × (after ≡ registers_after opening (history ++ with_answer event answer ∷ []))
-      × (delay ≡ delay_after opening (history ++ with_answer event answer ∷ []))
-
-  pub decided-is : (origin : Origin) (events : List Event) → StepsTo → StepsAfter → RepresentsAfter origin core events
+  pub decided-is : (origin : Origin) (events : List Event) → StepsTo
+      → ((opening : Opening) (history : List Event) → Represents opening core history → Represents opening later (history ++ with_answer event answer ∷ []))
+      → RepresentsAfter origin core events
       → Answered (explained_with found answer waited after delay)
       ≡ decision_by origin events number event set_by clock (result_after origin events event.command)
-  unfolding explanation explanation_in
-  decided-is (at_opening opening) events steps back shows =
-      let at = back opening events shows in
+  unfolding explanation_in
+  decided-is origin events steps represents shows =
       let given : answer ≡ answer_in core event.command = answer-is (refusal_of core event.command) _ _ steps.2 in
-      rw (← at.1) (λ i. Answered (record {
-        explanation = record (at.0 i) {
-          event = with_answer (at.0 i).event answer;
-          waited = (steps.1 ∙ (λ j. wait_of (effect event.command (sym given j)) (at.0 j).moment (shows.waiting j))) i;
-        };
-        after = at.2 i;
-        delay = at.3 i;
-      }))
-  decided-is (at_core opening first it) events steps back stands =
-      let given : answer ≡ answer_in core event.command = answer-is (refusal_of core event.command) _ _ steps.2 in
-      let own : Answered (explained_with found answer waited after delay)
-      ≡ Answered (with_core (core_after core event.command) (explanation_in core number (with_answer event answer) set_by clock)) =
-      λ i. Answered (record {
+      let own : explained_with found answer waited after delay
+      ≡ with_core later (explanation_in core number (with_answer event answer) set_by clock) = λ i. record {
         explanation = record (steps.0 i) {
           event = with_answer (steps.0 i).event answer;
           waited = (steps.1 ∙ (λ j. wait_of (effect event.command (sym given j)) (steps.0 j).moment core.waiting)) i;
         };
-        after = (steps.4 ∙ ap registers_of steps.3) i;
-        delay = (steps.5 ∙ ap (λ (c : CoreView). delay_in c.controller (bytes_of c.waiting)) steps.3) i;
-      }) in
-      let result = subst (λ (c : CoreView). step_in c event.command ≡ Ok answer) stands (sym steps.2) in
-      let later-is = along-push first events (with_answer event answer) ∙ ap (λ (c : CoreView). core_after c event.command) (sym stands) in
-      own ∙ (λ i. Answered (with_core (sym later-is i) (explanation_in (stands i) number (with_answer event answer) set_by clock)))
-      ∙ sym (ap (λ (r : Result Answer Refusal). decision_by (at_core opening first it) events number event set_by clock r) result)
+        after = steps.4 i;
+        delay = steps.5 i;
+      } in
+      ap Answered (own ∙ ap (with_core later) (explained-by origin core events number (with_answer event answer) set_by clock shows)
+      ∙ ended-by origin later (events ++ with_answer event answer ∷ []) _ (stepped origin core later events _ steps.3 represents shows))
+      ∙ ap (λ (r : Result Answer Refusal). decision_by origin events number event set_by clock r)
+      (steps.2 ∙ result-by origin core events event.command shows)
 
 -- ---- the text
 

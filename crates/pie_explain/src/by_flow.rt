@@ -8,7 +8,7 @@ use crate::flow::{Flow, flows_of, take};
 use crate::flow_words::{NAMES, push_flows};
 use crate::interval::{ends_interval, has_summary, interval_of, starts_interval};
 use crate::report::push_header;
-use crate::summary_words::Written;
+use crate::text::Written;
 use crate::{Explained, Form, Report, time_of};
 use indexmap::IndexMap;
 use pie_record::Page;

@@ -74,7 +74,7 @@ pub fn moment_of(core: &Core, event: &Event) -> u64
 }
 
 impl Explained {
-    ghost use Rattle.pie_explain.specs.Explanation.{explanation, explanation_in, with_after, with_core};
+    ghost use Rattle.pie_explain.specs.Explanation.{explanation_in, with_core};
 
     /// Explains the event with this number before a core decides it. `set_by` is the event that last set the
     /// probability, and `clock` the last clock record. The result is built in its final place. Until `end` the
@@ -87,8 +87,6 @@ impl Explained {
         set_by: Setter,
         clock: Option<Clock>,
     ) -> Explained
-        ensures after { (opening : Opening) (history : List Event) → Represents opening core.now history
-            → result.explanation ≡ explanation opening history number event.now set_by clock }
         ensures in_state { result.explanation ≡ explanation_in core.now number event.now set_by clock }
         ensures event { result.explanation.event ≡ event.now }
         ensures clock { result.explanation.clock ≡ clock }
@@ -119,10 +117,7 @@ impl Explained {
     /// clock record. They are copied only now: a copy across the decision costs more.
     #[inline(always)]
     pub(crate) fn end(&mut self, event: &Event, clock: Option<Clock>, core: &Core)
-        ensures after { (opening : Opening) (history : List Event) → self.old.explanation.event ≡ event.now → self.old.explanation.clock ≡ clock
-            → Represents opening core.now history → self.new ≡ with_after opening history self.old.explanation }
-        ensures in_state { self.old.explanation.event ≡ event.now → self.old.explanation.clock ≡ clock
-            → self.new ≡ with_core core.now self.old.explanation }
+        ensures { self.old.explanation.event ≡ event.now → self.old.explanation.clock ≡ clock → self.new ≡ with_core core.now self.old.explanation }
     {
         self.explanation.event = *event;
         self.explanation.clock = clock;

@@ -2,11 +2,13 @@
 ghost use Rattle.std.specs.Prelude.{◌≡◌, ◌++◌, OnOk, string_bytes, true};
 ghost use Rattle.pie_explain.specs.{FlowRecords.each_record, FlowRecords.flow_record, FlowRecords.flows_text, FlowRecords.mean_wait, FlowRecords.name_field, FlowRecords.others_record, SummaryRecord.last_fields};
 
+use crate::Form;
 use crate::aggregates::{Bounds, Span};
 use crate::flow::{Flow, first_of, sums_beside};
 use crate::flow_sums::FlowSums;
-use crate::summary_words::{Written, push_head, push_times};
-use crate::{Form, Millis, Share};
+use crate::summary_words::{push_head, push_times};
+use crate::text::Written;
+use crate::units::{Millis, Share};
 use pie_units::Utc;
 use std::alloc::{AllocError, Global};
 use std::fmt;

@@ -107,17 +107,6 @@ impl Sums {
         Sums::default()
     }
 
-    /// Returns the effective moments of the events.
-    pub(crate) fn moments(&self) -> Bounds
-        ensures { result ≡ record { count = self.now.count; first = self.now.meter.first; last = self.now.meter.last } }
-    {
-        Bounds {
-            count: self.count,
-            first: self.meter.first,
-            last: self.meter.last,
-        }
-    }
-
     /// Begins the meter at this moment, if there was no event before.
     #[tactic(auto, using(crate::proofs::SumsFacts::reached_more, crate::proofs::SumsFacts::reached_none), unfolding(crate::specs::Sums::sums_of))]
     fn begin_at(&mut self, moment: u64)

@@ -4,7 +4,7 @@ ghost use Rattle.pie_explain.specs.Report.{Extends};
 
 use crate::meter::Meter;
 use crate::meter_input::{EARLY, LEFT, MARKED, NO_BYTES, NO_PACKETS, UPDATED};
-use crate::summary_words::Written;
+use crate::text::Written;
 use pie_record::Page;
 use pie_units::Utc;
 use std::fmt;

@@ -63,4 +63,3 @@ pub use pie_event::Setter;
 pub use report::{EventRecords, Report, Words, push_words};
 pub use selection::{Selection, is_from, is_to, time_of};
 pub use summary::{Digest, Summaries, SummariesOnly};
-pub use units::{Millis, PerCent, Share};

@@ -3,13 +3,10 @@ use crate::aggregates::Bounds;
 use crate::interval::Sums;
 use crate::meter::Meter;
 use crate::meter_input::{EARLY, LEFT, MARKED, NO_BYTES, NO_PACKETS, QUEUED, UPDATED};
-use crate::{Millis, PerCent, Share};
+use crate::text::Written;
+use crate::units::{Millis, PerCent, Share};
 use pie_aqm::CauseName;
 use pie_units::Utc;
-use std::alloc::AllocError;
-
-/// The result of a write: `AllocError` if memory is short.
-pub(crate) type Written = Result<(), AllocError>;
 
 /// The names of the verdicts, with their places in a meter's answers.
 const VERDICTS: [(&str, usize); 5] = [
@@ -165,7 +162,8 @@ fn push_turned(
 /// Writes a summary in words, with the waiting time of 99 of 100, and with wall-clock times or not.
 pub(crate) fn push_words(page: &mut String, by_wall: bool, sums: &Sums, most: u64) -> Written {
     let meter = &sums.meter;
-    push_head(page, &sums.moments())?;
+    let (count, first, last) = (sums.count, meter.first, meter.last);
+    push_head(page, &Bounds { count, first, last })?;
     push_times(page, by_wall, "  ", &sums.times)?;
     push_arrivals(page, meter)?;
     push_departures(page, meter, most)?;

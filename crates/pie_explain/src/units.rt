@@ -18,7 +18,7 @@ impl Display for Digits {
 
 /// A time or a moment in nanoseconds, in milliseconds.
 #[derive(Clone, Copy)]
-pub struct Millis(pub u64);
+pub(crate) struct Millis(pub(crate) u64);
 
 impl Display for Millis {
     fn fmt<W: fmt::Write>(&self, f: &mut fmt::Formatter<W>) -> fmt::Result {
@@ -46,7 +46,7 @@ impl Display for MomentWords {
 
 /// A probability in units of `10^-12`, in per cent, rounded down.
 #[derive(Clone, Copy)]
-pub struct PerCent(pub u64);
+pub(crate) struct PerCent(pub(crate) u64);
 
 impl Display for PerCent {
     fn fmt<W: fmt::Write>(&self, f: &mut fmt::Formatter<W>) -> fmt::Result {
@@ -70,11 +70,9 @@ impl Display for Word {
 
 /// A count as a part of all, in per cent, rounded down; 0 if there are none.
 #[derive(Clone, Copy)]
-pub struct Share {
-    /// The count.
-    pub count: u64,
-    /// The count of all.
-    pub all: u64,
+pub(crate) struct Share {
+    pub(crate) count: u64,
+    pub(crate) all: u64,
 }
 
 impl Display for Share {

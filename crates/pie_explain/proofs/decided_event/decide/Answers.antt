@@ -1,6 +1,4 @@
 use Rattle.pie_explain.proofs.DecidedFacts.{decided-is}
-use Rattle.pie_explain.specs.DecidedEvent.{with_answer}
-use Rattle.std.specs.Prelude.{[], ◌∷◌, ◌++◌}
 use Rattle.pie_explain.proofs.decided_event.decide.Goals as goal
 
 pub returns-in-Ok : goal.returns-in-Ok
@@ -13,12 +11,4 @@ returns-in-Ok c = λ origin events shows.
       c.in-Ok.ensures.after,
       c.registers-explained.ensures.reads,
       c.delay.ensures.reads,
-    )
-    (λ opening history stands.
-    let later = c.in-Ok.ensures.represents opening history stands in (
-      c.begin-explained.ensures.after opening history stands,
-      c.in-Ok.ensures.decides opening history stands,
-      c.registers-explained.ensures.looks_back opening (history ++ with_answer c.args.event.now c.in-Ok.answer ∷ []) later,
-      c.delay.ensures.looks_back opening (history ++ with_answer c.args.event.now c.in-Ok.answer ∷ []) later,
-    ))
-    shows
+    ) c.in-Ok.ensures.represents shows

@@ -1,7 +1,7 @@
 -- Facts about the text of any report.
 use Rattle.std.proofs.Common.{Bool, List, [], ap, append-nil, append_assoc, refl, sym, true, false, ℕ, ◌++◌, ◌∷◌, ◌≡◌}
 use Rattle.std.specs.Prelude.{⊤, Err, Ok, OnOk, Result, if◌then◌else◌}
-use Rattle.pie_aqm.proofs.Laws.{place_of, places-push}
+pub use Rattle.pie_aqm.proofs.Laws.{greatest-push, last_or-push, place_of, places-push}
 use Rattle.pie_aqm.specs.History.{Place, places}
 use Rattle.pie_explain.specs.Report.{Extends, Grows, HasParts, IsBegun, IsEnded, Says}
 use Rattle.pie_explain.specs.declared.explanation.Explained.{Explained}

@@ -4,7 +4,7 @@ use Rattle.pie_event.specs.declared.{cause.CauseName.CauseName, command.Verdict.
 use Rattle.pie_explain.specs.declared.meter_input.Conditions.{Conditions}
 use Rattle.pie_explain.specs.Sums.{HasConditions, answer_place, awaiting, meter_in, conditions_of_event, meter_input_of}
 use Rattle.std.proofs.lemmas.List.{length_push}
-pub use Rattle.pie_aqm.proofs.Laws.{last_or-push, place_of, places-push}
+pub use Rattle.pie_explain.proofs.SummaryNames.{last_or-push, place_of, places-push}
 use Rattle.pie_explain.proofs.CountFacts.{kept-more}
 use Rattle.pie_explain.proofs.SpanFacts.{some-of-push}
 

@@ -9,6 +9,8 @@ same flow; the verdict and the cause of an arrival follow from the recorded resu
 - `--summary`, `--every` and `--flows`, in CSV, are sums over these events. In words they have the same numbers, and `--json` has the objects for the
   CSV. `--digest` has the summaries, and the lost and marked packets.
 - In words, `--tag`, `--from`, `--to` and `--queue` choose among the packets of `--all`.
+- One event has the same number, queue, size, verdict and cause in words (`--event`, `--lost`, `--marked`), in `--digest`, `--csv` and `--json`, and the
+  same size, verdict and cause in the sums of `--full`. The name of a queue may need quotes in CSV, and is a string in JSON.
 - The rows of other queues are not decided. A queue that the text lacks is an error, and so is `--queue` with a history.
 - A step that differs is left out, and so are the later steps of its queue up to the next row init or resume. All other steps are reported.
 
@@ -18,6 +20,7 @@ needs: program
 import csv
 import io
 import json
+import re
 import sys
 from collections import Counter, defaultdict
 from pathlib import Path
@@ -116,7 +119,7 @@ def events(chosen=None, rows=ROWS):
             queue.opening, queue.first = row["ns"], latest
         flow = row["flow"] if row["flow"] >= 0 else row["hash"] * queue.flows >> 32 if row["kind"] == "fq_pie" else 0
         before = dict(queue.state[flow])
-        event = {"number": number, "moment": row["ns"], "effective_moment": latest, "target": queue.target * 64, "flow": flow}
+        event = {"number": number, "queue": name, "moment": row["ns"], "effective_moment": latest, "target": queue.target * 64, "flow": flow}
         recorded = {name: row[f"a_{name}"] for name in STATE}
         if kind == "flow":
             queue.state[flow] = recorded
@@ -214,7 +217,9 @@ within = [event for event in ALL if middle[0] <= event["effective_moment"] <= mi
 hold_events(within, table("--all", f"--from={middle[0]}", f"--to={middle[1]}"), "--from --to")
 one = next(event for event in ALL if event["kind"] == "update")
 hold_events([one], table("--event", str(one["number"])), "--event")
-check(run("--all", "--csv", "--wall")[1] == run("--all", "--csv")[1].replace("\n", ",\n").replace("active_after,\n", "active_after,wall\n"), "--wall")
+lines = [line.rpartition(",") for line in run("--all", "--csv")[1].splitlines()]
+check(lines[0][0].endswith(",active_after") and lines[0][2] == "queue", "the header", lines[0])
+check(run("--all", "--csv", "--wall")[1] == "".join(f"{line[0]},{'' if at else 'wall'},{line[2]}\n" for at, line in enumerate(lines)), "--wall")
 
 # ---- sums
 
@@ -290,18 +295,55 @@ for event in lost:
     check(words_of[event["number"]] in digest, "--digest lacks event", event["number"])
     check(" caller " not in words_of[event["number"]], "caller in words", words_of[event["number"]])
 
-# one event in each form: the same queue, bytes, verdict and cause
-VERDICT_WORDS = {"mark": "MARKED", "early": "DROPPED early", "packets": "DROPPED over the limit", "enqueue": "queued"}
-for event in lost[:5] + lost[-5:]:
-    number = str(event["number"])
-    words = run("--event", number)[1]
-    check(words == words_of[event["number"]] and words.startswith(f"event {number}: queue ") and f", {event['size']} bytes: {VERDICT_WORDS[event['verdict']]}\n" in words,
-          "--event in words", words)
+# one event in each form: the same number, queue, size, verdict and cause
+VERDICT_WORDS = {"MARKED": "mark", "DROPPED early": "early", "DROPPED over the limit": "packets", "queued": "enqueue"}
+CAUSE_WORDS = {
+    "the queue is at its limit (overlimit)": "no_room_in_packets", "picked: the accumulated probability (accu_prob) is at least 850 %": "picked_by_sum",
+    "picked: the random word is below the probability": "picked_by_word", "queued: the random word is not below the probability": "word_not_below",
+    "queued: burst allowance is left (burst_time)": "burst_allowed", "queued: fewer than two MTUs wait": "short_queue",
+    "queued: the delay is below half the target, and the probability below 20 %": "low_delay",
+    "queued: the accumulated probability (accu_prob) is below 85 %": "little_accumulated"}
+ENDS = {"dropped: ecn is off": "_not_below", "dropped: the probability is above the limit for marks": "_not_below", "dropped: the packet cannot be marked": "_not_capable"}
+
+
+def in_words(text, number):
+    """Returns the event with this number in a text of words."""
+    block = next(f"event {block}" for block in f"\n{text}".split("\nevent ")[1:] if block.startswith(f"{number}: "))
+    first, *lines = block.split("\n")
+    _, at, queue, _, _, size, _, verdict = re.match(r"(event) (\d+): queue (\S+), (step) (\d+), (\d+) (bytes): (.*)", first).groups()
+    lines = [line.strip() for line in lines]
+    cause = next(CAUSE_WORDS[line] for line in lines if line in CAUSE_WORDS)
+    return at, queue, size, VERDICT_WORDS[verdict], cause + next((ENDS[line] for line in lines if line in ENDS), "")
+
+
+def in_fields(record):
+    return tuple(str(record[name]) for name in ("number", "queue", "size", "verdict", "cause"))
+
+
+# a text in which the names of the queues need quotes in CSV, or are numbers
+NAMES = {name: name if at > 1 else ('a,"1', "12")[at] for at, name in enumerate(QUEUES)}
+QUOTED = {name: '"' + other.replace('"', '""') + '"' for name, other in NAMES.items()}
+OTHER = [[QUOTED.get(row[0], row[0]), row[1], QUOTED.get(row[2], row[2]) if row[0] == "lost" else row[2], *row[3:]] if len(row) > 2 else row for row in ROWS]
+renamed = table("--all", rows=OTHER)
+check([row["queue"] for row in renamed] == [NAMES[row["queue"]] for row in RECORDS] and len({row["queue"] for row in renamed} & {'a,"1', "12"}) == 2, "names of queues")
+check([json.loads(line)["queue"] for line in run("--all", "--json", rows=OTHER)[1].splitlines()] == [row["queue"] for row in renamed], "names of queues in JSON")
+
+queued = [event for event in ALL if event["kind"] == "arrive" and event["verdict"] == "enqueue"]
+for event in lost[:5] + lost[-5:] + queued[:3]:
+    number, wanted = str(event["number"]), in_fields(event)
+    is_lost = event in lost
     choice = "--marked" if event["verdict"] == "mark" else "--lost"
-    check(words in run(choice)[1] and words in run("--digest", choice, "--every=1s", "--full")[1] and words in run("--digest")[1], choice, "lacks", words)
+    check(in_words(run("--event", number)[1], number) == wanted, "in words", wanted, run("--event", number)[1])
+    for words in [(choice,), ("--digest",), ("--digest", choice), ("--digest", choice, "--every=1s", "--full")] * is_lost:
+        text = run(*words)[1]
+        check(in_words(text, number) == wanted and run("--event", number)[1] in text, words, "of", wanted)
     record, object = table("--event", number)[0], json.loads(run("--event", number, "--json")[1])
-    check((record["verdict"], record["cause"], record["size"]) == (event["verdict"], event["cause"], str(event["size"])), "--csv of event", number, record)
+    check(in_fields(record) == wanted == in_fields(object), "--csv and --json of", wanted, record, object)
     check({name: "" if field is None else str(field) for name, field in object.items()} == record, "--json of event", number, object)
+    full = run("--event", number, "--every=1s", "--full")[1]
+    sum_of = table("--event", number, "--every=1s")[0]
+    check(f"1 events, from " in full and f"  1 arrivals, {event['size']} bytes\n" in full, "--full of", wanted, full)
+    check([name for name in VERDICTS + CAUSES if sum_of[name] == "1"] == [event["verdict"], event["cause"]], "the sums of", wanted, sum_of)
 
 moments = {event["number"]: event["effective_moment"] for event in ALL}
 check(blocks("--all", f"--from={middle[0]}", f"--to={middle[1]}") == [block for block in every if middle[0] <= moments[number_of(block)] <= middle[1]], "--from and --to in words")

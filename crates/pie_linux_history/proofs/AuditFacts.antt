@@ -1,20 +1,12 @@
 -- The outcome of the rows that remain is the outcome of all.
-use Rattle.std.specs.Prelude.{ℕ, Bool, false, true, ◌+◌, ◌-◌, ◌^◌, ◌<◌, ◌≤◌, ◌≡◌, ◌++◌, ◌∷◌, [], length, min, take, List, Option, Some, None, IfSome, option_map, Result, Ok, Err}
+use Rattle.std.specs.Prelude.{ℕ, Bool, false, true, ◌+◌, ◌-◌, ◌^◌, ◌<◌, ◌≤◌, ◌≡◌, ◌++◌, ◌∷◌, [], length, min, List, Option, Some, None, IfSome, option_map, Result, Ok, Err}
 use Rattle.std.proofs.Common.{append-nil, append_assoc, arith, length-append, refl, ◌∙◌, subst, sym, ap}
 use Rattle.std.proofs.lemmas.List.{length-take, take_all, take-append-le}
 use Rattle.std.specs.List.{cons_option}
 use Rattle.pie_record.specs.Text.{Row, TakesRow, Took, records_of}
 use Rattle.pie_record.specs.declared.fault.RecordFault.{RecordFault}
-use Rattle.pie_linux_history.specs.declared.columns.Columns.{Columns}
-use Rattle.pie_linux_history.specs.declared.fault.StepsFault.{StepsFault}
-use Rattle.pie_linux_history.specs.declared.queues.Queues.{Queues}
-use Rattle.pie_linux_history.specs.declared.queues.StepDifference.{StepDifference}
-use Rattle.pie_linux_history.specs.declared.text.Differences.{Differences}
-use Rattle.pie_linux_history.specs.declared.text.StepsFinding.{StepsFinding}
-use Rattle.pie_linux_history.specs.Audit.{Begins, Ends, HasFound, Outcome, ReadsColumns, difference_in, differences_of, finding_by, finding_of, found_in, first_of_both, has_failed, is_failure, outcome_after, outcome_by, outcome_of, with_entry}
-use Rattle.pie_linux_history.specs.Known.{HasRead, Leaves, Takes, TookNext}
-use Rattle.pie_linux_history.specs.Decided.{for_each, number_of}
-use Rattle.pie_linux_history.specs.LookBack.{Entry, entry_in}
+use Rattle.pie_linux_history.specs.declared.{columns.Columns.Columns, fault.StepsFault.StepsFault, queues.Queues.Queues, queues.StepDifference.StepDifference, text.Differences.Differences, text.StepsFinding.StepsFinding}
+use Rattle.pie_linux_history.specs.{Audit.Begins, Audit.Ends, Audit.HasFound, Audit.Outcome, Audit.ReadsColumns, Audit.difference_in, Audit.differences_of, Audit.finding_by, Audit.finding_of, Audit.found_in, Audit.first_of_both, Audit.has_failed, Audit.is_failure, Audit.outcome_after, Audit.outcome_by, Audit.outcome_of, Audit.with_entry, Known.HasRead, Known.Leaves, Known.Takes, Known.TookNext, Decided.for_each, Decided.number_of, LookBack.Entry, LookBack.entry_in}
 
 -- a list for each row, with one more row
 pub for-each-more : {A : Type 0} (one : List Entry → Entry → List A) (before rest : List Entry) (entry : Entry)

@@ -5,9 +5,7 @@ use Rattle.std.proofs.lemmas.List.{length-set, take_more_set, drop_all, drop_mor
 use Rattle.std.specs.Prelude.{true, false, Some, None, Result, Ok, Err, zero, suc}
 use Rattle.std.specs.Str.{IsUtf8, is_utf8}
 use Rattle.std.proofs.lemmas.Str.{IsUtf8-from_is_utf8}
-use Rattle.pie_record.specs.Names.{field_at}
-use Rattle.pie_record.specs.Text.{Row}
-use Rattle.pie_record.specs.Field.{is_word}
+use Rattle.pie_record.specs.{Names.field_at, Text.Row, Field.is_word}
 use Rattle.pie_linux_history.specs.Columns.{collected, place_from}
 
 -- an array's first `count` items are the values up to `count`

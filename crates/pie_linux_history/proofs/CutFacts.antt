@@ -1,16 +1,11 @@
 -- The rows of a text, counted; rows that are written, and the queues before a piece.
-use Rattle.std.specs.Prelude.{suc, ℕ, [], ◌+◌, ◌-◌, ◌<◌, ◌≤◌, ◌≡◌, ◌++◌, ◌∷◌, ◌||◌, ⊤, Bool, true, false, List, Option, Some, None, IfSome, drop, filter, get_or, if◌then◌else◌, length, map, not, option_map}
+use Rattle.std.specs.Prelude.{suc, ℕ, [], ◌+◌, ◌-◌, ◌<◌, ◌≤◌, ◌≡◌, ◌++◌, ◌∷◌, ◌||◌, ⊤, Bool, true, false, List, Option, Some, None, IfSome, drop, get_or, if◌then◌else◌, length, map, not, option_map}
 use Rattle.std.proofs.Common.{add-one, append-nil, append_assoc, ap, arith, refl, subst, sym, ◌∙◌}
 use Rattle.std.proofs.lemmas.List.{drop_all, drop_more}
-use Rattle.std.proofs.lemmas.List.Sums.{fold-append}
-use Rattle.std.specs.List.{cons_option, filter_map, fold, list_any}
+use Rattle.std.specs.List.{filter_map, fold}
 use Rattle.std.specs.Str.{bytes_eq}
-use Rattle.pie_linux_history.specs.declared.columns.Columns.{Columns}
-use Rattle.pie_linux_history.specs.declared.known.Known.{Known}
-use Rattle.pie_linux_history.specs.Cuts.{Named, fields_until, flow_rows, flows_rows, has_name, named_by, names_after, names_of, queues_of, with_name, without_name}
-use Rattle.pie_linux_history.specs.Known.{Represents, known_names, looked_up, named}
-use Rattle.pie_linux_history.specs.LookBack.{Entry, Followed, Lost, Skipped, Took as TookStep, followed, is_opening, name_of}
-use Rattle.pie_linux_history.specs.Views.{FlowView}
+use Rattle.pie_linux_history.specs.declared.{columns.Columns.Columns, known.Known.Known}
+use Rattle.pie_linux_history.specs.{Cuts.Named, Cuts.fields_until, Cuts.flow_rows, Cuts.flows_rows, Cuts.has_name, Cuts.named_by, Cuts.names_after, Cuts.names_of, Cuts.queues_of, Cuts.with_name, Cuts.without_name, Known.Represents, Known.known_names, Known.looked_up, Known.named, LookBack.Entry, LookBack.Followed, LookBack.Lost, LookBack.Skipped, LookBack.Took as TookStep, LookBack.is_opening, LookBack.name_of, Views.FlowView}
 use Rattle.pie_linux_history.proofs.KnownFacts.{test-same, test-sym}
 use Rattle.pie_record.specs.Text.{Row, TakesRow, Took, records_of}
 

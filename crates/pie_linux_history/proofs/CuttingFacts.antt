@@ -1,27 +1,13 @@
 -- The rows of a text that is cut: what is written so far, followed by the cut of the rows that remain, is the cut of all.
-use Rattle.std.specs.Prelude.{ℕ, ◌+◌, ◌-◌, ◌%◌, ◌^◌, ◌≡◌, ◌≤◌, ◌<◌, ◌++◌, ◌∷◌, ⊤, [], Bool, true, false, List, length, max, Option, Some, None, IfSome, option_map, Result, Ok, Err, unwrap_or}
+use Rattle.std.specs.Prelude.{ℕ, ◌+◌, ◌-◌, ◌≡◌, ◌<◌, ◌++◌, ◌∷◌, [], Bool, true, false, List, length, max, Option, Some, None, IfSome, option_map, Result, Ok, Err, unwrap_or}
 use Rattle.std.specs.Io.KnownBytes.{Appends, append_known}
 use Rattle.std.proofs.Common.{append-nil, append_assoc, ap, arith, length-append, refl, sym, ◌∙◌}
 use Rattle.std.proofs.KnownBytes.{Appends-nil, Appends-trans, Keeps-refl, append_known-grown}
 use Rattle.pie_linux.specs.Enqueue.{one_if}
-use Rattle.pie_record.specs.Field.{fault_at}
-use Rattle.pie_record.specs.Text.{Row, TakesRow, Took, records_of}
+use Rattle.pie_record.specs.{Field.fault_at, Text.Row, Text.TakesRow, Text.Took, Text.records_of}
 use Rattle.pie_record.specs.declared.fault.RecordFault.{RecordFault}
-use Rattle.pie_linux_history.specs.declared.columns.Columns.{Columns}
-use Rattle.pie_linux_history.specs.declared.cutter.StepPieces.{StepPieces}
-use Rattle.pie_linux_history.specs.declared.fault.StepsFault.{StepsFault}
-use Rattle.pie_linux_history.specs.declared.fault.StepsFault.TheVariants.{Trace}
-use Rattle.pie_linux_history.specs.declared.queues.Queues.{Queues}
-use Rattle.pie_linux_history.specs.declared.queues.StepDifference.{StepDifference}
-use Rattle.pie_linux_history.specs.declared.queues.StepsCounts.{StepsCounts}
-use Rattle.pie_linux_history.specs.declared.text.StepsFinding.{StepsFinding}
-use Rattle.pie_linux_history.specs.declared.text.StepsFinding.TheVariants.{Clean, Differs}
-use Rattle.pie_linux_history.specs.Columns.{columns_of, moment_of}
-use Rattle.pie_linux_history.specs.Audit.{ReadsColumns, has_failed, is_failure, next, with_entry}
-use Rattle.pie_linux_history.specs.Cuts.{Cut, IsEnd, Plan, at_end, beginning_at, checked, copied_at, cut_after, cut_by, cut_from, cut_of, cut_with, fault_in, flaw_of, found_before, is_after, joined, moment_at, no_rows, plan, selects, unless_fault}
-use Rattle.pie_linux_history.specs.Cutting.{CutOn, CutsRow, CutsRows, Stands}
-use Rattle.pie_linux_history.specs.Known.{HasRead, Takes}
-use Rattle.pie_linux_history.specs.LookBack.{Entry, counts_of, entry_in, latest}
+use Rattle.pie_linux_history.specs.declared.{columns.Columns.Columns, cutter.StepPieces.StepPieces, fault.StepsFault.StepsFault, fault.StepsFault.TheVariants.Trace, queues.Queues.Queues, queues.StepDifference.StepDifference, queues.StepsCounts.StepsCounts, text.StepsFinding.StepsFinding, text.StepsFinding.TheVariants.Clean, text.StepsFinding.TheVariants.Differs}
+use Rattle.pie_linux_history.specs.{Columns.columns_of, Columns.moment_of, Audit.ReadsColumns, Audit.has_failed, Audit.is_failure, Audit.next, Audit.with_entry, Cuts.Cut, Cuts.IsEnd, Cuts.Plan, Cuts.at_end, Cuts.beginning_at, Cuts.checked, Cuts.copied_at, Cuts.cut_after, Cuts.cut_by, Cuts.cut_from, Cuts.cut_of, Cuts.fault_in, Cuts.flaw_of, Cuts.found_before, Cuts.is_after, Cuts.joined, Cuts.moment_at, Cuts.no_rows, Cuts.plan, Cuts.selects, Cuts.unless_fault, Cutting.CutOn, Cutting.CutsRow, Cutting.CutsRows, Cutting.Stands, Known.HasRead, Known.Takes, LookBack.Entry, LookBack.counts_of, LookBack.entry_in}
 
 -- ---- parts of a cut
 

@@ -3,14 +3,10 @@ use Rattle.std.proofs.Common.{◌≡◌, ℕ, ◌∷◌, ◌++◌, [], List, ref
 use Rattle.std.specs.List.{range_with_len}
 use Rattle.std.specs.Prelude.{Result, Ok, Err}
 use Rattle.std.specs.Fmt.{decimal, digits}
-use Rattle.pie_record.specs.Names.{field_at}
-use Rattle.pie_record.specs.Text.{Row}
-use Rattle.pie_record.specs.Field.{and_then, number}
+use Rattle.pie_record.specs.{Names.field_at, Text.Row, Field.and_then, Field.number}
 use Rattle.pie_record.specs.declared.fault.RecordFault.{RecordFault}
 use Rattle.pie_record.specs.declared.fault.RecordFault.TheVariants as flaw
-use Rattle.pie_linux_history.specs.declared.columns.Columns.{Columns}
-use Rattle.pie_linux_history.specs.declared.fault.StepsFault.TheVariants.{NoColumn}
-use Rattle.pie_linux_history.specs.declared.step.Step.{Step}
+use Rattle.pie_linux_history.specs.declared.{columns.Columns.Columns, fault.StepsFault.TheVariants.NoColumn, step.Step.Step}
 use Rattle.pie_linux_history.specs.Columns.{collected, columns_of, decimal_at, flow_at, has_flows_at, hexadecimal_after, hexadecimal_at, kind_at, known, lost_in, numbers_of, place_from, step_in, step_of}
 
 -- a first row with a column that is not read, and a row in which each number is the place of its column

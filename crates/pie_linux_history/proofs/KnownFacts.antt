@@ -3,19 +3,12 @@ use Rattle.std.proofs.Common.{◌≡◌, ℕ, ◌+◌, ◌<◌, ◌≤◌, ◌++
 use Rattle.std.proofs.lemmas.List.{drop_all, drop_more, map-append}
 use Rattle.std.proofs.lemmas.List.Sums.{fold-append}
 use Rattle.std.proofs.Math.ListN.{set}
-use Rattle.std.specs.Prelude.{zero, suc, true, false, Some, None, if◌then◌else◌, filter, map, not}
+use Rattle.std.specs.Prelude.{zero, suc, true, false, Some, None, if◌then◌else◌, filter, not}
 use Rattle.std.specs.Option.{option_map}
 use Rattle.std.specs.Str.{bytes_eq}
 use Rattle.std.proofs.lemmas.Slice.Eq.{bytes_eq-Decides}
-use Rattle.pie_linux_history.specs.declared.decided.Taken.{Taken}
-use Rattle.pie_linux_history.specs.declared.explained.Decision.{Decision}
-use Rattle.pie_linux_history.specs.declared.known.Known.{Known}
-use Rattle.pie_linux_history.specs.declared.step.QueueName.{QueueName}
-use Rattle.pie_linux_history.specs.declared.step.Step.{Step}
-use Rattle.pie_linux_history.specs.Cuts.{has_name, names_after, names_of, with_name, without_name}
-use Rattle.pie_linux_history.specs.Decided.{numbers_of, taken_by}
-use Rattle.pie_linux_history.specs.Known.{IsPlaceOf, Represents, known_names, looked_up, tracked}
-use Rattle.pie_linux_history.specs.LookBack.{Entry, Followed, Lost, Skipped, Took, begun, follow, followed, is_opening, name_of, next_of, since_last, steps_of}
+use Rattle.pie_linux_history.specs.declared.{decided.Taken.Taken, explained.Decision.Decision, known.Known.Known, step.QueueName.QueueName, step.Step.Step}
+use Rattle.pie_linux_history.specs.{Cuts.has_name, Cuts.names_after, Cuts.names_of, Cuts.with_name, Cuts.without_name, Decided.numbers_of, Decided.taken_by, Known.IsPlaceOf, Known.Represents, Known.known_names, Known.looked_up, Known.tracked, LookBack.Entry, LookBack.Followed, LookBack.Lost, LookBack.Skipped, LookBack.Took, LookBack.begun, LookBack.follow, LookBack.followed, LookBack.is_opening, LookBack.name_of, LookBack.next_of, LookBack.since_last, LookBack.steps_of}
 use Rattle.pie_linux_history.proofs.LookBackFacts.{followed-begun, followed-lost, followed-other, followed-step}
 
 -- ---- names

@@ -2,19 +2,9 @@
 use Rattle.std.proofs.Common.{◌≡◌, ℕ, ◌∷◌, ◌++◌, [], List, refl, codes, length, map, replicate}
 use Rattle.std.specs.Option.{option_map}
 use Rattle.std.specs.Prelude.{Option, Ok, Err, Some, None, false}
-use Rattle.pie_linux_history.specs.declared.fault.StepsFault.TheVariants.{NoStart}
-use Rattle.pie_linux_history.specs.declared.queues.StepDifference.{StepDifference}
-use Rattle.pie_linux_history.specs.declared.step.Kind.{Kind}
+use Rattle.pie_linux_history.specs.declared.{fault.StepsFault.TheVariants.NoStart, queues.StepDifference.StepDifference, step.Kind.Kind, step.QueueName.QueueName, step.Step.Step}
 use Rattle.pie_linux_history.specs.declared.step.Kind.TheVariants as kind
-use Rattle.pie_linux_history.specs.declared.step.QueueName.{QueueName}
-use Rattle.pie_linux_history.specs.declared.step.Step.{Step}
-use Rattle.pie_linux_history.specs.Audit.{differences_of, verdict_of}
-use Rattle.pie_linux_history.specs.Columns.{digits_after, handle_of, padded, place_from, step_of}
-use Rattle.pie_linux_history.specs.Decided.{for_each}
-use Rattle.pie_linux_history.specs.Differences.{first_difference, numbers_of, step_difference}
-use Rattle.pie_linux_history.specs.LookBack.{Entry, Lost, Took, counts_of, followed, lack_count, since_last, steps_of}
-use Rattle.pie_linux_history.specs.Queue.{opened}
-use Rattle.pie_linux_history.specs.Right.{right_opening}
+use Rattle.pie_linux_history.specs.{Audit.differences_of, Audit.verdict_of, Columns.blank, Columns.digits_after, Columns.handle_of, Columns.padded, Columns.place_from, Columns.step_of, Decided.for_each, Differences.first_difference, Differences.numbers_of, Differences.step_difference, LookBack.Entry, LookBack.Lost, LookBack.Took, LookBack.counts_of, LookBack.followed, LookBack.lack_count, LookBack.since_last, LookBack.steps_of, Queue.opened, Right.base, Right.right_opening}
 
 -- two queues whose names differ at their last byte only, the 22nd
 abbrev named : List ℕ → QueueName
@@ -60,7 +50,7 @@ verdicts : (verdict_of both 6 (Took (named zero_name) (numbered 9 kind.Empty)) �
     × (verdict_of both 6 (Took (named zero_name) (numbered 10 kind.Empty)) ≡ Ok (Some not_next))
     × (verdict_of both 6 (Took (named one_name) (numbered 2 kind.Empty)) ≡ Err (NoStart 7 (named one_name) 2))
     × (verdict_of again_both 8 (Took (named zero_name) (numbered 1 kind.Empty)) ≡ Ok None)
-unfolding steps_of since_last step_of place_from followed opened step_difference first_difference numbers_of right_opening
+unfolding steps_of since_last step_of place_from followed opened step_difference first_difference numbers_of right_opening base blank
 verdicts = (refl, refl, refl, refl)
 
 -- after a step that differs: neither the next step of its queue nor the recorded one is decided, another queue is, and it is again after its next first row
@@ -81,10 +71,10 @@ all_differences : (differences_of differed ≡ not_next ∷ []) × (differences_
     × (verdict_of differed 7 (Took (named one_name) (numbered 2 kind.Empty)) ≡ Err (NoStart 8 (named one_name) 2))
     × (differences_of (begun_again ++ Took (named one_name) (numbered 7 kind.Empty) ∷ Took (named zero_name) (numbered 5 kind.Empty) ∷ [])
     ≡ not_next ∷ other_not_next ∷ again_not_next ∷ [])
-unfolding steps_of since_last step_of place_from followed opened for_each lack_count step_difference first_difference numbers_of right_opening
+unfolding steps_of since_last step_of place_from followed opened for_each lack_count step_difference first_difference numbers_of right_opening base blank
 all_differences = (refl, refl, refl, refl, refl)
 
 -- five rows, four steps, three lost steps
 counted : counts_of both ≡ record { events = 5; steps = 4; lost = 3; without_returned = 0; without_protocol = 0; without_change = 0 }
-unfolding step_of place_from lack_count followed steps_of since_last opened step_difference first_difference numbers_of right_opening
+unfolding step_of place_from lack_count followed steps_of since_last opened step_difference first_difference numbers_of right_opening base blank
 counted = refl

@@ -7,11 +7,8 @@ use Rattle.std.specs.Str.{bytes_eq}
 use Rattle.std.proofs.lemmas.List.Elements.{filter-append, filter_map-append}
 use Rattle.std.proofs.lemmas.List.Sums.{fold-append, sum_by-append}
 use Rattle.pie_linux.specs.Enqueue.{one_if}
-use Rattle.pie_linux_history.specs.declared.explained.Input.{Input}
+use Rattle.pie_linux_history.specs.declared.{explained.Input.Input, queues.StepsCounts.StepsCounts, step.QueueName.QueueName, step.Step.Step}
 use Rattle.pie_linux_history.specs.declared.explained.Input.TheVariants as input
-use Rattle.pie_linux_history.specs.declared.queues.StepsCounts.{StepsCounts}
-use Rattle.pie_linux_history.specs.declared.step.QueueName.{QueueName}
-use Rattle.pie_linux_history.specs.declared.step.Step.{Step}
 use Rattle.pie_linux_history.specs.LookBack.{Entry, Lost, Skipped, Took, begins, begun, counts_of, follow, followed, followed_by, is_lack, is_of, is_opening, lack_count, lack_counted, lack_in, later_of, latest, lost_steps, step_count, name_of, opening_of, since_last, step_of, steps_of}
 
 -- an element with one more after it

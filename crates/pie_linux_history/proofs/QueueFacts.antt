@@ -7,33 +7,25 @@ use Rattle.std.proofs.lemmas.List.{drop-set-lt, drop_more, length-set, map-appen
 use Rattle.std.proofs.lemmas.List.Concat.{flat_map-append}
 use Rattle.std.proofs.Math.ListN.{set}
 use Rattle.std.specs.List.{flat_map}
-use Rattle.pie_linux_history.specs.declared.explained.DecidedPacket.{DecidedPacket}
+use Rattle.pie_linux_history.specs.declared.{explained.DecidedPacket.DecidedPacket, numbers.FlowNumbers.FlowNumbers, numbers.Waiting.Waiting, explained.Decision.Decision, numbers.QueueNumbers.QueueNumbers, step.Step.Step}
 use Rattle.pie_linux_history.specs.declared.explained.Fate.TheVariants as fate
-use Rattle.pie_linux_history.specs.declared.numbers.FlowNumbers.{FlowNumbers}
-use Rattle.pie_linux_history.specs.declared.numbers.Waiting.{Waiting}
-use Rattle.pie_linux_history.specs.Decisions.{removed, removed_flow}
-use Rattle.pie_linux_history.specs.declared.difference.Difference.{Difference}
-use Rattle.pie_linux_history.specs.declared.explained.Decision.{Decision}
-use Rattle.pie_linux_history.specs.declared.numbers.QueueNumbers.{QueueNumbers}
-use Rattle.pie_linux_history.specs.declared.step.Step.{Step}
-use Rattle.pie_linux_history.specs.Queue.{FlowStep, IsFlowStep, dropped, dropped_by_departure, dropped_in_turn, dropped_of, emptied_flow, shortened_flow, shortened_queue, flow_at, flow_stepped, other, place_of}
-use Rattle.pie_linux_history.specs.Views.{FlowView, QueueView}
+use Rattle.pie_linux_history.specs.{Decisions.removed, Decisions.removed_flow, Queue.IsFlowStep, Queue.dropped, Queue.dropped_by_departure, Queue.dropped_in_turn, Queue.dropped_of, Queue.emptied_flow, Queue.shortened_flow, Queue.shortened_queue, Queue.flow_at, Queue.flow_step, Queue.flow_stepped, Queue.no_flow, Queue.other, Queue.place_of, Views.FlowView, Views.QueueView}
 
 -- a step of the flow at its place
-pub steps-flow : (flow_step : QueueNumbers → FlowView → Step → FlowStep) (missing : Option Difference) (queue : QueueView) (step : Step) (place : ℕ) (flow : FlowView)
-    (numbers : QueueNumbers) (after : FlowView) (decision : Decision) → place ≡ place_of queue step → place < length queue.flows
-    → flow ≡ get_or queue.flows place flow → IsFlowStep (flow_step queue.numbers flow step) numbers after decision
-    → flow_stepped flow_step missing queue step ≡ record { queue = record queue { numbers = numbers; flows = set queue.flows place after }; decision = decision }
+pub steps-flow : (queue : QueueView) (step : Step) (place : ℕ) (flow : FlowView) (numbers : QueueNumbers) (after : FlowView) (decision : Decision)
+    → place ≡ place_of queue step → place < length queue.flows → flow ≡ get_or queue.flows place flow
+    → IsFlowStep (flow_step step.kind queue.numbers flow step) numbers after decision
+    → flow_stepped queue step ≡ record { queue = record queue { numbers = numbers; flows = set queue.flows place after }; decision = decision }
 unfolding flow_stepped
-steps-flow flow_step missing queue step place flow numbers after decision is within same took =
+steps-flow queue step place flow numbers after decision is within same took =
     let e : flow_at queue step ≡ Some flow = rw (← is) (slice_get-get_or queue.flows place flow within ∙ ap (λ (x : FlowView). let some : Option FlowView = Some x in some) (sym same)) in
     rw (e, took.numbers_are, took.flow_is, took.decision_is, is) refl
 
 -- a step of no flow
-pub steps-none : (flow_step : QueueNumbers → FlowView → Step → FlowStep) (missing : Option Difference) (queue : QueueView) (step : Step) (place : ℕ)
-    → place ≡ place_of queue step → length queue.flows ≤ place → flow_stepped flow_step missing queue step ≡ record { queue = queue; decision = other missing }
+pub steps-none : (queue : QueueView) (step : Step) (place : ℕ) → place ≡ place_of queue step → length queue.flows ≤ place
+    → flow_stepped queue step ≡ record { queue = queue; decision = other (no_flow step) }
 unfolding flow_stepped
-steps-none flow_step missing queue step place is beyond =
+steps-none queue step place is beyond =
     let e : flow_at queue step ≡ None = rw (← is) (slice_get_past queue.flows place beyond) in rw e refl
 
 -- ---- packets that are dropped

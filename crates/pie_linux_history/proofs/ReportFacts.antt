@@ -1,30 +1,17 @@
 -- A report that receives one more row.
-use Rattle.std.specs.Prelude.{ℕ, Bool, false, true, ◌<◌, ◌≤◌, get_or, take, ◌+◌, ◌-◌, ◌^◌, ◌≡◌, ◌++◌, ◌∷◌, [], ⊤, List, Option, Some, None, IsOk, OnOk, Result, Ok, Err, length, map, min, option_map}
+use Rattle.std.specs.Prelude.{ℕ, false, true, ◌<◌, ◌≤◌, get_or, take, ◌+◌, ◌-◌, ◌^◌, ◌≡◌, ◌++◌, ◌∷◌, [], ⊤, List, Option, Some, None, IsOk, OnOk, Result, Ok, Err, length, map, min, option_map, suc, zero}
 use Rattle.std.specs.List.{cons_option, filter_map}
 use Rattle.std.specs.Io.KnownBytes.{Appends, append_known}
-use Rattle.std.proofs.Common.{ap, append-nil, append_assoc, arith, length-append, refl, subst, sym, ◌∙◌}
+use Rattle.std.proofs.Common.{add-zero, ap, append-nil, append_assoc, arith, refl, subst, sym, ◌∙◌}
 use Rattle.std.proofs.lemmas.List.{map-append, take_all, take_more}
+use Rattle.std.proofs.lemmas.List.Sums.{sum_by-append}
 use Rattle.std.proofs.lemmas.List.Elements.{filter_map-append}
 use Rattle.pie_record.specs.Text.{Row}
-use Rattle.pie_explain.specs.Report.{Grows}
-use Rattle.pie_explain.specs.declared.explanation.Explained.{Explained}
-use Rattle.pie_explain.specs.declared.selection.Selection.{Selection}
-use Rattle.pie_linux_history.specs.declared.decided.DecidedStep.{DecidedStep}
-use Rattle.pie_linux_history.specs.declared.decided.StepNumbers.{StepNumbers}
-use Rattle.pie_linux_history.specs.declared.decided.Taken.{Taken}
-use Rattle.pie_linux_history.specs.declared.explained.DecidedPacket.{DecidedPacket}
-use Rattle.pie_linux_history.specs.declared.explained.ExplainedPacket.{ExplainedPacket}
-use Rattle.pie_linux_history.specs.declared.fault.StepsFault.{StepsFault}
-use Rattle.pie_linux_history.specs.declared.queues.Queues.{Queues}
-use Rattle.pie_linux_history.specs.declared.step.QueueName.{QueueName}
-use Rattle.pie_linux_history.specs.declared.step.Step.{Step}
-use Rattle.pie_linux_history.specs.declared.text.StepsFinding.{StepsFinding}
-use Rattle.pie_linux_history.specs.Audit.{Ends, Outcome}
-use Rattle.pie_linux_history.specs.Decided.{decided_by, decided_in, decided_of, dropped_in, for_each, number_of, plain, step_in, with_numbers}
-use Rattle.pie_linux_history.specs.Known.{HasRead, Leaves}
-use Rattle.pie_linux_history.specs.LookBack.{Entry}
+use Rattle.pie_explain.specs.Report.{Extends, Grows}
+use Rattle.pie_explain.specs.declared.{explanation.Explained.Explained, selection.Selection.Selection}
+use Rattle.pie_linux_history.specs.declared.{decided.DecidedStep.DecidedStep, decided.StepNumbers.StepNumbers, decided.Taken.Taken, explained.DecidedPacket.DecidedPacket, explained.ExplainedPacket.ExplainedPacket, fault.StepsFault.StepsFault, queues.Queues.Queues, reports.Beside.Beside, step.QueueName.QueueName, step.Step.Step, text.StepsFinding.StepsFinding}
+use Rattle.pie_linux_history.specs.{Audit.Ends, Audit.Outcome, Decided.decided_by, Decided.decided_in, Decided.decided_of, Decided.dropped_in, Decided.for_each, Decided.plain, Decided.step_in, Decided.with_numbers, Known.HasRead, Known.Leaves, LookBack.Entry, Reports.IsReport, Reports.IsTexts, Reports.IsWoven, Reports.ReportsEvents, Reports.ReportsPackets, Reports.ReportsThese, Reports.Writes, Reports.all_selected, Reports.all_texts, Reports.explained_packet, Reports.packet_if, Reports.packets_in, Reports.packets_of, Reports.selected, Reports.selects, Reports.texts_before, Reports.texts_beside, Reports.texts_if, Reports.texts_of}
 use Rattle.pie_linux_history.proofs.AuditFacts.{for-each-more, number-more}
-use Rattle.pie_linux_history.specs.Reports.{ExplainsIf, IsReport, IsTexts, IsWoven, ReportsEvents, ReportsPackets, ReportsThese, SaysEvents, Writes, all_selected, explained_packet, packet_if, packets_by, packets_in, packets_of, selected, selects, woven_of, woven_with}
 
 -- ---- text
 
@@ -135,54 +122,67 @@ steps-more entries entry steps None are is = rw (append-nil steps, for-each-more
 steps-more entries entry steps (Some one) are is =
     rw (map-append, for-each-more step_in [] entries entry, ← is, are) refl
 
--- the packets that are explained after their events
-woven-plain : (is : ExplainedPacket → List ℕ → Type 0) (packets : List ExplainedPacket) (text_plain text more : List ℕ) → IsWoven is packets text_plain text
-    → IsWoven is packets (text_plain ++ more) (text ++ more)
+-- texts within a text, and then more of both
+woven-front : (count : ℕ) (first plain text : List ℕ) → IsWoven count plain text → IsWoven count (first ++ plain) (first ++ text)
 unfolding IsWoven
-woven-plain is [] text_plain text more was = rw was refl
-woven-plain is (one ∷ rest) text_plain text more was = (
-  was.0,
-  was.1,
-  was.2 ++ more,
-  was.3 ++ more,
-  was.4,
-  woven-plain is rest was.2 was.3 more was.5,
-  rw was.6 (append_assoc was.0 was.2 more),
-  rw (was.7, append_assoc was.0 (was.1 ++ was.3) more, append_assoc was.1 was.3 more) refl,
-)
+woven-front zero first plain text was = ap (λ (x : List ℕ). first ++ x) was
+woven-front (suc count) first plain text was =
+    (first ++ was.0, was.1, was.2, was.3, was.4, rw was.5 (sym (append_assoc first was.0 was.2)), rw was.6 (sym (append_assoc first was.0 (was.1 ++ was.3))))
 
-woven-packet : (is : ExplainedPacket → List ℕ → Type 0) (packets : List ExplainedPacket) (one : ExplainedPacket) (text_plain text words : List ℕ) → IsWoven is packets text_plain text
-    → is one words → IsWoven is (packets ++ one ∷ []) text_plain (text ++ words)
+woven-then : (count more : ℕ) (plain text later then_text : List ℕ) → IsWoven count plain text → IsWoven more later then_text
+    → IsWoven (count + more) (plain ++ later) (text ++ then_text)
 unfolding IsWoven
-woven-packet is [] one text_plain text words was says =
-    (text_plain, words, [], [], says, refl, sym (append-nil text_plain), rw (was, append-nil words) refl)
-woven-packet is (first ∷ rest) one text_plain text words was says = (
-  was.0,
-  was.1,
-  was.2,
-  was.3 ++ words,
-  was.4,
-  woven-packet is rest one was.2 was.3 words was.5 says,
-  was.6,
-  rw (was.7, append_assoc was.0 (was.1 ++ was.3) words, append_assoc was.1 was.3 words) refl,
-)
+woven-then zero more plain text later then_text was next =
+    let e : 0 + more ≡ more = omega arith in rw (e, was) (woven-front more plain later then_text next)
+woven-then (suc count) more plain text later then_text was next =
+    let e : suc count + more ≡ suc (count + more) = omega arith in rw e (
+      was.0,
+      was.1,
+      was.2 ++ later,
+      was.3 ++ then_text,
+      woven-then count more was.2 was.3 later then_text was.4 next,
+      rw was.5 (append_assoc was.0 was.2 later),
+      rw (was.6, append_assoc was.0 (was.1 ++ was.3) then_text, append_assoc was.1 was.3 then_text) refl,
+    )
 
-woven-none : (is_with : Bool) (selection : Selection) (one : DecidedStep) → selected selection one ≡ None → woven_with is_with selection one ≡ None
-woven-none false selection one none = refl
-woven-none true selection one none = rw none refl
+pub woven-record : (event page now : List ℕ) → now ≡ page ++ event → Grows (IsWoven 0 event) [] page now
+unfolding IsWoven
+woven-record event page now is = record { more = event; grown = is; says = refl }
 
-woven-push : (is_with : Bool) (selection : Selection) (steps : List DecidedStep) (one : DecidedStep) (found : Option ExplainedPacket) → woven_with is_with selection one ≡ found
-    → woven_of is_with selection (steps ++ one ∷ []) ≡ woven_of is_with selection steps ++ cons_option found []
-unfolding woven_of
-woven-push is_with selection steps one found is =
-    filter_map-append (woven_with is_with selection) steps (one ∷ [])
-    ∙ ap (λ (o : Option ExplainedPacket). filter_map (woven_with is_with selection) steps ++ cons_option o []) is
+pub woven-packet : (event page mid now : List ℕ) → mid ≡ page ++ event → Grows (λ (text : List ℕ). ⊤) [] mid now → Grows (IsWoven 1 event) [] page now
+unfolding IsWoven
+woven-packet event page mid now is grows = record {
+  more = event ++ grows.more;
+  grown = grows.grown ∙ rw is (append_assoc page event grows.more);
+  says = (event, grows.more, [], [], refl, sym (append-nil event), rw append-nil refl);
+}
+
+pub extends_by : (page more : List ℕ) → Extends page (page ++ more)
+extends_by page more = record { more = more; grown = refl }
+
+-- a field within a record
+pub woven-field : (event first last page begun comma mid now : List ℕ) → event ≡ first ++ last → begun ≡ page ++ first → comma ≡ begun ++ 44 ∷ [] → Extends comma mid
+    → now ≡ mid ++ last → Grows (IsWoven 1 event) [] page now
+unfolding IsWoven
+woven-field event first last page begun comma mid now split one two three four = record {
+  more = first ++ ((44 ∷ [] ++ three.more) ++ last);
+  grown = four ∙ rw (three.grown, two, one) (simp append_assoc);
+  says = (first, 44 ∷ [] ++ three.more, last, last, refl, split, refl);
+}
+
+plus-none : (count : ℕ) → count + 0 ≡ count
+plus-none count = omega arith
+
+texts-more : (beside : Beside) (selection : Selection) (steps : List DecidedStep) (one : DecidedStep) (count : ℕ) → texts_of beside selection one ≡ count
+    → all_texts beside selection (steps ++ one ∷ []) ≡ all_texts beside selection steps + count
+unfolding all_texts
+texts-more beside selection steps one count is = rw (sum_by-append, is) (omega arith)
 
 -- no step, a step that is not selected, and a selected step
-pub events-none : {shows : List Explained → Type 0} {so_far : List Explained → List ℕ → Type 0} {is : ExplainedPacket → List ℕ → Type 0} {is_with : Bool} {selection : Selection} {count : ℕ} {text : List ℕ}
+pub events-none : {shows : List Explained → Type 0} {so_far : List Explained → List ℕ → Type 0} {beside : Beside} {selection : Selection} {count : ℕ} {text : List ℕ}
     (entries : List Entry) (entry : Entry) (page : List ℕ) → (let none : Option DecidedStep = None in none) ≡ decided_in entries entry
-    → ReportsEvents shows so_far is is_with selection count entries text
-    → Grows (ReportsEvents shows so_far is is_with selection count (entries ++ entry ∷ [])) text page page
+    → ReportsEvents shows so_far beside selection count entries text
+    → Grows (ReportsEvents shows so_far beside selection count (entries ++ entry ∷ [])) text page page
 events-none {text} entries entry page none was = grows-same text page (record {
   steps = was.steps;
   are = rw append-nil at (steps-more entries entry was.steps None was.are none);
@@ -191,107 +191,81 @@ events-none {text} entries entry page none was = grows-same text page (record {
   counted = was.counted;
 })
 
-pub events-same : {shows : List Explained → Type 0} {so_far : List Explained → List ℕ → Type 0} {is : ExplainedPacket → List ℕ → Type 0} {is_with : Bool} {selection : Selection} {count : ℕ} {text : List ℕ}
+pub events-same : {shows : List Explained → Type 0} {so_far : List Explained → List ℕ → Type 0} {beside : Beside} {selection : Selection} {count : ℕ} {text : List ℕ}
     (entries : List Entry) (entry : Entry) (page : List ℕ) (one : DecidedStep) → option_map plain (Some one) ≡ decided_in entries entry
-    → selected selection one ≡ None → ReportsEvents shows so_far is is_with selection count entries text
-    → Grows (ReportsEvents shows so_far is is_with selection count (entries ++ entry ∷ [])) text page page
-events-same {is_with} {selection} {text} entries entry page one it none was =
+    → selected selection one ≡ None → ReportsEvents shows so_far beside selection count entries text
+    → Grows (ReportsEvents shows so_far beside selection count (entries ++ entry ∷ [])) text page page
+events-same {beside} {selection} {text} entries entry page one it none was =
     let same : all_selected selection (was.steps ++ one ∷ []) ≡ all_selected selection was.steps =
     selected-push selection was.steps one None none ∙ append-nil (all_selected selection was.steps) in
-    let woven : woven_of is_with selection (was.steps ++ one ∷ []) ≡ woven_of is_with selection was.steps =
-    woven-push is_with selection was.steps one None (woven-none is_with selection one none) ∙ append-nil (woven_of is_with selection was.steps) in
+    let texts : all_texts beside selection (was.steps ++ one ∷ []) ≡ all_texts beside selection was.steps =
+    texts-more beside selection was.steps one 0 (ap (texts_if beside one) none) ∙ plus-none (all_texts beside selection was.steps) in
     grows-same text page (record {
       steps = was.steps ++ one ∷ [];
       are = steps-more entries entry was.steps (Some one) was.are it;
       shown = rw same was.shown;
-      text_is = record { plain = was.text_is.plain; says_it = rw same was.text_is.says_it; woven = rw woven was.text_is.woven };
+      text_is = record { plain = was.text_is.plain; says_it = rw same was.text_is.says_it; woven = rw texts was.text_is.woven };
       counted = rw same was.counted;
     })
 
--- the text of a selected step, and of its packet
-text-more : {says : List Explained → List ℕ → Type 0} {is : ExplainedPacket → List ℕ → Type 0} {is_with : Bool} {selection : Selection} {text : List ℕ}
-    (steps : List DecidedStep) (page mid now : List ℕ) (one : DecidedStep) (full : Explained) (found : Option ExplainedPacket) → selected selection one ≡ Some full
-    → woven_with is_with selection one ≡ found → (was : SaysEvents says is is_with selection steps text)
-    → Grows (says (all_selected selection steps ++ full ∷ [])) was.plain page mid → ExplainsIf is found mid now
-    → Grows (SaysEvents says is is_with selection (steps ++ one ∷ [])) text page now
-text-more {is} {is_with} {selection} {text} steps page mid now one full None some woven was grows explains =
-    let more : all_selected selection (steps ++ one ∷ []) ≡ all_selected selection steps ++ full ∷ [] = selected-push selection steps one (Some full) some in
-    let packets : woven_of is_with selection (steps ++ one ∷ []) ≡ woven_of is_with selection steps =
-    woven-push is_with selection steps one None woven ∙ append-nil (woven_of is_with selection steps) in
-    record {
-      more = grows.more;
-      grown = explains ∙ grows.grown;
-      says = record {
-        plain = was.plain ++ grows.more;
-        says_it = rw more grows.says;
-        woven = rw packets (woven-plain is (woven_of is_with selection steps) was.plain text grows.more was.woven);
-      };
-    }
-text-more {is} {is_with} {selection} {text} steps page mid now one full (Some packet) some woven was grows explains =
-    let more : all_selected selection (steps ++ one ∷ []) ≡ all_selected selection steps ++ full ∷ [] = selected-push selection steps one (Some full) some in
-    let packets : woven_of is_with selection (steps ++ one ∷ []) ≡ woven_of is_with selection steps ++ packet ∷ [] =
-    woven-push is_with selection steps one (Some packet) woven in
-    record {
-      more = grows.more ++ explains.more;
-      grown = explains.grown ∙ rw grows.grown (append_assoc page grows.more explains.more);
-      says = record {
-        plain = was.plain ++ grows.more;
-        says_it = rw more grows.says;
-        woven = rw (packets, ← append_assoc text grows.more explains.more)
-            (woven-packet is (woven_of is_with selection steps) packet (was.plain ++ grows.more) (text ++ grows.more) explains.more
-            (woven-plain is (woven_of is_with selection steps) was.plain text grows.more was.woven) explains.says);
-      };
-    }
-
-pub events-more : {shows shows_then : List Explained → Type 0} {so_far : List Explained → List ℕ → Type 0} {is : ExplainedPacket → List ℕ → Type 0} {is_with : Bool} {selection : Selection} {count : ℕ} {text : List ℕ}
-    (entries : List Entry) (entry : Entry) (page mid now : List ℕ) (one : DecidedStep) (full : Explained) → option_map plain (Some one) ≡ decided_in entries entry
-    → selected selection one ≡ Some full → (was : ReportsEvents shows so_far is is_with selection count entries text)
+pub events-more : {shows shows_then : List Explained → Type 0} {so_far : List Explained → List ℕ → Type 0} {beside : Beside} {selection : Selection} {count : ℕ} {text : List ℕ}
+    (entries : List Entry) (entry : Entry) (empty event page now : List ℕ) (one : DecidedStep) (full : Explained) → option_map plain (Some one) ≡ decided_in entries entry
+    → selected selection one ≡ Some full → empty ≡ [] → (was : ReportsEvents shows so_far beside selection count entries text)
     → shows_then (all_selected selection was.steps ++ full ∷ [])
-    × Grows (so_far (all_selected selection was.steps ++ full ∷ [])) was.text_is.plain page mid
-    → ExplainsIf is (woven_with is_with selection one) mid now
-    → Grows (ReportsEvents shows_then so_far is is_with selection (min (count + 1) (2 ^ 64 - 1)) (entries ++ entry ∷ [])) text page now
-events-more {is_with} {selection} {count} {text} entries entry page mid now one full it some was grows explains =
+    × Grows (so_far (all_selected selection was.steps ++ full ∷ [])) was.text_is.plain empty event
+    → Grows (IsWoven (texts_beside beside one.arrival) event) [] page now
+    → Grows (ReportsEvents shows_then so_far beside selection (min (count + 1) (2 ^ 64 - 1)) (entries ++ entry ∷ [])) text page now
+events-more {beside} {selection} {count} {text} entries entry empty event page now one full it some none was grows puts =
     let more : all_selected selection (was.steps ++ one ∷ []) ≡ all_selected selection was.steps ++ full ∷ [] = selected-push selection was.steps one (Some full) some in
-    let grown = text-more was.steps page mid now one full (woven_with is_with selection one) some refl was.text_is grows.1 explains in
+    let is : event ≡ grows.1.more = rw none at grows.1.grown in
     record {
-      more = grown.more;
-      grown = grown.grown;
+      more = puts.more;
+      grown = puts.grown;
       says = record {
         steps = was.steps ++ one ∷ [];
         are = steps-more entries entry was.steps (Some one) was.are it;
         shown = rw more grows.0;
-        text_is = grown.says;
+        text_is = record {
+          plain = was.text_is.plain ++ grows.1.more;
+          says_it = rw more grows.1.says;
+          woven = rw (texts-more beside selection was.steps one (texts_beside beside one.arrival) (ap (texts_if beside one) some), ← is)
+              (woven-then (all_texts beside selection was.steps) (texts_beside beside one.arrival) was.text_is.plain text event puts.more was.text_is.woven puts.says);
+        };
         counted = rw more (number-more (all_selected selection was.steps) full count was.counted);
       };
     }
 
-pub events-begun : {shows : List Explained → Type 0} {so_far : List Explained → List ℕ → Type 0} {is : ExplainedPacket → List ℕ → Type 0} {is_with : Bool} {selection : Selection} (page : List ℕ)
-    → shows [] → Grows (so_far []) [] [] page → Grows (ReportsEvents shows so_far is is_with selection 0 []) [] [] page
-unfolding all_selected woven_of IsWoven
-events-begun page shown begun = record {
-  more = begun.more;
-  grown = begun.grown;
-  says = record {
-    steps = [];
-    are = sym decided-none;
-    shown = shown;
-    text_is = record { plain = begun.more; says_it = begun.says; woven = refl };
-    counted = refl;
-  };
-}
+pub events-begun : {shows : List Explained → Type 0} {so_far : List Explained → List ℕ → Type 0} {beside : Beside} {selection : Selection} (empty event page now : List ℕ) → empty ≡ []
+    → shows [] → Grows (so_far []) [] empty event → Grows (IsWoven (texts_before beside) event) [] page now
+    → Grows (ReportsEvents shows so_far beside selection 0 []) [] page now
+unfolding all_selected all_texts
+events-begun {beside} empty event page now none shown begun puts =
+    let is : event ≡ begun.more = rw none at begun.grown in
+    record {
+      more = puts.more;
+      grown = puts.grown;
+      says = record {
+        steps = [];
+        are = sym decided-none;
+        shown = shown;
+        text_is = record { plain = begun.more; says_it = begun.says; woven = rw (plus-none (texts_before beside), ← is) puts.says };
+        counted = refl;
+      };
+    }
 
 -- a result has what follows from it
 ok-has : {A E : Type 0} {S : Type 0} (result : Result A E) → IsOk result → OnOk result S → S
 ok-has (Ok value) ok has = has
 ok-has (Err why) ok has = cc
 
-pub events-ended : {shows : List Explained → Type 0} {so_far : List Explained → List ℕ → Type 0} {whole : List Explained → List ℕ → Type 0} {is_with : Bool} {selection : Selection} {count : ℕ}
+pub events-ended : {shows : List Explained → Type 0} {so_far : List Explained → List ℕ → Type 0} {whole : List Explained → List ℕ → Type 0} {beside : Beside} {selection : Selection} {count : ℕ}
     {E : Type 0} {A : Type 0} (entries : List Entry) (before out now : Option (List ℕ)) (page page_then : List ℕ) (ended : Result A E)
     → ((all : List Explained) (text : List ℕ) → shows all → so_far all text → OnOk ended (Grows (whole all) text page page_then)) → IsOk ended
     → Appends out now page_then
-    → Writes (ReportsEvents shows so_far (λ packet words. ⊤) is_with selection count entries) before (append_known out page)
-    → Writes (IsReport whole is_with selection count entries) before now
-events-ended {is_with} {selection} entries before out now page page_then ended ends ok moved was =
+    → Writes (ReportsEvents shows so_far beside selection count entries) before (append_known out page)
+    → Writes (IsReport whole beside selection count entries) before now
+unfolding IsWoven
+events-ended {beside} {selection} entries before out now page page_then ended ends ok moved was =
     let it = was.says_it in
     let grows = ok-has ended ok (ends (all_selected selection it.steps) it.text_is.plain it.shown it.text_is.says_it) in
     writes-out before out now page_then (writes-more before out page page_then was (record {
@@ -304,7 +278,7 @@ events-ended {is_with} {selection} entries before out now page page_then ended e
         text_is = record {
           plain = it.text_is.plain ++ grows.more;
           says_it = grows.says;
-          woven = woven-plain (λ packet words. ⊤) (woven_of is_with selection it.steps) it.text_is.plain was.text grows.more it.text_is.woven;
+          woven = rw (plus-none (all_texts beside selection it.steps)) at (woven-then (all_texts beside selection it.steps) 0 it.text_is.plain was.text grows.more grows.more it.text_is.woven refl);
         };
         counted = it.counted;
       };
@@ -321,12 +295,12 @@ ends-with follows ends = record { entries = ends.entries; has_them = follows end
 
 -- ---- packets
 
-texts-more : {A : Type 0} (is : A → List ℕ → Type 0) (all : List A) (one : A) (text more : List ℕ) → IsTexts is all text → is one more
+packet-texts : {A : Type 0} (is : A → List ℕ → Type 0) (all : List A) (one : A) (text more : List ℕ) → IsTexts is all text → is one more
     → IsTexts is (all ++ one ∷ []) (text ++ more)
 unfolding IsTexts
-texts-more is [] one text more were says = (more, [], says, refl, rw (were, append-nil more) refl)
-texts-more is (first ∷ rest) one text more were says =
-    (were.0, were.1 ++ more, were.2, texts-more is rest one were.1 more were.3 says, rw (were.4, append_assoc were.0 were.1 more) refl)
+packet-texts is [] one text more were says = (more, [], says, refl, rw (were, append-nil more) refl)
+packet-texts is (first ∷ rest) one text more were says =
+    (were.0, were.1 ++ more, were.2, packet-texts is rest one were.1 more were.3 says, rw (were.4, append_assoc were.0 were.1 more) refl)
 
 pub packets-none : {is : ExplainedPacket → List ℕ → Type 0} (count : ℕ) → count ≡ 0 → (selection : Selection) → ReportsPackets is selection count [] []
 unfolding IsTexts for_each
@@ -343,7 +317,7 @@ pub packet-more : {is : ExplainedPacket → List ℕ → Type 0} {count : ℕ} (
 packet-more {is} {count} all text page now found one some grows was = rw some (record {
   more = grows.more;
   grown = grows.grown;
-  says = record { says = texts-more is all one text grows.more was.says grows.says; counted = number-more all one count was.counted };
+  says = record { says = packet-texts is all one text grows.more was.says grows.says; counted = number-more all one count was.counted };
 })
 
 -- the packets of a row

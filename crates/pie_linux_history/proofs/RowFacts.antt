@@ -3,43 +3,34 @@ use Rattle.std.proofs.Common.{◌≡◌, ℕ, ◌+◌, ◌%◌, ◌^◌, ◌++�
 use Rattle.std.specs.Prelude.{true, false, Some, None, if◌then◌else◌, max, Result, Ok}
 use Rattle.std.specs.Option.{option_map}
 use Rattle.std.specs.Str.{bytes_eq}
-use Rattle.pie_linux_history.specs.declared.decided.Taken.{Taken}
-use Rattle.pie_linux_history.specs.declared.explained.Decision.{Decision}
-use Rattle.pie_linux_history.specs.declared.fault.StepsFault.{StepsFault}
-use Rattle.pie_linux_history.specs.declared.known.Known.{Known}
-use Rattle.pie_linux_history.specs.declared.queues.Queues.{Queues}
-use Rattle.pie_linux_history.specs.declared.queues.StepDifference.{StepDifference}
-use Rattle.pie_linux_history.specs.declared.queues.StepsCounts.{StepsCounts}
+use Rattle.pie_linux_history.specs.declared.{decided.Taken.Taken, fault.StepsFault.StepsFault, known.Known.Known, queues.Queues.Queues, queues.StepDifference.StepDifference, queues.StepsCounts.StepsCounts, step.QueueName.QueueName, step.Step.Step, columns.Columns.Columns}
 use Rattle.pie_record.specs.declared.fault.RecordFault.{RecordFault}
-use Rattle.pie_linux_history.specs.declared.step.QueueName.{QueueName}
-use Rattle.pie_linux_history.specs.declared.step.Step.{Step}
 use Rattle.pie_record.specs.Text.{Row}
-use Rattle.pie_linux_history.specs.declared.columns.Columns.{Columns}
-use Rattle.pie_linux_history.specs.Columns.{field_or, lost_in, queue_name, step_in}
-use Rattle.pie_linux_history.specs.Audit.{difference_at, judged, next, verdict_of}
-use Rattle.pie_linux_history.specs.Queue.{opening_difference}
-use Rattle.pie_linux_history.specs.Cuts.{with_name}
-use Rattle.pie_linux_history.specs.Decided.{decision_of, taken_by}
-use Rattle.pie_linux_history.specs.Known.{Leaves, Represents, Takes, known_names, looked_up}
-use Rattle.pie_linux_history.specs.LookBack.{Entry, Lost, Skipped, Took, begun, counts_of, decision_by, dropped_by_step, entry_in, follow, is_opening, is_other, lack_by, lack_counted, lack_in, latest, lost_steps, name_of, step_count}
-use Rattle.pie_linux_history.proofs.LookBackFacts.{counts-after, latest-more}
-use Rattle.pie_linux_history.proofs.KnownFacts.{represents-begun, represents-skipped, represents-step}
+use Rattle.pie_linux_history.specs.{Columns.field_or, Columns.lost_in, Columns.queue_name, Columns.step_in, Audit.difference_at, Audit.judged, Audit.next, Audit.verdict_of, Queue.opening_difference, Cuts.with_name, Decided.decision_of, Decided.taken_by, Known.Leaves, Known.Represents, Known.Takes, Known.known_names, Known.looked_up, LookBack.Entry, LookBack.Lost, LookBack.Skipped, LookBack.Took, LookBack.begun, LookBack.counts_of, LookBack.decision_by, LookBack.dropped_by_step, LookBack.entry_in, LookBack.Followed, LookBack.follow, LookBack.followed, LookBack.is_opening, LookBack.is_other, LookBack.lack_by, LookBack.lack_counted, LookBack.lack_in, LookBack.latest, LookBack.lost_steps, LookBack.name_of, LookBack.step_count}
+use Rattle.pie_linux_history.proofs.{LookBackFacts.counts-after, LookBackFacts.latest-more, KnownFacts.represents-begun, KnownFacts.represents-skipped, KnownFacts.represents-step}
+
+decision-of-taken : (step : Step) (was : Option Followed) → decision_of (taken_by step was) ≡ decision_by step was
+decision-of-taken step None = refl
+decision-of-taken step (Some was) = refl
+
+decision-after : (queues : List Known) (entries : List Entry) (queue : QueueName) (step : Step) (taken : Option Taken) → Represents queues entries
+    → taken ≡ taken_by step (looked_up (name_of queue) queues) → decision_of taken ≡ decision_by step (followed (name_of queue) entries)
+decision-after queues entries queue step taken was took =
+    ap decision_of (took ∙ ap (taken_by step) (was.by_name (name_of queue))) ∙ decision-of-taken step (followed (name_of queue) entries)
 
 -- a step of a queue that has begun
 pub follow-row : (queues : List Known) (after : Queues) (entries : List Entry) (queue : QueueName) (step : Step) (event : ℕ) (taken : Option Taken)
     (result : Result (Option StepDifference) StepsFault) → is_opening step.kind ≡ false → Represents queues entries
     → taken ≡ taken_by step (looked_up (name_of queue) queues)
-    → decision_of taken ≡ decision_by step (looked_up (name_of queue) queues)
     → ((other : List ℕ) → looked_up other after.known.all.items
     ≡ (if bytes_eq (name_of queue) other then option_map (λ was. follow was step) (looked_up other queues) else looked_up other queues))
     → known_names after.known.all.items ≡ known_names queues
     → after.last ≡ Some (queue, step) → after.taken ≡ taken → after.lost.items ≡ dropped_by_step step (looked_up (name_of queue) queues)
     → result ≡ judged event queue step (decision_of taken)
     → (result ≡ verdict_of entries event (Took queue step)) × Leaves after entries (Took queue step)
-follow-row queues after entries queue step event taken result later was took decided made names last kept lost judges =
-    let found = was.by_name (name_of queue) in
-    let by = decided ∙ ap (decision_by step) found in (
-      rw later (judges ∙ ap (judged event queue step) by),
+follow-row queues after entries queue step event taken result later was took made names last kept lost judges =
+    let found = was.by_name (name_of queue) in (
+      rw later (judges ∙ ap (judged event queue step) (decision-after queues entries queue step taken was took)),
       record {
         represents = represents-step queues after.known.all.items entries queue step later made names was;
         last_is = last;
@@ -67,10 +58,9 @@ open-row queues after entries queue step event result opens was made names last 
 )
 
 -- the input that it lacks
-pub follow-lack : (queues : List Known) (entries : List Entry) (queue : QueueName) (step : Step) (decision : Option Decision) → is_opening step.kind ≡ false
-    → Represents queues entries → decision ≡ decision_by step (looked_up (name_of queue) queues) → lack_by decision ≡ lack_in entries (Took queue step)
-follow-lack queues entries queue step decision later was decided =
-    rw later (ap lack_by (decided ∙ ap (decision_by step) (was.by_name (name_of queue))))
+pub follow-lack : (queues : List Known) (entries : List Entry) (queue : QueueName) (step : Step) (taken : Option Taken) → is_opening step.kind ≡ false
+    → Represents queues entries → taken ≡ taken_by step (looked_up (name_of queue) queues) → lack_by (decision_of taken) ≡ lack_in entries (Took queue step)
+follow-lack queues entries queue step taken later was took = rw later (ap lack_by (decision-after queues entries queue step taken was took))
 
 -- a row of another queue, a row of lost steps, and a row of a step
 pub entry-skipped : (chosen : Option (List ℕ)) (columns : Columns) (row : Row) → is_other chosen columns row ≡ true → entry_in chosen columns row ≡ Ok Skipped

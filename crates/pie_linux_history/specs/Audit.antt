@@ -2,26 +2,11 @@
 -- specs/LookBack.antt defines the queue of each step.
 use Rattle.std.specs.Prelude.{ℕ, ◌+◌, ◌%◌, ◌^◌, ◌≡◌, ◌++◌, ◌∷◌, if◌then◌else◌, List, [], Bool, false, Option, Some, None, IfSome, Result, Ok, Err, take}
 use Rattle.std.specs.List.{cons_option}
-use Rattle.pie_record.specs.Text.{Row}
-use Rattle.pie_record.specs.Field.{fault_at, is_io_or_memory}
+use Rattle.pie_record.specs.{Text.Row, Field.fault_at, Field.is_io_or_memory}
 use Rattle.pie_record.specs.declared.fault.RecordFault.{RecordFault}
 use Rattle.pie_record.specs.declared.fault.TraceFault.TheVariants as fault
-use Rattle.pie_linux_history.specs.declared.columns.Columns.{Columns}
-use Rattle.pie_linux_history.specs.declared.difference.Difference.{Difference}
-use Rattle.pie_linux_history.specs.declared.explained.Decision.{Decision}
-use Rattle.pie_linux_history.specs.declared.fault.StepsFault.{StepsFault}
-use Rattle.pie_linux_history.specs.declared.fault.StepsFault.TheVariants.{NoStart, Trace}
-use Rattle.pie_linux_history.specs.declared.queues.StepDifference.{StepDifference}
-use Rattle.pie_linux_history.specs.declared.queues.StepsCounts.{StepsCounts}
-use Rattle.pie_linux_history.specs.declared.step.QueueName.{QueueName}
-use Rattle.pie_linux_history.specs.declared.step.Step.{Step}
-use Rattle.pie_linux_history.specs.declared.text.Differences.{Differences}
-use Rattle.pie_linux_history.specs.declared.text.StepsFinding.{StepsFinding}
-use Rattle.pie_linux_history.specs.declared.text.StepsFinding.TheVariants.{Clean, Differs}
-use Rattle.pie_linux_history.specs.Columns.{columns_of}
-use Rattle.pie_linux_history.specs.Decided.{for_each, number_of}
-use Rattle.pie_linux_history.specs.Queue.{opening_difference}
-use Rattle.pie_linux_history.specs.LookBack.{Entry, Took, counts_of, decision_by, entry_in, followed, is_opening, name_of}
+use Rattle.pie_linux_history.specs.declared.{columns.Columns.Columns, difference.Difference.Difference, explained.Decision.Decision, fault.StepsFault.StepsFault, fault.StepsFault.TheVariants.NoStart, fault.StepsFault.TheVariants.Trace, queues.StepDifference.StepDifference, queues.StepsCounts.StepsCounts, step.QueueName.QueueName, step.Step.Step, text.Differences.Differences, text.StepsFinding.StepsFinding, text.StepsFinding.TheVariants.Clean, text.StepsFinding.TheVariants.Differs}
+use Rattle.pie_linux_history.specs.{Columns.columns_of, Decided.for_each, Decided.number_of, Queue.opening_difference, LookBack.Entry, LookBack.Took, LookBack.counts_of, LookBack.decision_by, LookBack.entry_in, LookBack.followed, LookBack.is_opening, LookBack.name_of}
 
 -- the number of the next event or record
 abbrev pub next : ℕ → ℕ

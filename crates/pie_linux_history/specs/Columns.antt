@@ -2,22 +2,12 @@
 use Rattle.std.specs.Prelude.{ℕ, ◌+◌, ◌*◌, ◌-◌, ◌%◌, ◌^◌, ◌++◌, ◌∷◌, ◌==◌, ◌&&◌, ◌||◌, if◌then◌else◌, Bool, true, false, not, nat_le, nat_lt, List, [], drop, replicate, length, map, get_or, min, Option, Some, None, unwrap_or, Result, Ok, Err, codes, zero, suc}
 use Rattle.std.specs.Option.{ok_or, option_map}
 use Rattle.std.specs.Str.{bytes_eq, is_utf8}
-use Rattle.pie_record.specs.Names.{field_at}
-use Rattle.pie_record.specs.Text.{Row}
-use Rattle.pie_record.specs.Field.{and_then, is_word, most_u32, most_u64, number}
+use Rattle.pie_record.specs.{Names.field_at, Text.Row, Field.and_then, Field.is_word, Field.most_u32, Field.most_u64, Field.number}
 use Rattle.pie_record.specs.declared.fault.RecordFault.{RecordFault}
 use Rattle.pie_record.specs.declared.fault.RecordFault.TheVariants as flaw
-use Rattle.pie_linux.specs.declared.params.LinuxParams.{LinuxParams}
-use Rattle.pie_linux.specs.declared.state.LinuxState.{LinuxState}
-use Rattle.pie_linux.specs.declared.params.MarkLimit.TheVariants.{Percent, Tenth}
-use Rattle.pie_linux_history.specs.declared.columns.Columns.{Columns}
-use Rattle.pie_linux_history.specs.declared.columns.TheConstants.{NAMES}
-use Rattle.pie_linux_history.specs.declared.fault.StepsFault.{StepsFault}
-use Rattle.pie_linux_history.specs.declared.fault.StepsFault.TheVariants.{NoColumn}
-use Rattle.pie_linux_history.specs.declared.step.Kind.{Kind}
+use Rattle.pie_linux.specs.declared.{params.LinuxParams.LinuxParams, state.LinuxState.LinuxState, params.MarkLimit.TheVariants.Percent, params.MarkLimit.TheVariants.Tenth}
+use Rattle.pie_linux_history.specs.declared.{columns.Columns.Columns, columns.TheConstants.NAMES, fault.StepsFault.StepsFault, fault.StepsFault.TheVariants.NoColumn, step.Kind.Kind, step.QueueName.QueueName, step.Step.Step}
 use Rattle.pie_linux_history.specs.declared.step.Kind.TheVariants as kind
-use Rattle.pie_linux_history.specs.declared.step.QueueName.{QueueName}
-use Rattle.pie_linux_history.specs.declared.step.Step.{Step}
 
 -- the first `count` values of a sequence, or its first error
 unfoldable pub collected : {E : Type 0} → (ℕ → Result ℕ E) → ℕ → Result (List ℕ) E

@@ -1,38 +1,16 @@
 -- The pieces of a text: the rows of each piece, and the rows of the running queues that begin it, as text.
-use Rattle.std.specs.Prelude.{ℕ, ◌+◌, ◌-◌, ◌%◌, ◌^◌, ◌≡◌, ◌++◌, ◌∷◌, ◌==◌, ◌&&◌, ◌||◌, ⊤, if◌then◌else◌, not, nat_le, nat_lt, List, [], filter, get_or, length, map, max, min, Bool, true, false, Option, Some, None, option_map, unwrap_or, Result, Ok, Err, IfSome, codes, zero, suc}
+use Rattle.std.specs.Prelude.{ℕ, ◌+◌, ◌-◌, ◌%◌, ◌^◌, ◌≡◌, ◌++◌, ◌∷◌, ◌==◌, ◌&&◌, ◌||◌, if◌then◌else◌, not, nat_le, nat_lt, List, [], filter, get_or, length, max, min, Bool, true, false, Option, Some, None, option_map, Result, Ok, Err, codes, zero, suc}
 use Rattle.std.specs.Fmt.{decimal}
 use Rattle.std.specs.List.{filter_map, flat_map, fold, list_any, position_from, slice_get}
 use Rattle.std.specs.Str.{bytes_eq}
 use Rattle.pie_linux.specs.Enqueue.{one_if}
 use Rattle.pie_linux.specs.declared.state.LinuxState.{LinuxState}
-use Rattle.pie_record.specs.Field.{fault_at}
-use Rattle.pie_record.specs.Text.{Row, text_of}
+use Rattle.pie_record.specs.{Field.fault_at, Text.Row, Text.text_of}
 use Rattle.pie_record.specs.declared.fault.RecordFault.{RecordFault}
 use Rattle.pie_record.specs.declared.fault.TraceFault.TheVariants as fault
-use Rattle.pie_linux_history.specs.declared.columns.Columns.{Columns}
-use Rattle.pie_linux_history.specs.declared.cutter.RowSpan.{RowSpan}
-use Rattle.pie_linux_history.specs.declared.cutter.StepPieces.{StepPieces}
-use Rattle.pie_linux_history.specs.declared.cutter.StepPieces.TheVariants.{Every, Span}
-use Rattle.pie_linux_history.specs.declared.fault.StepsFault.{StepsFault}
-use Rattle.pie_linux_history.specs.declared.fault.StepsFault.TheVariants.{Trace}
-use Rattle.pie_linux_history.specs.declared.numbers.FlowNumbers.{FlowNumbers}
-use Rattle.pie_linux_history.specs.declared.numbers.QueueNumbers.{QueueNumbers}
-use Rattle.pie_linux_history.specs.declared.numbers.Waiting.{Waiting}
-use Rattle.pie_linux_history.specs.declared.queues.StepDifference.{StepDifference}
-use Rattle.pie_linux_history.specs.declared.queues.StepsCounts.{StepsCounts}
-use Rattle.pie_linux_history.specs.declared.step.Kind.{Kind}
+use Rattle.pie_linux_history.specs.declared.{columns.Columns.Columns, cutter.StepPieces.StepPieces, cutter.StepPieces.TheVariants.Every, cutter.StepPieces.TheVariants.Span, fault.StepsFault.StepsFault, fault.StepsFault.TheVariants.Trace, numbers.FlowNumbers.FlowNumbers, numbers.QueueNumbers.QueueNumbers, numbers.Waiting.Waiting, queues.StepDifference.StepDifference, queues.StepsCounts.StepsCounts, step.Kind.Kind, step.Step.Step, text.StepsFinding.StepsFinding, text.StepsFinding.TheVariants.Clean, text.StepsFinding.TheVariants.Differs}
 use Rattle.pie_linux_history.specs.declared.step.Kind.TheVariants as kind
-use Rattle.pie_linux_history.specs.declared.step.Step.{Step}
-use Rattle.pie_linux_history.specs.declared.text.StepsFinding.{StepsFinding}
-use Rattle.pie_linux_history.specs.declared.text.StepsFinding.TheVariants.{Clean, Differs}
-use Rattle.pie_linux_history.specs.Audit.{next, verdict, with_entry}
-use Rattle.pie_linux_history.specs.Columns.{blank, columns_of, moment_of}
-use Rattle.pie_linux_history.specs.Decisions.{difference_32}
-use Rattle.pie_linux_history.specs.Differences.{numbers_of}
-use Rattle.pie_linux_history.specs.LookBack.{Entry, Followed, Lost, Took, counts_of, entry_in, followed, is_opening, latest, name_of}
-use Rattle.pie_linux_history.specs.Resumes.{new_state, number_field}
-use Rattle.pie_linux_history.specs.Right.{of_flows, percent_of, state_of_pie}
-use Rattle.pie_linux_history.specs.Views.{FlowView, QueueView}
+use Rattle.pie_linux_history.specs.{Audit.next, Audit.verdict, Audit.with_entry, Columns.blank, Columns.columns_of, Columns.moment_of, Decisions.difference_32, Differences.numbers_of, LookBack.Entry, LookBack.Followed, LookBack.Lost, LookBack.Took, LookBack.counts_of, LookBack.entry_in, LookBack.followed, LookBack.is_opening, LookBack.latest, LookBack.name_of, Resumes.new_state, Resumes.number_field, Right.of_flows, Right.percent_of, Right.state_of_pie, Views.FlowView, Views.QueueView}
 
 -- ---- the row of a step
 

@@ -2,12 +2,8 @@
 use Rattle.std.specs.Prelude.{ℕ, ◌+◌, ◌-◌, ◌≡◌, ◌++◌, ◌∷◌, ⊤, List, length, Option, Some, None, Result, Ok, Err}
 use Rattle.std.specs.Io.KnownBytes.{Appends}
 use Rattle.pie_record.specs.Text.{Row}
-use Rattle.pie_linux_history.specs.declared.fault.StepsFault.{StepsFault}
-use Rattle.pie_linux_history.specs.declared.queues.Queues.{Queues}
-use Rattle.pie_linux_history.specs.declared.text.StepsFinding.{StepsFinding}
-use Rattle.pie_linux_history.specs.Cuts.{Cut, Plan, cut_from, joined}
-use Rattle.pie_linux_history.specs.Known.{HasRead}
-use Rattle.pie_linux_history.specs.LookBack.{Entry}
+use Rattle.pie_linux_history.specs.declared.{fault.StepsFault.StepsFault, queues.Queues.Queues, text.StepsFinding.StepsFinding}
+use Rattle.pie_linux_history.specs.{Cuts.Cut, Cuts.Plan, Cuts.cut_from, Cuts.joined, Known.HasRead, LookBack.Entry}
 
 -- all rows were cut with this result; the text is known unless there was a fault
 abbrev pub CutsRows : Cut → Result (ℕ × StepsFinding) StepsFault → Option (List ℕ) → Option (List ℕ) → Type 0

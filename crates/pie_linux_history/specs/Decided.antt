@@ -1,19 +1,8 @@
 -- The decided steps of a text, each with the numbers before and after it, by a look-back over the rows before it.
 use Rattle.std.specs.Prelude.{ℕ, ◌-◌, ◌^◌, ◌++◌, ◌∷◌, if◌then◌else◌, List, [], length, min, Option, Some, None, option_map}
 use Rattle.std.specs.List.{cons_option}
-use Rattle.pie_linux_history.specs.declared.decided.DecidedStep.{DecidedStep}
-use Rattle.pie_linux_history.specs.declared.decided.StepNumbers.{StepNumbers}
-use Rattle.pie_linux_history.specs.declared.decided.Taken.{Taken}
-use Rattle.pie_linux_history.specs.declared.decided.Updates.{Updates}
-use Rattle.pie_linux_history.specs.declared.explained.DecidedPacket.{DecidedPacket}
-use Rattle.pie_linux_history.specs.declared.explained.Decision.{Decision}
-use Rattle.pie_linux_history.specs.declared.numbers.QueueNumbers.{QueueNumbers}
-use Rattle.pie_linux_history.specs.declared.numbers.Waiting.{Waiting}
-use Rattle.pie_linux_history.specs.declared.step.QueueName.{QueueName}
-use Rattle.pie_linux_history.specs.declared.step.Step.{Step}
-use Rattle.pie_linux_history.specs.LookBack.{Entry, Followed, Took, counts_of, dropped_by_step, follow, followed, is_opening, latest, name_of, next_of}
-use Rattle.pie_linux_history.specs.Queue.{flow_at, place_of}
-use Rattle.pie_linux_history.specs.Views.{FlowView, QueueView}
+use Rattle.pie_linux_history.specs.declared.{decided.DecidedStep.DecidedStep, decided.StepNumbers.StepNumbers, decided.Taken.Taken, decided.Updates.Updates, explained.DecidedPacket.DecidedPacket, explained.Decision.Decision, numbers.QueueNumbers.QueueNumbers, numbers.Waiting.Waiting, step.QueueName.QueueName, step.Step.Step}
+use Rattle.pie_linux_history.specs.{LookBack.Entry, LookBack.Followed, LookBack.Took, LookBack.counts_of, LookBack.dropped_by_step, LookBack.follow, LookBack.followed, LookBack.is_opening, LookBack.latest, LookBack.name_of, LookBack.next_of, Queue.flow_at, Queue.place_of, Views.FlowView, Views.QueueView}
 
 -- ---- the numbers around a step
 

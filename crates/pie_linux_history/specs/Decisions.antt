@@ -2,27 +2,11 @@
 -- pie_linux. No decision reads a recorded result, except the clock of a departure, and in a text without the column `rq` the
 -- inputs that it lacks. specs/Right.antt has the comparison.
 use Rattle.std.specs.Prelude.{ℕ, ◌+◌, ◌-◌, ◌%◌, ◌/◌, ◌^◌, Bool, true, false, not, nat_lt, ◌&&◌, ◌==◌, if◌then◌else◌, Option, Some, None, get_or, unwrap_or}
-use Rattle.pie_linux.specs.Numbers.{sum_32, ticks}
-use Rattle.pie_linux.specs.Enqueue.{counted, enqueue_cause, enqueued, is_markable, is_queued, is_tag}
-use Rattle.pie_linux.specs.Departure.{departed, readings}
-use Rattle.pie_linux.specs.Update.{restarted, updated}
-use Rattle.pie_linux.specs.Queue.{flow_backlog, flow_of, is_over_memory, named_flow, next_cursor, own_excess}
-use Rattle.pie_linux.specs.declared.params.LinuxParams.{LinuxParams}
-use Rattle.pie_linux.specs.declared.state.LinuxState.{LinuxState}
-use Rattle.pie_linux.specs.declared.arrival.LinuxArrival.{LinuxArrival}
-use Rattle.pie_linux.specs.declared.departure.LinuxDeparture.{LinuxDeparture}
-use Rattle.pie_linux.specs.declared.cause.LinuxCause.{LinuxCause}
-use Rattle.pie_linux.specs.declared.cause.LinuxCause.TheVariants.{OverLimit, SumAbove, WordBelow}
-use Rattle.pie_linux.specs.declared.cause.Picked.{Picked}
+use Rattle.pie_linux.specs.{Numbers.sum_32, Numbers.ticks, Enqueue.counted, Enqueue.enqueue_cause, Enqueue.enqueued, Enqueue.is_markable, Enqueue.is_queued, Enqueue.is_tag, Departure.departed, Departure.readings, Update.restarted, Update.updated, Queue.flow_backlog, Queue.flow_of, Queue.is_over_memory, Queue.named_flow, Queue.next_cursor, Queue.own_excess}
+use Rattle.pie_linux.specs.declared.{params.LinuxParams.LinuxParams, state.LinuxState.LinuxState, arrival.LinuxArrival.LinuxArrival, departure.LinuxDeparture.LinuxDeparture, cause.LinuxCause.LinuxCause, cause.LinuxCause.TheVariants.OverLimit, cause.LinuxCause.TheVariants.SumAbove, cause.LinuxCause.TheVariants.WordBelow, cause.Picked.Picked}
 use Rattle.pie_linux.specs.declared.cause.Picked.TheVariants as picked
-use Rattle.pie_linux_history.specs.declared.explained.Input.{Input}
+use Rattle.pie_linux_history.specs.declared.{explained.Input.Input, step.Step.Step, numbers.Waiting.Waiting, numbers.FlowNumbers.FlowNumbers, numbers.QueueNumbers.QueueNumbers, right.Arrived.Arrived, right.Departed.Departed}
 use Rattle.pie_linux_history.specs.declared.explained.Input.TheVariants as input
-use Rattle.pie_linux_history.specs.declared.step.Step.{Step}
-use Rattle.pie_linux_history.specs.declared.numbers.Waiting.{Waiting}
-use Rattle.pie_linux_history.specs.declared.numbers.FlowNumbers.{FlowNumbers}
-use Rattle.pie_linux_history.specs.declared.numbers.QueueNumbers.{QueueNumbers}
-use Rattle.pie_linux_history.specs.declared.right.Arrived.{Arrived}
-use Rattle.pie_linux_history.specs.declared.right.Departed.{Departed}
 
 -- a difference of C's type u32
 abbrev pub difference_32 : ℕ → ℕ → ℕ

@@ -2,39 +2,20 @@
 -- history. Times are in nanoseconds, probabilities in units of 10^-12, rounded down.
 use Rattle.std.specs.Prelude.{ℕ, ◌+◌, ◌-◌, ◌*◌, ◌/◌, ◌%◌, ◌^◌, Bool, true, false, ◌==◌, if◌then◌else◌, min, max, Option, Some, None, option_map}
 use Rattle.pie_linux.specs.Enqueue.{is_queued, own_prob}
-use Rattle.pie_linux.specs.declared.params.LinuxParams.{LinuxParams}
-use Rattle.pie_linux.specs.declared.params.MarkLimit.{MarkLimit}
-use Rattle.pie_linux.specs.declared.params.MarkLimit.TheVariants.{Tenth, Percent}
-use Rattle.pie_linux.specs.declared.cause.LinuxCause.{LinuxCause}
+use Rattle.pie_linux.specs.declared.{params.LinuxParams.LinuxParams, params.MarkLimit.MarkLimit, params.MarkLimit.TheVariants.Tenth, params.MarkLimit.TheVariants.Percent, cause.LinuxCause.LinuxCause, cause.Picked.Picked}
 use Rattle.pie_linux.specs.declared.cause.LinuxCause.TheVariants as linux
-use Rattle.pie_linux.specs.declared.cause.Picked.{Picked}
 use Rattle.pie_linux.specs.declared.cause.Picked.TheVariants as picked
 use Rattle.pie_params.specs.declared.raw.RawParams.{RawParams}
 use Rattle.pie_params.specs.Params.{default_profile}
-use Rattle.pie_queue.specs.declared.ecn.Ecn.{Ecn}
-use Rattle.pie_queue.specs.declared.ecn.Ecn.TheVariants.{NotEct, Ect1, Ect0, Ce}
-use Rattle.pie_queue.specs.declared.packet.Packet.{Packet}
-use Rattle.pie_event.specs.declared.command.Command.{Command}
-use Rattle.pie_event.specs.declared.command.Command.TheVariants.{Arrive, Depart, Update, Reset, SetParams}
-use Rattle.pie_event.specs.declared.command.Answer.{Answer}
+use Rattle.pie_queue.specs.declared.{ecn.Ecn.Ecn, ecn.Ecn.TheVariants.NotEct, ecn.Ecn.TheVariants.Ect1, ecn.Ecn.TheVariants.Ect0, ecn.Ecn.TheVariants.Ce, packet.Packet.Packet}
+use Rattle.pie_event.specs.declared.{command.Command.Command, command.Command.TheVariants.Arrive, command.Command.TheVariants.Depart, command.Command.TheVariants.Update, command.Command.TheVariants.Reset, command.Command.TheVariants.SetParams, command.Answer.Answer, command.Event.Event, cause.Cause.Cause, cause.Fate.Fate, registers.Registers.Registers, command.Setter.Setter}
 use Rattle.pie_event.specs.declared.command.Answer.TheVariants as answer
-use Rattle.pie_event.specs.declared.command.Event.{Event}
-use Rattle.pie_event.specs.declared.cause.Cause.{Cause}
 use Rattle.pie_event.specs.declared.cause.Cause.TheVariants as cause
-use Rattle.pie_event.specs.declared.cause.Fate.{Fate}
 use Rattle.pie_event.specs.declared.cause.Fate.TheVariants as fate
-use Rattle.pie_event.specs.declared.registers.Registers.{Registers}
-use Rattle.pie_event.specs.declared.command.Setter.{Setter}
 use Rattle.pie_event.specs.declared.command.Setter.TheVariants as setter
 use Rattle.pie_explain.specs.declared.explanation.Explained.{Explained}
-use Rattle.pie_linux_history.specs.declared.decided.DecidedStep.{DecidedStep}
-use Rattle.pie_linux_history.specs.declared.decided.StepNumbers.{StepNumbers}
-use Rattle.pie_linux_history.specs.declared.decided.Updates.{Updates}
-use Rattle.pie_linux_history.specs.declared.explained.DecidedPacket.{DecidedPacket}
-use Rattle.pie_linux_history.specs.declared.explained.Fate.{Fate as PacketFate}
+use Rattle.pie_linux_history.specs.declared.{decided.DecidedStep.DecidedStep, decided.StepNumbers.StepNumbers, decided.Updates.Updates, explained.DecidedPacket.DecidedPacket, explained.Fate.Fate as PacketFate, step.Step.Step, step.Kind.Kind}
 use Rattle.pie_linux_history.specs.declared.explained.Fate.TheVariants as packet_fate
-use Rattle.pie_linux_history.specs.declared.step.Step.{Step}
-use Rattle.pie_linux_history.specs.declared.step.Kind.{Kind}
 use Rattle.pie_linux_history.specs.declared.step.Kind.TheVariants as kind
 
 -- ---- units
@@ -202,16 +183,10 @@ abbrev pub waited_by : Kind → DecidedStep → ℕ
 waited_by kind.Dequeue one = wait_of one
 waited_by _ one = 0
 
-abbrev pub waited : DecidedStep → ℕ
-waited one = waited_by one.step.kind one
-
 -- the last update after a step
 abbrev pub last_by : Kind → DecidedStep → ℕ
 last_by kind.Update one = one.moment
 last_by _ one = one.updates.moment
-
-abbrev pub last_update : DecidedStep → ℕ
-last_update one = last_by one.step.kind one
 
 -- the cause of an arrival
 abbrev pub cause_with : DecidedStep → DecidedPacket → Option LinuxCause → Option Cause
@@ -236,12 +211,12 @@ explained_as one event = record {
     before = registers_of one.before (waiting_before one) (one.event - 1) one.moment one.updates.moment;
     delay = nanos one.before.state.qdelay;
     cause = arrival_cause one;
-    waited = waited one;
+    waited = waited_by one.step.kind one;
     set_by = setter_of one.updates;
     updates = one.updates.count;
     clock = None;
   };
-  after = registers_of one.after (waiting_after one) one.event one.moment (last_update one);
+  after = registers_of one.after (waiting_after one) one.event one.moment (last_by one.step.kind one);
   delay = nanos one.after.state.qdelay;
 }
 

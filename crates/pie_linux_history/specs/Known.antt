@@ -3,15 +3,8 @@ use Rattle.std.specs.Prelude.{ℕ, ◌≡◌, ◌++◌, ◌∷◌, if◌then◌e
 use Rattle.std.specs.Str.{bytes_eq}
 use Rattle.pie_record.specs.Text.{Row, TakesRow}
 use Rattle.pie_record.specs.declared.fault.RecordFault.{RecordFault}
-use Rattle.pie_linux_history.specs.declared.columns.Columns.{Columns}
-use Rattle.pie_linux_history.specs.declared.fault.StepsFault.{StepsFault}
-use Rattle.pie_linux_history.specs.declared.known.Known.{Known}
-use Rattle.pie_linux_history.specs.declared.queues.Queues.{Queues}
-use Rattle.pie_linux_history.specs.declared.queues.StepDifference.{StepDifference}
-use Rattle.pie_linux_history.specs.Audit.{next, verdict}
-use Rattle.pie_linux_history.specs.Cuts.{Named, names_of}
-use Rattle.pie_linux_history.specs.Decided.{dropped_in, last_in, taken_in}
-use Rattle.pie_linux_history.specs.LookBack.{Entry, Followed, counts_of, entry_in, followed, latest, name_of}
+use Rattle.pie_linux_history.specs.declared.{columns.Columns.Columns, fault.StepsFault.StepsFault, known.Known.Known, queues.Queues.Queues, queues.StepDifference.StepDifference}
+use Rattle.pie_linux_history.specs.{Audit.next, Audit.verdict, Cuts.Named, Cuts.names_of, Decided.dropped_in, Decided.last_in, Decided.taken_in, LookBack.Entry, LookBack.Followed, LookBack.counts_of, LookBack.entry_in, LookBack.followed, LookBack.latest, LookBack.name_of}
 
 abbrev pub tracked : Known → Followed
 tracked known = record { last = known.last; queue = known.queue; differs = known.differs }

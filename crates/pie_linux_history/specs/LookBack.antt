@@ -5,23 +5,13 @@ use Rattle.std.specs.List.{filter_map, fold, sum_by}
 use Rattle.std.specs.Option.{ok_or, option_or}
 use Rattle.std.specs.Str.{bytes_eq}
 use Rattle.pie_linux.specs.Enqueue.{one_if}
-use Rattle.pie_record.specs.Text.{Row}
-use Rattle.pie_record.specs.Field.{and_then}
+use Rattle.pie_record.specs.{Text.Row, Field.and_then}
 use Rattle.pie_record.specs.declared.fault.RecordFault.{RecordFault}
 use Rattle.pie_record.specs.declared.fault.RecordFault.TheVariants as flaw
-use Rattle.pie_linux_history.specs.declared.columns.Columns.{Columns}
-use Rattle.pie_linux_history.specs.declared.explained.DecidedPacket.{DecidedPacket}
-use Rattle.pie_linux_history.specs.declared.explained.Decision.{Decision}
-use Rattle.pie_linux_history.specs.declared.explained.Input.{Input}
+use Rattle.pie_linux_history.specs.declared.{columns.Columns.Columns, explained.DecidedPacket.DecidedPacket, explained.Decision.Decision, explained.Input.Input, queues.StepsCounts.StepsCounts, step.Kind.Kind, step.QueueName.QueueName, step.Step.Step}
 use Rattle.pie_linux_history.specs.declared.explained.Input.TheVariants as input
-use Rattle.pie_linux_history.specs.declared.queues.StepsCounts.{StepsCounts}
-use Rattle.pie_linux_history.specs.declared.step.Kind.{Kind}
 use Rattle.pie_linux_history.specs.declared.step.Kind.TheVariants as kind
-use Rattle.pie_linux_history.specs.declared.step.QueueName.{QueueName}
-use Rattle.pie_linux_history.specs.declared.step.Step.{Step}
-use Rattle.pie_linux_history.specs.Columns.{field_or, handle_of, lost_in, queue_name, step_in}
-use Rattle.pie_linux_history.specs.Queue.{Stepped, is_part, last_after, next_dropped, next_step, opened, opening_difference, unchanged}
-use Rattle.pie_linux_history.specs.Views.{QueueView}
+use Rattle.pie_linux_history.specs.{Columns.field_or, Columns.handle_of, Columns.lost_in, Columns.queue_name, Columns.step_in, Queue.Stepped, Queue.is_part, Queue.last_after, Queue.next_dropped, Queue.next_step, Queue.opened, Queue.opening_difference, Queue.unchanged, Views.QueueView}
 
 -- ---- rows
 

@@ -4,23 +4,10 @@ use Rattle.std.specs.List.{flat_map, fold, slice_get}
 use Rattle.std.proofs.Math.ListN.{set}
 use Rattle.pie_linux.specs.Enqueue.{is_queued, one_if}
 use Rattle.pie_linux.specs.declared.state.LinuxState.{LinuxState}
-use Rattle.pie_linux_history.specs.declared.difference.Difference.{Difference}
-use Rattle.pie_linux_history.specs.declared.explained.DecidedPacket.{DecidedPacket}
-use Rattle.pie_linux_history.specs.declared.explained.Decision.{Decision}
-use Rattle.pie_linux_history.specs.declared.explained.Input.{Input}
-use Rattle.pie_linux_history.specs.declared.explained.Fate.{Fate}
+use Rattle.pie_linux_history.specs.declared.{difference.Difference.Difference, explained.DecidedPacket.DecidedPacket, explained.Decision.Decision, explained.Input.Input, explained.Fate.Fate, numbers.FlowNumbers.FlowNumbers, numbers.QueueNumbers.QueueNumbers, numbers.Waiting.Waiting, step.Kind.Kind, step.Step.Step}
 use Rattle.pie_linux_history.specs.declared.explained.Fate.TheVariants as fate
-use Rattle.pie_linux_history.specs.declared.numbers.FlowNumbers.{FlowNumbers}
-use Rattle.pie_linux_history.specs.declared.numbers.QueueNumbers.{QueueNumbers}
-use Rattle.pie_linux_history.specs.declared.numbers.Waiting.{Waiting}
-use Rattle.pie_linux_history.specs.declared.step.Kind.{Kind}
 use Rattle.pie_linux_history.specs.declared.step.Kind.TheVariants as kind
-use Rattle.pie_linux_history.specs.declared.step.Step.{Step}
-use Rattle.pie_linux_history.specs.Decisions.{admitted, arrived, arrived_flow, bytes_before, cause_of, changed, departed_flow, departed_queue, flow_chosen, lack_of, lack_of_arrival, lacks_bytes, lacks_limit, lacks_switch, length_before, own_dropped, removed, removed_flow, reset_flow, reset_queue, round_begun, updated_flow, waiting_added, waiting_of}
-use Rattle.pie_linux_history.specs.Differences.{step_difference}
-use Rattle.pie_linux_history.specs.Right.{arrival_difference, change_difference, departure_difference, reset_difference, right_destroy, right_opening, round_difference, update_difference}
-use Rattle.pie_linux_history.specs.Resumes.{first_flows, first_numbers, is_init, new_state, resumed}
-use Rattle.pie_linux_history.specs.Views.{FlowView, QueueView}
+use Rattle.pie_linux_history.specs.{Decisions.admitted, Decisions.arrived, Decisions.arrived_flow, Decisions.bytes_before, Decisions.cause_of, Decisions.changed, Decisions.departed_flow, Decisions.departed_queue, Decisions.flow_chosen, Decisions.lack_of, Decisions.lack_of_arrival, Decisions.lacks_bytes, Decisions.lacks_limit, Decisions.lacks_switch, Decisions.length_before, Decisions.own_dropped, Decisions.removed, Decisions.removed_flow, Decisions.reset_flow, Decisions.reset_queue, Decisions.round_begun, Decisions.updated_flow, Decisions.waiting_added, Decisions.waiting_of, Differences.step_difference, Right.arrival_difference, Right.departure_difference, Right.right_change, Right.right_destroy, Right.right_opening, Right.right_reset, Right.round_difference, Right.update_difference, Resumes.first_flows, Resumes.first_numbers, Resumes.is_init, Resumes.new_state, Resumes.resumed, Views.FlowView, Views.QueueView}
 
 -- ---- flows
 
@@ -35,10 +22,6 @@ flow_at queue step = slice_get queue.flows (place_of queue step)
 -- the queue with other numbers, and with another flow in the place of a step
 abbrev pub with_flow : QueueView → Step → QueueNumbers → FlowView → QueueView
 with_flow queue step numbers flow = record queue { numbers = numbers; flows = set queue.flows (place_of queue step) flow }
-
--- the difference of a step of a flow that does not exist
-abbrev pub no_flow : Step → Option Difference
-no_flow step = Some (record { column = 55; recorded = unwrap_or step.flow (2 ^ 32 - 1); right = 0 })
 
 -- ---- steps of a flow
 
@@ -146,21 +129,41 @@ pub record Stepped : Type 0 where
   pub queue : QueueView
   pub decision : Decision
 
--- a step of the flow of a step, if there is one; otherwise the queue stays
-abbrev pub stepped_flow : (QueueNumbers → FlowView → Step → FlowStep) → Option Difference → QueueView → Step → Option FlowView → Stepped
-stepped_flow flow_step missing queue step None = record { queue = queue; decision = other missing }
-stepped_flow flow_step missing queue step (Some flow) = record {
-  queue = with_flow queue step (flow_step queue.numbers flow step).numbers (flow_step queue.numbers flow step).flow;
-  decision = (flow_step queue.numbers flow step).decision;
-}
+-- true for a row that belongs to the row `resume` before it, and is no step of its own
+abbrev pub is_part : Kind → Bool
+is_part kind.Flow = true
+is_part kind.Wait = true
+is_part _ = false
 
-unfoldable pub flow_stepped : (QueueNumbers → FlowView → Step → FlowStep) → Option Difference → QueueView → Step → Stepped
-flow_stepped flow_step missing queue step = stepped_flow flow_step missing queue step (flow_at queue step)
+-- the difference of a step of a flow that does not exist: none of a row of a running queue
+abbrev pub no_flow : Step → Option Difference
+no_flow step =
+    if is_part step.kind then None else Some (record { column = 55; recorded = unwrap_or step.flow (2 ^ 32 - 1); right = 0 })
+
+-- the step of a flow of each kind
+abbrev pub flow_step : Kind → QueueNumbers → FlowView → Step → FlowStep
+flow_step kind.Enqueue queue flow step = flow_arrived queue flow step
+flow_step kind.Dequeue queue flow step = flow_departed queue flow step
+flow_step kind.Update queue flow step = flow_updated queue flow step
+flow_step kind.Flow queue flow step = flow_resumed queue flow step
+flow_step kind.Wait queue flow step = flow_waited queue flow step
+flow_step _ queue flow step = record { numbers = queue; flow = flow; decision = other None }
+
+-- a step of the flow of a step, if there is one; otherwise the queue stays
+abbrev pub with_step : QueueView → Step → FlowStep → Stepped
+with_step queue step done = record { queue = with_flow queue step done.numbers done.flow; decision = done.decision }
+
+abbrev pub stepped_flow : QueueView → Step → Option FlowView → Stepped
+stepped_flow queue step None = record { queue = queue; decision = other (no_flow step) }
+stepped_flow queue step (Some flow) = with_step queue step (flow_step step.kind queue.numbers flow step)
+
+unfoldable pub flow_stepped : QueueView → Step → Stepped
+flow_stepped queue step = stepped_flow queue step (flow_at queue step)
 
 -- a packet of a running queue: it waits in its flow, or the device returned it
 unfoldable pub waiting_resumed : QueueView → Step → Stepped
 waiting_resumed queue step =
-    if step.x0 == 0 then flow_stepped flow_waited None (record queue { numbers = waiting_added queue.numbers (waiting_of step) }) step
+    if step.x0 == 0 then flow_stepped (record queue { numbers = waiting_added queue.numbers (waiting_of step) }) step
     else record { queue = queue; decision = other None }
 
 -- ---- changes and resets
@@ -186,7 +189,7 @@ changed_first queue step (Some flow) =
     let after = shortened_flow flow.numbers flow.waiting count in
     record {
       queue = record queue { numbers = numbers; flows = set queue.flows 0 (record { numbers = after; waiting = drop count flow.waiting }) };
-      decision = other (change_difference numbers queue.numbers after step);
+      decision = other (step_difference step (right_change numbers queue.numbers after.state step));
     }
 
 unfoldable pub change : QueueView → Step → Stepped
@@ -209,7 +212,7 @@ dropped_of queue flow = map (dropped fate.Reset queue flow.numbers) flow.waiting
 
 abbrev pub reset_difference_of : QueueNumbers → Option FlowView → Step → Option Difference
 reset_difference_of queue None step = None
-reset_difference_of queue (Some first) step = reset_difference queue first.numbers step
+reset_difference_of queue (Some first) step = step_difference step (right_reset queue first.numbers.state step)
 
 unfoldable pub reset : QueueView → Step → Stepped
 reset queue step =
@@ -251,16 +254,15 @@ unfoldable pub destroyed : QueueView → Step → Stepped
 destroyed queue step = record { queue = record queue { ended = true }; decision = other (destroy_difference queue.numbers (slice_get queue.flows 0) step) }
 
 abbrev pub stepped : Kind → QueueView → Step → Stepped
-stepped kind.Enqueue queue step = flow_stepped flow_arrived (no_flow step) queue step
-stepped kind.Dequeue queue step = flow_stepped flow_departed (no_flow step) queue step
-stepped kind.Update queue step = flow_stepped flow_updated (no_flow step) queue step
 stepped kind.Timer queue step = round queue step
-stepped kind.Flow queue step = flow_stepped flow_resumed None queue step
 stepped kind.Wait queue step = waiting_resumed queue step
 stepped kind.Change queue step = change queue step
 stepped kind.Reset queue step = reset queue step
 stepped kind.Destroy queue step = destroyed queue step
-stepped _ queue step = unchanged queue
+stepped kind.Init queue step = unchanged queue
+stepped kind.Resume queue step = unchanged queue
+stepped kind.Empty queue step = unchanged queue
+stepped _ queue step = flow_stepped queue step
 
 -- the waiting packets that a step of each kind drops, in order
 abbrev pub dropped_by : Kind → QueueView → Step → List DecidedPacket
@@ -268,12 +270,6 @@ dropped_by kind.Dequeue queue step = dropped_by_departure queue step
 dropped_by kind.Change queue step = dropped_by_change queue step
 dropped_by kind.Reset queue step = dropped_by_reset queue
 dropped_by _ queue step = []
-
--- true for a row that belongs to the row `resume` before it, and is no step of its own
-abbrev pub is_part : Kind → Bool
-is_part kind.Flow = true
-is_part kind.Wait = true
-is_part _ = false
 
 -- the number of the next row of a queue, after the step with this number
 abbrev pub next_number : ℕ → Step → ℕ

@@ -1,26 +1,16 @@
 -- Reports about the rows of a text: the selected events of its decided steps, the selected packets that these decided, and the text about them.
-use Rattle.std.specs.Prelude.{ℕ, ◌-◌, ◌^◌, ◌≡◌, ◌++◌, ◌==◌, ◌&&◌, ◌||◌, ⊤, [], ◌∷◌, Bool, true, false, Option, Some, None, List, filter, if◌then◌else◌, length, map, min, nat_lt, not}
-use Rattle.std.specs.List.{cons_option, filter_map}
+use Rattle.std.specs.Prelude.{ℕ, ◌+◌, ◌≡◌, ◌++◌, ◌==◌, ◌&&◌, ◌||◌, ⊤, [], ◌∷◌, Bool, true, false, Option, Some, None, List, if◌then◌else◌, map, nat_lt, not, suc, zero}
+use Rattle.std.specs.List.{cons_option, filter_map, sum_by}
 use Rattle.std.specs.Io.KnownBytes.{Appends}
-use Rattle.pie_linux.specs.Enqueue.{is_queued}
-use Rattle.pie_linux.specs.declared.cause.LinuxCause.{LinuxCause}
-use Rattle.pie_linux.specs.declared.cause.LinuxCause.TheVariants.{SumAbove, WordBelow}
-use Rattle.pie_linux.specs.declared.cause.Picked.{Picked}
+use Rattle.pie_linux.specs.Enqueue.{is_queued, one_if}
+use Rattle.pie_linux.specs.declared.{cause.LinuxCause.LinuxCause, cause.LinuxCause.TheVariants.SumAbove, cause.LinuxCause.TheVariants.WordBelow, cause.Picked.Picked}
 use Rattle.pie_linux.specs.declared.cause.Picked.TheVariants as picked
-use Rattle.pie_explain.specs.Report.{Grows}
 use Rattle.pie_explain.specs.Selection.{is_from, is_to, picks}
-use Rattle.pie_explain.specs.declared.choice.EventChoice.{EventChoice}
+use Rattle.pie_explain.specs.declared.{choice.EventChoice.EventChoice, explanation.Explained.Explained, selection.Selection.Selection}
 use Rattle.pie_explain.specs.declared.choice.EventChoice.TheVariants as choice
-use Rattle.pie_explain.specs.declared.explanation.Explained.{Explained}
-use Rattle.pie_explain.specs.declared.selection.Selection.{Selection}
-use Rattle.pie_linux_history.specs.declared.decided.DecidedStep.{DecidedStep}
-use Rattle.pie_linux_history.specs.declared.explained.DecidedPacket.{DecidedPacket}
-use Rattle.pie_linux_history.specs.declared.explained.ExplainedPacket.{ExplainedPacket}
-use Rattle.pie_linux_history.specs.declared.explained.Fate.{Fate}
-use Rattle.pie_linux_history.specs.declared.explained.Fate.TheVariants.{Arrival}
-use Rattle.pie_linux_history.specs.Decided.{decided_in, decided_of, dropped_in, for_each, number_of, plain}
-use Rattle.pie_linux_history.specs.Event.{explained_of, tag_of}
-use Rattle.pie_linux_history.specs.LookBack.{Entry}
+use Rattle.pie_linux_history.specs.declared.{decided.DecidedStep.DecidedStep, explained.DecidedPacket.DecidedPacket, explained.ExplainedPacket.ExplainedPacket, explained.Fate.Fate, explained.Fate.TheVariants.Arrival, reports.Beside.Beside}
+use Rattle.pie_linux_history.specs.declared.reports.Beside.TheVariants as beside
+use Rattle.pie_linux_history.specs.{Decided.decided_in, Decided.decided_of, Decided.dropped_in, Decided.for_each, Decided.number_of, Decided.plain, Event.explained_of, Event.tag_of, LookBack.Entry}
 
 -- a text of which `says` holds was appended to the output
 pub record Writes (says : List ℕ → Type 0) (before now : Option (List ℕ)) : Type 0 where
@@ -108,52 +98,54 @@ pub record ReportsThese (is : ExplainedPacket → List ℕ → Type 0) (packets 
 abbrev pub ReportsPackets : (ExplainedPacket → List ℕ → Type 0) → Selection → ℕ → List Entry → List ℕ → Type 0
 ReportsPackets is selection count entries text = ReportsThese is (packets_of selection entries) count text
 
--- ---- events with packets
+-- ---- events with texts beside them
 
 -- true for an arrival that was dropped or marked
 abbrev pub is_lost_or_marked : Fate → Bool
 is_lost_or_marked (Arrival cause) = is_marked cause || not (is_queued cause)
 is_lost_or_marked _ = false
 
-abbrev pub woven_packet : DecidedStep → Option Explained → Option DecidedPacket → Option ExplainedPacket
-woven_packet one (Some explained) (Some packet) =
-    if is_lost_or_marked packet.fate then Some (explained_packet one packet) else None
-woven_packet one _ _ = None
+-- the number of texts beside the event of a selected step with this arrival
+abbrev pub texts_beside : Beside → Option DecidedPacket → ℕ
+texts_beside beside.Queue arrival = 1
+texts_beside beside.Packets (Some packet) = one_if (is_lost_or_marked packet.fate)
+texts_beside _ _ = 0
 
--- the packet of a selected step that is explained after its event: an arrival that was dropped or marked
-abbrev pub woven_with : Bool → Selection → DecidedStep → Option ExplainedPacket
-woven_with false selection one = None
-woven_with true selection one = woven_packet one (selected selection one) one.arrival
+abbrev pub texts_if : Beside → DecidedStep → Option Explained → ℕ
+texts_if beside one None = 0
+texts_if beside one (Some explained) = texts_beside beside one.arrival
 
--- the packets of steps that are explained after their events, in order: none unless the report is one with packets
-unfoldable pub woven_of : Bool → Selection → List DecidedStep → List ExplainedPacket
-woven_of is_with selection steps = filter_map (woven_with is_with selection) steps
+abbrev pub texts_of : Beside → Selection → DecidedStep → ℕ
+texts_of beside selection one = texts_if beside one (selected selection one)
 
--- a text with a text for each packet within it
-unfoldable pub IsWoven : (ExplainedPacket → List ℕ → Type 0) → List ExplainedPacket → List ℕ → List ℕ → Type 0
-IsWoven is [] plain text = text ≡ plain
-IsWoven is (one ∷ rest) plain text = (first : List ℕ) × (words : List ℕ) × (more_plain : List ℕ) × (more : List ℕ) × is one words
-    × IsWoven is rest more_plain more × (plain ≡ first ++ more_plain) × (text ≡ first ++ (words ++ more))
+-- their number before the first event: the name of the column of the queue
+abbrev pub texts_before : Beside → ℕ
+texts_before beside.Queue = 1
+texts_before _ = 0
 
--- a packet was explained on a page, if there is one
-abbrev pub ExplainsIf : (ExplainedPacket → List ℕ → Type 0) → Option ExplainedPacket → List ℕ → List ℕ → Type 0
-ExplainsIf is None page now = now ≡ page
-ExplainsIf is (Some one) page now = Grows (is one) [] page now
+unfoldable pub all_texts : Beside → Selection → List DecidedStep → ℕ
+all_texts beside selection steps = texts_before beside + sum_by (texts_of beside selection) steps
 
--- the text of a report of these events, with the packets that are explained after them
-pub record SaysEvents (says : List Explained → List ℕ → Type 0) (is : ExplainedPacket → List ℕ → Type 0) (is_with : Bool) (selection : Selection) (steps : List DecidedStep) (text : List ℕ) : Type 0 where
+-- a text with this number of texts within it
+unfoldable pub IsWoven : ℕ → List ℕ → List ℕ → Type 0
+IsWoven zero plain text = text ≡ plain
+IsWoven (suc count) plain text = (first : List ℕ) × (words : List ℕ) × (more_plain : List ℕ) × (more : List ℕ)
+    × IsWoven count more_plain more × (plain ≡ first ++ more_plain) × (text ≡ first ++ (words ++ more))
+
+-- the text of a report of these events, with the texts beside them
+pub record SaysEvents (says : List Explained → List ℕ → Type 0) (beside : Beside) (selection : Selection) (steps : List DecidedStep) (text : List ℕ) : Type 0 where
   pub plain : List ℕ
   pub says_it : says (all_selected selection steps) plain
-  pub woven : IsWoven is (woven_of is_with selection steps) plain text
+  pub woven : IsWoven (all_texts beside selection steps) plain text
 
 -- a report received the selected events of the decided steps of these rows, and this is its text so far
-pub record ReportsEvents (shows : List Explained → Type 0) (says : List Explained → List ℕ → Type 0) (is : ExplainedPacket → List ℕ → Type 0) (is_with : Bool) (selection : Selection) (count : ℕ) (entries : List Entry) (text : List ℕ) : Type 0 where
+pub record ReportsEvents (shows : List Explained → Type 0) (says : List Explained → List ℕ → Type 0) (beside : Beside) (selection : Selection) (count : ℕ) (entries : List Entry) (text : List ℕ) : Type 0 where
   pub steps : List DecidedStep
   pub are : map plain steps ≡ decided_of entries
   pub shown : shows (all_selected selection steps)
-  pub text_is : SaysEvents says is is_with selection steps text
+  pub text_is : SaysEvents says beside selection steps text
   pub counted : count ≡ number_of (all_selected selection steps)
 
--- this is the whole text of a report that received `count` selected events of the decided steps of these rows, with any text for each packet
-abbrev pub IsReport : (List Explained → List ℕ → Type 0) → Bool → Selection → ℕ → List Entry → List ℕ → Type 0
-IsReport whole is_with selection count entries text = ReportsEvents (λ all. ⊤) whole (λ packet words. ⊤) is_with selection count entries text
+-- this is the whole text of a report that received `count` selected events of the decided steps of these rows, with the texts beside them
+abbrev pub IsReport : (List Explained → List ℕ → Type 0) → Beside → Selection → ℕ → List Entry → List ℕ → Type 0
+IsReport whole beside selection count entries text = ReportsEvents (λ all. ⊤) whole beside selection count entries text

@@ -1,13 +1,8 @@
 -- The numbers of a running queue and of its flows by their rows.
 use Rattle.std.specs.Prelude.{ℕ, ◌+◌, ◌-◌, ◌^◌, ◌==◌, Bool, true, false, ◌&&◌, if◌then◌else◌, Option, Some, None, get_or, min, not, nat_lt}
 use Rattle.pie_linux.specs.Numbers.{full_burst, unset}
-use Rattle.pie_linux.specs.declared.state.LinuxState.{LinuxState}
-use Rattle.pie_linux_history.specs.declared.step.Kind.{Kind}
-use Rattle.pie_linux_history.specs.declared.step.Kind.TheVariants.{Init, Resume}
-use Rattle.pie_linux_history.specs.declared.step.Step.{Step}
-use Rattle.pie_linux_history.specs.declared.numbers.FlowNumbers.{FlowNumbers}
-use Rattle.pie_linux_history.specs.declared.numbers.QueueNumbers.{QueueNumbers}
-use Rattle.pie_linux.specs.declared.stats.LinuxStats.{LinuxStats}
+use Rattle.pie_linux.specs.declared.{state.LinuxState.LinuxState, stats.LinuxStats.LinuxStats}
+use Rattle.pie_linux_history.specs.declared.{step.Kind.Kind, step.Kind.TheVariants.Init, step.Kind.TheVariants.Resume, step.Step.Step, numbers.FlowNumbers.FlowNumbers, numbers.QueueNumbers.QueueNumbers}
 
 -- the field of a number: one higher, and 0 if it is not known
 abbrev pub number_field : Option ℕ → ℕ

@@ -1,8 +1,6 @@
 -- The views of a queue: lists in place of memory.
 use Rattle.std.specs.Prelude.{Bool, List}
-use Rattle.pie_linux_history.specs.declared.numbers.FlowNumbers.{FlowNumbers}
-use Rattle.pie_linux_history.specs.declared.numbers.QueueNumbers.{QueueNumbers}
-use Rattle.pie_linux_history.specs.declared.numbers.Waiting.{Waiting}
+use Rattle.pie_linux_history.specs.declared.{numbers.FlowNumbers.FlowNumbers, numbers.QueueNumbers.QueueNumbers, numbers.Waiting.Waiting}
 
 -- a flow: its numbers, and its waiting packets in order
 pub record FlowView : Type 0 where

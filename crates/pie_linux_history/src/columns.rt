@@ -1,10 +1,9 @@
 //! The columns of a text of steps, and the fields of its rows.
-ghost use Rattle.std.specs.Prelude.{◌≡◌, ◌<◌, ◌∷◌, codes, get_or, map};
+ghost use Rattle.std.specs.Prelude.{◌≡◌, ◌<◌, codes, get_or, map};
 ghost use Rattle.pie_record.specs.declared.fault.TraceFault.TheVariants.{Memory};
 ghost use Rattle.pie_record.specs.Field.{fault_at};
 ghost use Rattle.pie_linux_history.specs.declared.fault.StepsFault.TheVariants.{Trace};
-ghost use Rattle.pie_linux_history.specs.Columns.{blank, collected, column_at, columns_of, decimal_at, digits_after, field_or, flow_at, handle_of, has_flows_at, has_returned, hex_digit, hexadecimal_after, hexadecimal_at, is_optional, kind_at, most_of, name_of, narrow, lost_in, moment_of, numbers_of, params_of, place_from, state_of, step_in, step_of};
-ghost use Rattle.pie_linux_history.specs.Cuts.{column_of};
+ghost use Rattle.pie_linux_history.specs.{Columns.blank, Columns.collected, Columns.column_at, Columns.columns_of, Columns.decimal_at, Columns.digits_after, Columns.field_or, Columns.flow_at, Columns.handle_of, Columns.has_flows_at, Columns.has_returned, Columns.hex_digit, Columns.hexadecimal_after, Columns.hexadecimal_at, Columns.is_optional, Columns.kind_at, Columns.most_of, Columns.name_of, Columns.narrow, Columns.lost_in, Columns.moment_of, Columns.numbers_of, Columns.params_of, Columns.place_from, Columns.state_of, Columns.step_in, Columns.step_of, Cuts.column_of};
 
 use crate::fault::StepsFault;
 use crate::step::{Kind, QueueName, Step};

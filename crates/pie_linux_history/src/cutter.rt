@@ -1,13 +1,9 @@
 //! Pieces of a text of recorded steps, each of which can be audited, explained and cut alone.
-ghost use Rattle.std.specs.Prelude.{◌≡◌, ◌+◌, ◌-◌, ◌^◌, ◌<◌, ◌≤◌, ◌++◌, [], Err, IfErr, IfOk, IfSome, List, None, Ok, OnOk, length, option_map, true, false, ℕ};
+ghost use Rattle.std.specs.Prelude.{◌≡◌, ◌+◌, ◌-◌, ◌^◌, ◌<◌, ◌≤◌, ◌++◌, [], Err, IfErr, IfOk, IfSome, List, None, Ok, OnOk, length, true, false};
 ghost use Rattle.std.specs.Io.KnownBytes.{Appends, append_known};
 ghost use Rattle.pie_linux.specs.Enqueue.{one_if};
-ghost use Rattle.pie_record.specs.Text.{records_of, text_of};
-ghost use Rattle.pie_linux_history.specs.Audit.{has_failed, is_failure};
-ghost use Rattle.pie_linux_history.specs.Cuts.{IsEnd, beginning_at, begins_piece, copied_at, cut_after, cut_of, fault_in, found_before, is_after, moment_at, plan, selects};
-ghost use Rattle.pie_linux_history.specs.Cutting.{CutsRow, CutsRows, Stands};
-ghost use Rattle.pie_linux_history.specs.Known.{HasRead};
-ghost use Rattle.pie_linux_history.specs.LookBack.{Entry};
+ghost use Rattle.pie_record.specs.Text.{records_of};
+ghost use Rattle.pie_linux_history.specs.{Audit.has_failed, Cuts.IsEnd, Cuts.beginning_at, Cuts.begins_piece, Cuts.copied_at, Cuts.cut_after, Cuts.cut_of, Cuts.fault_in, Cuts.found_before, Cuts.is_after, Cuts.moment_at, Cuts.plan, Cuts.selects, Cutting.CutsRow, Cutting.CutsRows, Cutting.Stands, Known.HasRead, LookBack.Entry};
 
 use crate::columns::{Columns, fault_at, lost_at, out_of_memory};
 use crate::fault::StepsFault;

@@ -1,9 +1,9 @@
 //! Comparisons of a recorded step with the step of the rules.
 ghost use Rattle.std.specs.Prelude.{◌≡◌};
-ghost use Rattle.pie_linux_history.specs.Differences.{difference_of, first_difference, flow_number, numbers_of, step_difference};
+ghost use Rattle.pie_linux_history.specs.Differences.{difference_of, first_difference, flow_number, is_compared, is_state, numbers_of, step_difference};
 
 use crate::columns::{COMPARED, FLOW, name_of};
-use crate::step::Step;
+use crate::step::{Kind, Step};
 
 /// A recorded number that differs from the number of the rules.
 #[derive(Clone, Copy, PartialEq, Eq)]
@@ -97,11 +97,41 @@ pub(crate) fn flow_number(flow: Option<u32>) -> u64
     }
 }
 
-/// Compares two numbers of a column.
-fn difference_of(column: usize, recorded: u64, right: u64) -> Option<Difference>
-    ensures { result ≡ difference_of column recorded right }
+/// Returns true if this column has a number of the state.
+fn is_state(column: usize) -> bool
+    ensures { result ≡ is_state column }
 {
-    if recorded == right {
+    matches!(column, 17..=23 | 31 | 32)
+}
+
+/// Returns true if a column of a step of the rules is compared: each one in a text with the column `rq`, fewer in other texts.
+/// At its limit a queue records no backlog, and fq_pie no state.
+fn is_compared(right: &Step, column: usize) -> bool
+    ensures { result ≡ is_compared right.now column }
+{
+    let (is_pie, is_full) = (!right.has_flows, right.early == 255);
+    right.has_returned
+        || match right.kind {
+            Kind::Enqueue => match column {
+                1..=6 | 9..=13 => true,
+                14 => !is_full,
+                33..=35 => !is_pie,
+                _ => is_state(column) && (is_pie || !is_full),
+            },
+            Kind::Dequeue => matches!(column, 7 | 8 | 14..=24 | 31 | 32),
+            Kind::Update => column == 14 || is_state(column),
+            Kind::Timer => column == FLOW,
+            Kind::Change => is_pie && (matches!(column, 3 | 7 | 9..=13) || is_state(column)),
+            Kind::Reset => is_pie && (matches!(column, 9..=13) || is_state(column)),
+            _ => false,
+        }
+}
+
+/// Compares two numbers of a column of this step of the rules.
+fn difference_of(step: &Step, column: usize, recorded: u64, right: u64) -> Option<Difference>
+    ensures { result ≡ difference_of step.now column recorded right }
+{
+    if recorded == right || !is_compared(step, column) {
         return None;
     }
     Some(Difference {
@@ -111,17 +141,18 @@ fn difference_of(column: usize, recorded: u64, right: u64) -> Option<Difference>
     })
 }
 
-/// Returns the first of two rows of numbers that differ.
-fn first_difference(recorded: &[u64; COMPARED], right: &[u64; COMPARED]) -> Option<Difference>
-    ensures { result ≡ first_difference 0 recorded.now right.now }
+/// Returns the first of two rows of numbers that differ in a column that is compared.
+fn first_difference(
+    step: &Step,
+    recorded: &[u64; COMPARED],
+    right: &[u64; COMPARED],
+) -> Option<Difference>
+    ensures { result ≡ first_difference step.now 0 recorded.now right.now }
 {
     for column in 0..COMPARED {
-        if recorded[column] != right[column] {
-            return Some(Difference {
-                column,
-                recorded: recorded[column],
-                right: right[column],
-            });
+        let found = difference_of(step, column, recorded[column], right[column]);
+        if found.is_some() {
+            return found;
         }
     }
     None
@@ -134,7 +165,9 @@ fn first_difference(recorded: &[u64; COMPARED], right: &[u64; COMPARED]) -> Opti
 pub(crate) fn step_difference(recorded: &Step, right: &Step) -> Option<Difference>
     ensures { result ≡ step_difference recorded.now right.now }
 {
-    difference_of(FLOW, flow_number(recorded.flow), flow_number(right.flow)).or(first_difference(
+    let flows = (flow_number(recorded.flow), flow_number(right.flow));
+    difference_of(right, FLOW, flows.0, flows.1).or(first_difference(
+        right,
         &numbers_of(recorded),
         &numbers_of(right),
     ))

@@ -1,6 +1,6 @@
 //! The event of a report for a decided step. specs/Event.antt defines it.
 ghost use Rattle.std.specs.Prelude.{◌≡◌, ◌+◌};
-ghost use Rattle.pie_linux_history.specs.Event.{arrival_cause, arrival_of, cause_by, cause_in, command_of, ecn_of, explained_as, explained_of, fate_by, last_update, mark_threshold, nanos, packet_of, params_of, parts, registers_of, setter_of, tag_of, updated_answer, verdict_of, wait_of, waited, waiting_after, waiting_before};
+ghost use Rattle.pie_linux_history.specs.Event.{arrival_cause, arrival_of, cause_by, cause_in, command_of, ecn_of, explained_as, explained_of, fate_by, mark_threshold, nanos, packet_of, params_of, parts, registers_of, tag_of, verdict_of, wait_of, waiting_after, waiting_before};
 
 use crate::decided::{DecidedStep, StepNumbers, Updates};
 use crate::explained::{DecidedPacket, Fate as PacketFate};
@@ -204,18 +204,6 @@ fn arrival_of(one: &DecidedStep) -> Option<(Command, Answer)>
     ))
 }
 
-/// Returns the results of an update.
-fn updated(one: &DecidedStep) -> Answer
-    ensures { result ≡ updated_answer one.now }
-{
-    let state = &one.after.state;
-    Answer::Updated {
-        delay: nanos(state.qdelay),
-        prob: parts(state.prob),
-        burst: nanos(state.burst_time),
-    }
-}
-
 /// Returns the command and the answer of a step, if reports have its kind: an arrival, a departure, an update, a change of the
 /// parameters, a reset or the end of the queue. A departure that a change of the limit dropped is none.
 fn command_of(one: &DecidedStep) -> Option<(Command, Answer)>
@@ -234,7 +222,14 @@ fn command_of(one: &DecidedStep) -> Option<(Command, Answer)>
             ))
         }
         Kind::Empty => Some((Command::Depart { moment }, Answer::Empty)),
-        Kind::Update => Some((Command::Update { moment }, updated(one))),
+        Kind::Update => Some((
+            Command::Update { moment },
+            Answer::Updated {
+                delay: nanos(one.after.state.qdelay),
+                prob: parts(one.after.state.prob),
+                burst: nanos(one.after.state.burst_time),
+            },
+        )),
         Kind::Change => {
             let params = params_of(&one.after.params);
             Some((Command::SetParams { moment, params }, Answer::Done))
@@ -305,17 +300,6 @@ fn registers_of(
     }
 }
 
-/// Returns the event that last set the probability of a flow, as far as the text has it.
-fn setter_of(updates: Updates) -> Setter
-    ensures { result ≡ setter_of updates }
-{
-    if updates.count == 0 {
-        Setter::Unknown
-    } else {
-        Setter::Event(updates.event)
-    }
-}
-
 /// Returns the cause of an arrival, with the numbers that the kernel compared.
 fn arrival_cause(one: &DecidedStep) -> Option<Cause>
     ensures { result ≡ arrival_cause one.now }
@@ -328,26 +312,6 @@ fn arrival_cause(one: &DecidedStep) -> Option<Cause>
             _ => None,
         },
         None => None,
-    }
-}
-
-/// Returns the wait of the packet of a step, 0 unless it departs.
-fn waited(one: &DecidedStep) -> u64
-    ensures { result ≡ waited one.now }
-{
-    match one.step.kind {
-        Kind::Dequeue => wait_of(one),
-        _ => 0,
-    }
-}
-
-/// Returns the moment of the flow's last update after a step.
-fn last_update(one: &DecidedStep) -> u64
-    ensures { result ≡ last_update one.now }
-{
-    match one.step.kind {
-        Kind::Update => one.moment,
-        _ => one.updates.moment,
     }
 }
 
@@ -370,8 +334,15 @@ fn explained_as(one: &DecidedStep, event: Event) -> Explained
             ),
             delay: nanos(one.before.state.qdelay),
             cause: arrival_cause(one),
-            waited: waited(one),
-            set_by: setter_of(updates),
+            waited: match one.step.kind {
+                Kind::Dequeue => wait_of(one),
+                _ => 0,
+            },
+            set_by: if updates.count == 0 {
+                Setter::Unknown
+            } else {
+                Setter::Event(updates.event)
+            },
             updates: updates.count,
             clock: None,
         },
@@ -380,7 +351,10 @@ fn explained_as(one: &DecidedStep, event: Event) -> Explained
             waiting_after(one),
             number,
             moment,
-            last_update(one),
+            match one.step.kind {
+                Kind::Update => moment,
+                _ => updates.moment,
+            },
         ),
         delay: nanos(one.after.state.qdelay),
     }

@@ -1,8 +1,7 @@
 //! The decision of a step, and the explanation of a packet.
 ghost use Rattle.std.specs.Prelude.{◌≡◌, [], ℕ, List, OnOk};
 ghost use Rattle.pie_explain.specs.Report.{Grows};
-ghost use Rattle.pie_linux_history.specs.Queue.{lacking, other};
-ghost use Rattle.pie_linux_history.specs.Reports.{is_marked};
+ghost use Rattle.pie_linux_history.specs.{Queue.lacking, Queue.other, Reports.is_marked};
 
 use crate::difference::Difference;
 use crate::step::QueueName;

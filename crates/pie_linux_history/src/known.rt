@@ -4,11 +4,7 @@ ghost use Rattle.std.specs.List.{flat_map};
 ghost use Rattle.std.specs.Prelude.{◌≡◌, ◌++◌, [], map, ℕ, List, Option, Some, None, IfOk, OnOk, if◌then◌else◌};
 ghost use Rattle.std.specs.Option.{MatchOption, option_map};
 ghost use Rattle.std.specs.Str.{bytes_eq};
-ghost use Rattle.pie_linux_history.specs.Cuts.{named_rows, with_name, without_name};
-ghost use Rattle.pie_linux_history.specs.Decided.{decision_of, numbers_of, taken_by};
-ghost use Rattle.pie_linux_history.specs.Known.{IsPlaceOf, known_names, looked_up, named, tracked};
-ghost use Rattle.pie_linux_history.specs.LookBack.{begun, decision_by, dropped_by_step, follow, name_of, next_of};
-ghost use Rattle.pie_linux_history.specs.Queue.{last_after, next_dropped, next_step, opening_difference};
+ghost use Rattle.pie_linux_history.specs.{Cuts.named_rows, Cuts.with_name, Cuts.without_name, Decided.decision_of, Decided.numbers_of, Decided.taken_by, Known.IsPlaceOf, Known.known_names, Known.looked_up, Known.named, Known.tracked, LookBack.begun, LookBack.decision_by, LookBack.dropped_by_step, LookBack.follow, LookBack.name_of, LookBack.next_of, Queue.opening_difference};
 
 use crate::columns::{Columns, NUMBER, handle_of};
 use crate::decided::{StepNumbers, Taken};
@@ -41,7 +37,7 @@ impl Known {
         self.queue.numbers_at(step)
     }
 
-    /// Decides a step again, unless an earlier one differs. Adds the packets that a change or a reset dropped to `lost`.
+    /// Decides a step again, if it is the next one of the queue, and no earlier one differs. Adds the packets that a change or a reset dropped to `lost`.
     fn take(&mut self, step: &Step, lost: &mut Vec<DecidedPacket>) -> Result<Decision, AllocError>
         ensures name { OnOk result (self.new.name ≡ self.old.name) }
         ensures follows { OnOk result (tracked self.new ≡ follow (tracked self.old) step.now) }
@@ -52,27 +48,9 @@ impl Known {
         if self.differs {
             return Ok(Decision::other(None));
         }
-        match self.decide(step, lost) {
-            Ok(decision) => {
-                self.differs = decision.difference.is_some();
-                Ok(decision)
-            }
-            Err(why) => Err(why),
-        }
-    }
-
-    /// Decides a step again, if it is the next one of the queue.
-    fn decide(&mut self, step: &Step, lost: &mut Vec<DecidedPacket>) -> Result<Decision, AllocError>
-        ensures name { OnOk result (self.new.name ≡ self.old.name) }
-        ensures last { OnOk result (self.new.last ≡ last_after self.old.last step.now) }
-        ensures made { IfOk result (λ decision. next_step self.old.last self.old.queue step.now
-            ≡ record { queue = self.new.queue; decision = decision }) }
-        ensures differs { OnOk result (self.new.differs ≡ self.old.differs) }
-        ensures lost { OnOk result (lost.new.items
-            ≡ lost.old.items ++ next_dropped self.old.last self.old.queue step.now) }
-    {
         let next = self.last.wrapping_add(u64::from(!step.kind.is_part()));
         if step.number != next {
+            self.differs = true;
             return Ok(Decision::other(Some(Difference {
                 column: NUMBER,
                 recorded: step.number,
@@ -80,7 +58,13 @@ impl Known {
             })));
         }
         self.last = step.number;
-        self.queue.step(step, lost)
+        match self.queue.step(step, lost) {
+            Ok(decision) => {
+                self.differs = decision.difference.is_some();
+                Ok(decision)
+            }
+            Err(why) => Err(why),
+        }
     }
 }
 
@@ -142,7 +126,6 @@ impl KnownQueues {
         lost: &mut Vec<DecidedPacket>,
     ) -> Result<Option<Taken>, AllocError>
         ensures taken { IfOk result (λ taken. taken ≡ taken_by step.now (looked_up name.now self.old.all.items)) }
-        ensures decision { IfOk result (λ taken. decision_of taken ≡ decision_by step.now (looked_up name.now self.old.all.items)) }
         ensures lost { OnOk result (lost.new.items
             ≡ lost.old.items ++ dropped_by_step step.now (looked_up name.now self.old.all.items)) }
         ensures queues { OnOk result ((other : List ℕ) → looked_up other self.new.all.items

@@ -27,14 +27,15 @@
 //!   rows of other queues are skipped.
 //! - `report` and `explain` end with the finding of an audit of these rows. `report` receives the events (`explained_of`,
 //!   specs/Event.antt) of the selected decided steps, in order, and `explain` their selected packets, each with its step and the
-//!   queue before it; both return the number of these (specs/Reports.antt).
+//!   queue before it; both return the number of these (specs/Reports.antt). The text of `report` has further texts within it, for
+//!   packets or queues: their number is proved.
 //! - `count_rows` returns the number of rows.
 //! - The output of `cut` is exactly `cut_of` (specs/Cuts.antt): each selected row as it stood, by its number and its effective
 //!   moment. A piece begins with the first row of the text and with the rows of each queue that is alive, in the order in which they
 //!   began: its numbers, those of each flow, and each waiting packet, from the look-back over the rows before the piece.
 //!
-//! Tested only (tests/program/linux_steps.py, linux_reports.py): the updates before a step; the words of explanations; that an
-//! audit of a piece finds what an audit of the text finds in its rows.
+//! Tested only (tests/program/linux_steps.py, linux_reports.py): the updates before a step; the words of explanations; the field
+//! `queue` of a record; that an audit of a piece finds what an audit of the text finds in its rows.
 #![tactic(auto)]
 
 mod columns;
@@ -62,6 +63,6 @@ pub use difference::Difference;
 pub use explained::{ExplainedPacket, PacketReport, PacketWords};
 pub use fault::StepsFault;
 pub use queues::{StepDifference, StepsCounts};
-pub use reports::{StepsExplained, explain, report};
+pub use reports::{Beside, StepsExplained, explain, report};
 pub use step::QueueName;
 pub use text::{Differences, StepsAudit, StepsFinding, audit};

@@ -4,15 +4,11 @@
 //! only; no decision reads them, with the exception of the clock of a departure (`a_dq_tstamp`). In a text without the column
 //! `rq` some inputs are not recorded. A decision that needs one takes it from the recorded results, and names it.
 ghost use Rattle.std.specs.Prelude.{◌≡◌, ◌&&◌};
-ghost use Rattle.pie_linux_history.specs.Decisions.{admitted, arrival_at, arrival_of, arrived, arrived_by, arrived_flow, bytes_at_update, bytes_before, cause_of, changed, counts_memory, counts_returned, departed_flow, departed_queue, departure_at, departure_of, drop_counted, flow_arrived_by, flow_chosen, hides_protocol, lack_of, lack_of_arrival, lacks_bytes, lacks_limit, lacks_switch, left_backlog, length_before, markable, memory_exceeded, needs_protocol, over_memory_after, own_dropped, params_at, removed, removed_flow, reset_flow, reset_queue, round_begun, update_backlog, updated_flow, waiting_added, waiting_of};
-ghost use Rattle.pie_linux_history.specs.Right.{arrival_difference, change_difference, departure_difference, reset_difference, round_difference, update_difference};
+ghost use Rattle.pie_linux_history.specs.{Decisions.admitted, Decisions.arrival_at, Decisions.arrived, Decisions.arrived_by, Decisions.arrived_flow, Decisions.bytes_before, Decisions.changed, Decisions.counts_memory, Decisions.counts_returned, Decisions.departed_flow, Decisions.departed_queue, Decisions.departure_of, Decisions.flow_arrived_by, Decisions.flow_chosen, Decisions.hides_protocol, Decisions.lack_of, Decisions.lacks_bytes, Decisions.lacks_limit, Decisions.lacks_switch, Decisions.length_before, Decisions.markable, Decisions.memory_exceeded, Decisions.needs_protocol, Decisions.own_dropped, Decisions.params_at, Decisions.removed, Decisions.removed_flow, Decisions.reset_flow, Decisions.round_begun, Decisions.updated_flow, Decisions.waiting_added, Decisions.waiting_of, Right.arrival_difference, Right.departure_difference, Right.round_difference, Right.update_difference};
 
 use crate::difference::{Difference, step_difference};
 use crate::explained::Input;
-use crate::right::{
-    Arrived, Departed, right_arrival, right_change, right_departure, right_reset, right_round,
-    right_update,
-};
+use crate::right::{Arrived, Departed, right_arrival, right_departure, right_round, right_update};
 use crate::step::Step;
 use pie_linux::{
     LinuxArrival, LinuxCause, LinuxDeparture, LinuxParams, LinuxState, LinuxStats, Picked,
@@ -99,19 +95,8 @@ pub(crate) fn counts_memory(cause: LinuxCause) -> bool
     !matches!(cause, LinuxCause::OverLimit)
 }
 
-/// Returns the number of arrivals at which the memory exceeded its limit. An unknown number becomes the recorded one.
-fn over_memory_after(count: Option<u32>, is_over: bool, recorded: u32) -> Option<u32>
-    ensures { result ≡ over_memory_after count is_over recorded }
-{
-    match (count, is_over) {
-        (None, _) => Some(recorded),
-        (Some(count), true) => Some(count.wrapping_add(1)),
-        (Some(count), false) => Some(count),
-    }
-}
-
 /// Returns true if a VLAN tag hides the protocol that says if the packet can be marked.
-fn hides_protocol(step: &Step) -> bool
+pub(crate) fn hides_protocol(step: &Step) -> bool
     ensures { result ≡ hides_protocol step.now }
 {
     is_tag(step.protocol) && step.contained && !(step.header % 4 == 0 && step.header / 16 % 4 == 0)
@@ -129,7 +114,7 @@ fn markable(step: &Step) -> bool
 }
 
 /// Returns true if a packet with this cause was picked, and its protocol decides if it is marked.
-fn needs_protocol(cause: LinuxCause) -> bool
+pub(crate) fn needs_protocol(cause: LinuxCause) -> bool
     ensures { result ≡ needs_protocol cause }
 {
     matches!(
@@ -148,36 +133,6 @@ pub(crate) fn lack_of(change: bool, returned: bool, protocol: bool) -> Option<In
         (false, true, _) => Some(Input::Returned),
         (false, false, true) => Some(Input::Protocol),
         (false, false, false) => None,
-    }
-}
-
-/// Returns the first input that an arrival with this cause lacks.
-pub(crate) fn lack_of_arrival(
-    change: bool,
-    returned: bool,
-    cause: LinuxCause,
-    step: &Step,
-) -> Option<Input>
-    ensures { result ≡ lack_of change returned (hides_protocol step.now && needs_protocol cause) }
-{
-    lack_of(
-        change,
-        returned,
-        hides_protocol(step) && needs_protocol(cause),
-    )
-}
-
-/// Returns the arrival of a step.
-fn arrival_of(step: &Step, length: u32, backlog: u32) -> LinuxArrival
-    ensures { result ≡ arrival_of step.now length backlog }
-{
-    LinuxArrival {
-        length,
-        backlog,
-        size: step.size,
-        mtu: step.mtu,
-        markable: markable(step),
-        word: step.word,
     }
 }
 
@@ -243,30 +198,12 @@ impl QueueNumbers {
         !self.has_flows && (!step.has_returned && step.backlog > self.bytes)
     }
 
-    /// Returns the kernel's number of bytes at an update.
-    fn bytes_at_update(&self, step: &Step) -> u32
-        ensures { result ≡ bytes_at_update self.now step.now }
-    {
-        if self.lacks_bytes(step) {
-            step.backlog
-        } else {
-            self.bytes.wrapping_add(step.returned_bytes)
-        }
-    }
-
-    /// Returns true if an arrival at fq_pie has a limit that no row of the text set: that of a refused change.
-    fn lacks_limit(&self, step: &Step) -> bool
-        ensures { result ≡ lacks_limit self.now step.now }
-    {
-        self.has_flows && (!step.has_returned && step.limit != self.params.limit)
-    }
-
-    /// Takes the limit of an arrival that no row of the text set. Returns true if there is one.
+    /// Takes the limit of an arrival at fq_pie that no row of the text set: that of a refused change. Returns true if there is one.
     pub(crate) fn admit(&mut self, step: &Step) -> bool
         ensures queue { self.new ≡ admitted self.old step.now }
         ensures lacks { result ≡ lacks_limit self.old step.now }
     {
-        let lacks = self.lacks_limit(step);
+        let lacks = self.has_flows && (!step.has_returned && step.limit != self.params.limit);
         if lacks {
             self.params.limit = step.limit;
         }
@@ -338,20 +275,11 @@ impl QueueNumbers {
         if self.has_flows {
             let is_over = counts_memory(cause)
                 && is_over_memory(self.memory, self.memory_limit, step.truesize);
-            self.over_memory = over_memory_after(self.over_memory, is_over, step.x2);
-        }
-    }
-
-    /// Returns the numbers by which an arrival with this cause was decided.
-    fn arrived(&self, step: &Step, cause: LinuxCause, backlog: u32) -> Arrived
-        ensures { result ≡ record { cause = cause; length = length_before self.now step.now; bytes = bytes_before self.now step.now; backlog = backlog; memory = self.now.memory } }
-    {
-        Arrived {
-            cause,
-            length: self.length_before(step),
-            bytes: self.bytes_before(step),
-            backlog,
-            memory: self.memory,
+            self.over_memory = match (self.over_memory, is_over) {
+                (None, _) => Some(step.x2),
+                (Some(count), true) => Some(count.wrapping_add(1)),
+                (Some(count), false) => Some(count),
+            };
         }
     }
 
@@ -374,10 +302,22 @@ impl QueueNumbers {
             self.bytes_before(step)
         };
         let length = self.length_before(step);
-        let cause = flow
-            .state
-            .enqueue(&self.params, arrival_of(step, length, backlog));
-        let arrived = self.arrived(step, cause, backlog);
+        let arrival = LinuxArrival {
+            length,
+            backlog,
+            size: step.size,
+            mtu: step.mtu,
+            markable: markable(step),
+            word: step.word,
+        };
+        let cause = flow.state.enqueue(&self.params, arrival);
+        let arrived = Arrived {
+            cause,
+            length,
+            bytes: self.bytes_before(step),
+            backlog,
+            memory: self.memory,
+        };
         self.stats.count(self.params.marks, cause, length);
         self.count_memory(step, cause);
         self.queue(flow, step, cause);
@@ -399,16 +339,6 @@ impl QueueNumbers {
 }
 
 impl QueueNumbers {
-    /// Counts a departure that a change of the limit dropped.
-    fn count_drop(&mut self, waiting: &Waiting, step: &Step)
-        ensures { self.new ≡ drop_counted self.old waiting.now step.now }
-    {
-        if step.is_drop {
-            self.drops = self.drops.wrapping_add(1);
-            self.drop_bytes = self.drop_bytes.wrapping_add(waiting.length);
-        }
-    }
-
     /// Takes the departure of a packet into account (`pie_process_dequeue`).
     pub(crate) fn depart(
         &mut self,
@@ -422,7 +352,10 @@ impl QueueNumbers {
     {
         let params = self.params_at(step);
         self.remove(flow, waiting);
-        self.count_drop(waiting, step);
+        if step.is_drop {
+            self.drops = self.drops.wrapping_add(1);
+            self.drop_bytes = self.drop_bytes.wrapping_add(waiting.length);
+        }
         let backlog = if self.has_flows {
             flow.backlog
         } else {
@@ -448,8 +381,10 @@ impl QueueNumbers {
     {
         let backlog = if self.has_flows {
             flow.backlog
+        } else if self.lacks_bytes(step) {
+            step.backlog
         } else {
-            self.bytes_at_update(step)
+            self.bytes.wrapping_add(step.returned_bytes)
         };
         flow.state.update(&self.params, backlog);
         step_difference(step, &right_update(self, &flow.state, backlog, step))
@@ -483,41 +418,6 @@ impl QueueNumbers {
         }
         let returned = step.returned_packets.wrapping_add(step.moved);
         own_excess(self.length, returned, self.params.limit)
-    }
-
-    /// Compares the numbers of a queue that had those of `was` before a change. A text without the column `rq` has none of
-    /// fq_pie.
-    pub(crate) fn change_difference(
-        &self,
-        was: &QueueNumbers,
-        flow: &FlowNumbers,
-        step: &Step,
-    ) -> Option<Difference>
-        ensures { result ≡ change_difference self.now was.now flow.now step.now }
-    {
-        if self.has_flows && !step.has_returned {
-            return None;
-        }
-        step_difference(step, &right_change(self, was, &flow.state, step))
-    }
-
-    /// Resets the queue: no packet waits (`pie_reset`, `fq_pie_reset`). fq_pie's memory is unchanged.
-    pub(crate) fn reset(&mut self)
-        ensures { self.new ≡ reset_queue self.old }
-    {
-        self.length = 0;
-        self.bytes = 0;
-    }
-
-    /// Compares the numbers of a queue that had those of `was` before a reset. A text without the column `rq` has none of
-    /// fq_pie.
-    pub(crate) fn reset_difference(&self, flow: &FlowNumbers, step: &Step) -> Option<Difference>
-        ensures { result ≡ reset_difference self.now flow.now step.now }
-    {
-        if self.has_flows && !step.has_returned {
-            return None;
-        }
-        step_difference(step, &right_reset(self, &flow.state, step))
     }
 }
 

@@ -1,20 +1,18 @@
 //! A queue whose steps are decided again: its numbers, its flows and their waiting packets.
 ghost use Rattle.std.specs.Prelude.{◌≡◌, ◌++◌, [], IfOk, OnOk, None, drop, map, replicate, take};
 ghost use Rattle.std.specs.List.{flat_map};
-ghost use Rattle.pie_linux_history.specs.declared.explained.Fate.TheVariants.{Change, Reset};
-ghost use Rattle.pie_linux_history.specs.declared.numbers.QueueNumbers.{QueueNumbers};
-ghost use Rattle.pie_linux_history.specs.Decisions.{admitted, lacks_limit};
-ghost use Rattle.pie_linux_history.specs.Queue.{IsFlowStep, change, destroyed, dropped, dropped_by, dropped_by_change, dropped_by_departure, dropped_by_reset, dropped_in_turn, dropped_of, emptied_flow, first_dropped, first_flow, first_state, flow_admitted, flow_arrived, flow_departed, flow_resumed, flow_stepped, flow_updated, flow_waited, lacking, no_flow, opened, opening_difference, other, place_of, reset, shortened_flow, shortened_queue, stepped, waiting_resumed};
-ghost use Rattle.pie_linux_history.specs.Decided.{numbers_at};
-ghost use Rattle.pie_linux_history.specs.Resumes.{first_flows, first_numbers};
+ghost use Rattle.pie_linux_history.specs.declared.{explained.Fate.TheVariants.Change, explained.Fate.TheVariants.Reset, numbers.QueueNumbers.QueueNumbers};
+ghost use Rattle.pie_linux_history.specs.{Queue.IsFlowStep, Queue.change, Queue.destroyed, Queue.dropped, Queue.dropped_by, Queue.dropped_by_change, Queue.dropped_by_departure, Queue.dropped_by_reset, Queue.dropped_in_turn, Queue.dropped_of, Queue.emptied_flow, Queue.first_dropped, Queue.first_flow, Queue.first_state, Queue.flow_admitted, Queue.flow_departed, Queue.flow_step, Queue.flow_stepped, Queue.flow_updated, Queue.lacking, Queue.no_flow, Queue.opened, Queue.opening_difference, Queue.other, Queue.place_of, Queue.reset, Queue.shortened_flow, Queue.shortened_queue, Queue.stepped, Queue.waiting_resumed, Decided.numbers_at, Resumes.first_flows, Resumes.first_numbers};
 
 use crate::columns::{FLOW, LENGTH_AFTER};
 use crate::decided::StepNumbers;
 use crate::difference::{Difference, flow_number, step_difference};
 use crate::explained::{DecidedPacket, Decision, Fate, lacking};
-use crate::numbers::{FlowNumbers, QueueNumbers, Waiting, lack_of, lack_of_arrival, waiting_of};
+use crate::numbers::{
+    FlowNumbers, QueueNumbers, Waiting, hides_protocol, lack_of, needs_protocol, waiting_of,
+};
 use crate::resume::{resumed, resumed_flow};
-use crate::right::{right_destroy, right_opening};
+use crate::right::{right_change, right_destroy, right_opening, right_reset};
 use crate::step::{Kind, Step};
 use pie_linux::{LinuxState, LinuxStats};
 use std::alloc::{AllocError, Global};
@@ -57,16 +55,31 @@ impl Model for Queue {
 }
 
 impl Flow {
-    /// Decides an arrival in this flow of a queue with the numbers `queue` again.
-    fn arrive(&mut self, queue: &mut QueueNumbers, step: &Step) -> Result<Decision, AllocError>
-        ensures { IfOk result (λ decision. IsFlowStep (flow_arrived queue.old self.old step.now) queue.new self.new decision) }
+    /// Decides a step of this flow of a queue with the numbers `queue` again.
+    fn step(&mut self, queue: &mut QueueNumbers, step: &Step) -> Result<Decision, AllocError>
+        ensures { IfOk result (λ decision. IsFlowStep (flow_step step.now.kind queue.old self.old step.now) queue.new self.new decision) }
     {
-        let change = queue.admit(step);
-        self.arrive_admitted(change, queue, step)
+        match step.kind {
+            Kind::Enqueue => {
+                let change = queue.admit(step);
+                self.arrive(change, queue, step)
+            }
+            Kind::Dequeue => Ok(self.depart(queue, step)),
+            Kind::Update => Ok(self.update(queue, step)),
+            Kind::Flow => {
+                self.numbers = resumed_flow(step);
+                Ok(Decision::other(None))
+            }
+            Kind::Wait => {
+                self.waiting.push_back(waiting_of(step))?;
+                Ok(Decision::other(None))
+            }
+            _ => Ok(Decision::other(None)),
+        }
     }
 
     /// Decides an arrival in this flow of a queue with the limit of the arrival.
-    fn arrive_admitted(
+    fn arrive(
         &mut self,
         change: bool,
         queue: &mut QueueNumbers,
@@ -90,7 +103,11 @@ impl Flow {
                 backlog: arrived.bytes,
                 limit,
             }),
-            lacks: lack_of_arrival(change, returned, arrived.cause, step),
+            lacks: lack_of(
+                change,
+                returned,
+                hides_protocol(step) && needs_protocol(arrived.cause),
+            ),
         })
     }
 
@@ -135,14 +152,6 @@ impl Flow {
         lacking(lack_of(false, returned, false), difference)
     }
 
-    /// Takes over the recorded state of a running flow.
-    fn resume(&mut self, step: &Step) -> Decision
-        ensures { (queue : QueueNumbers) → IsFlowStep (flow_resumed queue self.old step.now) queue self.new result }
-    {
-        self.numbers = resumed_flow(step);
-        Decision::other(None)
-    }
-
     /// Drops the first `count` packets one after another, since the limit is lower. Adds them to `lost`.
     fn shorten(
         &mut self,
@@ -173,14 +182,6 @@ impl Flow {
         drop_all(&mut self.waiting, &self.numbers, queue, lost)?;
         self.numbers.reset(queue.has_flows);
         Ok(())
-    }
-
-    /// Adds the packet of a step at the end.
-    fn push(&mut self, step: &Step) -> Result<Decision, AllocError>
-        ensures { IfOk result (λ decision. (queue : QueueNumbers) → IsFlowStep (flow_waited queue self.old step.now) queue self.new decision) }
-    {
-        self.waiting.push_back(waiting_of(step))?;
-        Ok(Decision::other(None))
     }
 }
 
@@ -282,31 +283,29 @@ impl Queue {
         ensures lost { OnOk result (lost.new.items ≡ lost.old.items ++ dropped_by step.now.kind self.old step.now) }
     {
         match step.kind {
-            Kind::Enqueue => self.arrive(step),
+            Kind::Enqueue | Kind::Update | Kind::Flow => self.step_flow(step),
             Kind::Dequeue => {
                 self.drop_departing(step, lost)?;
-                Ok(self.depart(step))
+                self.step_flow(step)
             }
-            Kind::Update => Ok(self.update(step)),
+            Kind::Wait => self.resume_packet(step),
             Kind::Timer => Ok(Decision::other(self.numbers.begin_round(step))),
             Kind::Change => self.change(step, lost),
             Kind::Reset => self.reset(step, lost),
-            Kind::Flow => Ok(self.resume_flow(step)),
-            Kind::Wait => self.resume_packet(step),
             Kind::Destroy => Ok(self.destroy(step)),
             Kind::Init | Kind::Resume | Kind::Empty => Ok(Decision::other(None)),
         }
     }
 
-    /// Takes over the recorded state of a running flow.
-    fn resume_flow(&mut self, step: &Step) -> Decision
-        ensures { flow_stepped flow_resumed None self.old step.now ≡ record { queue = self.new; decision = result } }
+    /// Decides a step of a flow again, if there is such a flow.
+    fn step_flow(&mut self, step: &Step) -> Result<Decision, AllocError>
+        ensures { IfOk result (λ decision. flow_stepped self.old step.now ≡ record { queue = self.new; decision = decision }) }
     {
         let place = self.place(step);
-        let Some(flow) = self.flows.get_mut(place) else {
-            return Decision::other(None);
-        };
-        flow.resume(step)
+        match self.flows.get_mut(place) {
+            Some(flow) => flow.step(&mut self.numbers, step),
+            None => Ok(Decision::other(no_flow(step))),
+        }
     }
 
     /// Takes over a waiting packet of a running queue.
@@ -318,7 +317,7 @@ impl Queue {
             return Ok(Decision::other(None));
         }
         self.numbers.add(&waiting_of(step));
-        self.queue(step)
+        self.step_flow(step)
     }
 
     /// Returns the place of the flow of a step: the recorded one, or the one that its priority or its hash chooses.
@@ -354,28 +353,6 @@ impl Queue {
         })
     }
 
-    /// Adds the packet of a step at the end of its flow.
-    fn queue(&mut self, step: &Step) -> Result<Decision, AllocError>
-        ensures { IfOk result (λ decision. flow_stepped flow_waited None self.old step.now ≡ record { queue = self.new; decision = decision }) }
-    {
-        let place = self.place(step);
-        let Some(flow) = self.flows.get_mut(place) else {
-            return Ok(Decision::other(None));
-        };
-        flow.push(step)
-    }
-
-    /// Decides an arrival again.
-    fn arrive(&mut self, step: &Step) -> Result<Decision, AllocError>
-        ensures { IfOk result (λ decision. flow_stepped flow_arrived (no_flow step.now) self.old step.now ≡ record { queue = self.new; decision = decision }) }
-    {
-        let place = self.place(step);
-        match self.flows.get_mut(place) {
-            Some(flow) => flow.arrive(&mut self.numbers, step),
-            None => Ok(Decision::other(no_flow(step))),
-        }
-    }
-
     /// Adds the first packet of the flow of a departure to `lost`, if a change of the limit drops it.
     #[tactic(auto, unfolding(crate::specs::Queue::dropped_by_departure))]
     fn drop_departing(&self, step: &Step, lost: &mut Vec<DecidedPacket>) -> Result<(), AllocError>
@@ -388,28 +365,6 @@ impl Queue {
             Some(flow) => flow.first_dropped(&self.numbers, lost),
             None => Ok(()),
         }
-    }
-
-    /// Takes a departure into account again.
-    fn depart(&mut self, step: &Step) -> Decision
-        ensures { flow_stepped flow_departed (no_flow step.now) self.old step.now ≡ record { queue = self.new; decision = result } }
-    {
-        let place = self.place(step);
-        match self.flows.get_mut(place) {
-            Some(flow) => flow.depart(&mut self.numbers, step),
-            None => Decision::other(no_flow(step)),
-        }
-    }
-
-    /// Makes an update of the probability again.
-    fn update(&mut self, step: &Step) -> Decision
-        ensures { flow_stepped flow_updated (no_flow step.now) self.old step.now ≡ record { queue = self.new; decision = result } }
-    {
-        let place = self.place(step);
-        let Some(flow) = self.flows.get_mut(place) else {
-            return Decision::other(no_flow(step));
-        };
-        flow.update(&self.numbers, step)
     }
 
     /// Ends the queue.
@@ -439,12 +394,12 @@ impl Queue {
             return Ok(Decision::other(None));
         };
         flow.shorten(&mut self.numbers, count, lost)?;
-        let numbers = flow.numbers;
-        Ok(Decision::other(self.numbers.change_difference(&was, &numbers, step)))
+        let right = right_change(&self.numbers, &was, &flow.numbers.state, step);
+        Ok(Decision::other(step_difference(step, &right)))
     }
 
-    /// Resets the queue: all packets are dropped, and the flows keep the numbers that a reset does not change. Adds the
-    /// packets to `lost`.
+    /// Resets the queue (`pie_reset`, `fq_pie_reset`): all packets are dropped, and the flows keep the numbers that a reset does
+    /// not change. fq_pie's memory is unchanged. Adds the packets to `lost`.
     #[tactic(auto, unfolding(crate::specs::Queue::reset, crate::specs::Queue::dropped_by_reset))]
     fn reset(&mut self, step: &Step, lost: &mut Vec<DecidedPacket>) -> Result<Decision, AllocError>
         ensures made { IfOk result (λ decision. reset self.old step.now ≡ record { queue = self.new; decision = decision }) }
@@ -452,9 +407,10 @@ impl Queue {
     {
         let was = self.numbers;
         empty_flows(&mut self.flows, &was, lost)?;
-        self.numbers.reset();
+        self.numbers.length = 0;
+        self.numbers.bytes = 0;
         let difference = match self.flows.first() {
-            Some(flow) => was.reset_difference(&flow.numbers, step),
+            Some(flow) => step_difference(step, &right_reset(&was, &flow.numbers.state, step)),
             None => None,
         };
         Ok(Decision::other(difference))
@@ -530,10 +486,13 @@ fn dropped(fate: Fate, queue: &QueueNumbers, flow: &FlowNumbers, waiting: &Waiti
     }
 }
 
-/// Returns the difference of a step of a flow that does not exist.
+/// Returns the difference of a step of a flow that does not exist. A row of a running queue has none.
 fn no_flow(step: &Step) -> Option<Difference>
     ensures { result ≡ no_flow step.now }
 {
+    if step.kind.is_part() {
+        return None;
+    }
     Some(Difference {
         column: FLOW,
         recorded: flow_number(step.flow),

@@ -1,11 +1,7 @@
 //! The queues of a text.
-ghost use Rattle.std.specs.Prelude.{◌≡◌, ◌+◌, ◌%◌, ◌^◌, ◌++◌, ◌∷◌, [], List, OnOk, Some, None, option_map, true, false};
+ghost use Rattle.std.specs.Prelude.{◌≡◌, ◌+◌, ◌%◌, ◌^◌, ◌++◌, ◌∷◌, [], List, OnOk, Some, None, option_map, false};
 ghost use Rattle.pie_linux.specs.Enqueue.{one_if};
-ghost use Rattle.pie_linux_history.specs.Audit.{difference_at, has_failed, verdict_of};
-ghost use Rattle.pie_linux_history.specs.Cuts.{resumed_rows};
-ghost use Rattle.pie_linux_history.specs.Decided.{decided_by};
-ghost use Rattle.pie_linux_history.specs.Known.{HasRead, Leaves, Represents, Takes};
-ghost use Rattle.pie_linux_history.specs.LookBack.{Entry, Lost, Took, entry_in, is_opening, is_other, is_step, lack_counted, lack_in};
+ghost use Rattle.pie_linux_history.specs.{Audit.difference_at, Audit.has_failed, Audit.verdict_of, Cuts.resumed_rows, Decided.decided_by, Known.HasRead, Known.Leaves, Known.Represents, Known.Takes, LookBack.Entry, LookBack.Lost, LookBack.Took, LookBack.entry_in, LookBack.is_opening, LookBack.is_other, LookBack.is_step, LookBack.lack_counted, LookBack.lack_in};
 
 use crate::columns::{Columns, fault_at, lost_at, out_of_memory};
 use crate::decided::{DecidedStep, Taken};
@@ -13,7 +9,7 @@ use crate::difference::Difference;
 use crate::explained::{DecidedPacket, Input};
 use crate::fault::StepsFault;
 use crate::known::KnownQueues;
-use crate::step::{Kind, QueueName, Step};
+use crate::step::{QueueName, Step};
 use crate::updates::NONE;
 use pie_record::{Page, Record, RecordFault};
 use std::alloc::{AllocError, Global};
@@ -202,7 +198,7 @@ impl Queues {
         self.known.lose(queue.bytes());
     }
 
-    /// Decides a step again.
+    /// Decides a step again. A first step makes a queue, in the place of an earlier one with the same name.
     fn decide(
         &mut self,
         queue: QueueName,
@@ -216,30 +212,18 @@ impl Queues {
         ensures takes { (entries : List Entry) → Represents self.old.known.all.items entries → has_failed result ≡ false
             → (result ≡ verdict_of entries self.old.counts.events (Took queue step.now)) × Leaves self.new entries (Took queue step.now) }
     {
-        let is_part = step.kind.is_part();
-        self.counts.steps = self.counts.steps.wrapping_add(u64::from(!is_part));
+        self.counts.steps = self
+            .counts
+            .steps
+            .wrapping_add(u64::from(!step.kind.is_part()));
         self.last = Some((queue, *step));
-        if matches!(step.kind, Kind::Init | Kind::Resume) {
-            return self.open(queue, step);
-        }
-        self.follow(queue, step)
-    }
-
-    /// Decides a step of a queue that has begun again.
-    fn follow(
-        &mut self,
-        queue: QueueName,
-        step: &Step,
-    ) -> Result<Option<StepDifference>, StepsFault>
-        requires fresh { (self.old.taken ≡ None) × (self.old.lost.items ≡ []) × (self.old.last ≡ Some (queue, step.now)) }
-        requires later { is_opening step.now.kind ≡ false }
-        ensures moment { self.new.moment ≡ self.old.moment }
-        ensures counts { (entries : List Entry) → Represents self.old.known.all.items entries → has_failed result ≡ false
-            → self.new.counts ≡ lack_counted self.old.counts (lack_in entries (Took queue step.now)) }
-        ensures takes { (entries : List Entry) → Represents self.old.known.all.items entries → has_failed result ≡ false
-            → (result ≡ verdict_of entries self.old.counts.events (Took queue step.now)) × Leaves self.new entries (Took queue step.now) }
-    {
         let event = self.counts.events;
+        if step.kind.is_opening() {
+            return match self.known.open(self.alloc, queue, step) {
+                Ok(difference) => Ok(difference_at(event, queue, step, difference)),
+                Err(_) => Err(out_of_memory()),
+            };
+        }
         match self.known.take(queue.bytes(), step, &mut self.lost) {
             Ok(Some(taken)) => {
                 self.taken = Some(taken);
@@ -251,21 +235,6 @@ impl Queues {
                 queue,
                 step: step.number,
             }),
-            Err(_) => Err(out_of_memory()),
-        }
-    }
-
-    /// Makes a queue, in the place of an earlier one with the same name.
-    fn open(&mut self, queue: QueueName, step: &Step) -> Result<Option<StepDifference>, StepsFault>
-        requires fresh { (self.old.taken ≡ None) × (self.old.lost.items ≡ []) × (self.old.last ≡ Some (queue, step.now)) }
-        requires first { is_opening step.now.kind ≡ true }
-        ensures counts { self.new.counts ≡ self.old.counts }
-        ensures moment { self.new.moment ≡ self.old.moment }
-        ensures takes { (entries : List Entry) → Represents self.old.known.all.items entries → has_failed result ≡ false
-            → (result ≡ verdict_of entries self.old.counts.events (Took queue step.now)) × Leaves self.new entries (Took queue step.now) }
-    {
-        match self.known.open(self.alloc, queue, step) {
-            Ok(difference) => Ok(difference_at(self.counts.events, queue, step, difference)),
             Err(_) => Err(out_of_memory()),
         }
     }

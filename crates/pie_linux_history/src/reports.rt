@@ -1,14 +1,11 @@
 //! Explanations and reports of a text of recorded steps.
 ghost use Rattle.std.specs.Prelude.{◌≡◌, [], ◌++◌, ◌&&◌, ℕ, Err, Some, IfErr, IfOk, IfSome, IsOk, List, None, Ok, OnOk, Option, false, option_map};
-ghost use Rattle.std.specs.Io.KnownBytes.{Appends, append_known};
+ghost use Rattle.std.specs.Io.KnownBytes.{Appends};
 ghost use Rattle.std.specs.List.{cons_option, filter_map};
-ghost use Rattle.pie_explain.specs.Report.{Grows};
-ghost use Rattle.pie_explain.specs.Selection.{is_from, is_to};
-ghost use Rattle.pie_explain.specs.declared.explanation.Explained.{Explained};
+ghost use Rattle.pie_explain.specs.{Report.Extends, Report.Grows, Selection.is_from, Selection.is_to};
 ghost use Rattle.pie_record.specs.Text.{records_of};
 ghost use Rattle.pie_linux_history.specs.declared.explained.ExplainedPacket.{ExplainedPacket};
-ghost use Rattle.pie_linux_history.specs.Audit.{Ends, has_failed, is_failure, outcome_of};
-ghost use Rattle.pie_linux_history.specs.Reports.{ExplainsIf, IsReport, ReportsEvents, ReportsPackets, ReportsThese, Writes, explained_packet, is_lost_or_marked, packet_if, selected, selects, woven_with};
+ghost use Rattle.pie_linux_history.specs.{Audit.Ends, Audit.has_failed, Audit.is_failure, Audit.outcome_of, Reports.IsReport, Reports.IsWoven, Reports.ReportsEvents, Reports.ReportsPackets, Reports.ReportsThese, Reports.Writes, Reports.explained_packet, Reports.is_lost_or_marked, Reports.packet_if, Reports.selected, Reports.selects, Reports.texts_before, Reports.texts_beside};
 
 use crate::columns::out_of_memory;
 use crate::decided::DecidedStep;
@@ -18,6 +15,7 @@ use crate::explained::{
 };
 use crate::fault::StepsFault;
 use crate::queues::Queues;
+use crate::row::field_text;
 use crate::text::{RowReport, StepsFinding, Text};
 use crate::updates::QueuesUpdates;
 use pie_explain::{EventChoice, Explained, Report, Selection, is_from, is_to};
@@ -87,13 +85,62 @@ fn is_lost_or_marked(fate: Fate) -> bool
     }
 }
 
+/// The texts that a report has beside those of its events.
+#[derive(Clone, Copy, Debug, PartialEq, Eq)]
+pub enum Beside {
+    /// None.
+    Nothing,
+    /// An explanation in words of each packet that was dropped on arrival or marked, after its event.
+    Packets,
+    /// The name of the queue, as an additional last field of each record of CSV.
+    Queue,
+}
+
+/// Adds a field of CSV to a page.
+#[tactic(auto, using(crate::proofs::ReportFacts::extends_by))]
+fn push_field(field: &[u8], page: &mut Page) -> Result<(), AllocError>
+    ensures { OnOk result (Extends page.old page.new) }
+{
+    let text = field_text(page.allocator(), field)?;
+    page.push(&text[..text.len().saturating_sub(1)])
+}
+
+/// Adds a record of CSV to a page, with one more field before its line feed.
+fn push_with_field(record: &[u8], field: &[u8], page: &mut Page) -> Result<(), AllocError>
+    ensures { OnOk result (Grows (IsWoven 1 record.now) [] page.old page.new) }
+{
+    let end = record.len().saturating_sub(1);
+    page.push(&record[..end])?;
+    page.push(b",")?;
+    push_field(field, page)?;
+    page.push(&record[end..])
+}
+
+/// Adds a record to a page.
+fn push_record(record: &[u8], page: &mut Page) -> Result<(), AllocError>
+    ensures { OnOk result (Grows (IsWoven 0 record.now) [] page.old page.new) }
+{
+    page.push(record)
+}
+
+/// Adds a record to a page, and after it the explanation of a packet of its step in words.
+fn push_with_packet(
+    record: &[u8],
+    one: &DecidedStep,
+    packet: DecidedPacket,
+    page: &mut Page,
+) -> Result<(), AllocError>
+    ensures { OnOk result (Grows (IsWoven 1 record.now) [] page.old page.new) }
+{
+    page.push(record)?;
+    PacketWords.explain_packet(&explained_packet(one, packet), page)
+}
+
 /// The report of the selected events.
 #[derive(Drop)]
-struct EventRows<P: Report, Q: PacketReport> {
+struct EventRows<P: Report> {
     report: P,
-    packets: Q,
-    /// True if each packet that was dropped on arrival or marked is explained after its event.
-    is_with: bool,
+    beside: Beside,
     selection: Selection,
 }
 
@@ -103,28 +150,55 @@ struct EventState<S: Drop> {
     state: S,
     updates: QueuesUpdates,
     count: u64,
+    /// The memory of the text of an event.
+    record: Page,
 }
 
-impl<P: Report, Q: PacketReport> EventRows<P, Q> {
-    /// Explains the packet of a selected step, if it was dropped on arrival or marked.
-    fn report_packet(&self, one: &DecidedStep, page: &mut Page) -> Result<(), AllocError>
-        ensures { (explained : Explained) → selected self.now.selection one.now ≡ Some explained
-            → OnOk result (ExplainsIf (Q.explains self.now.packets) (woven_with self.now.is_with self.now.selection one.now) page.old page.new) }
+impl<P: Report> EventRows<P> {
+    /// Writes the text before the first event.
+    fn begin(&self, alloc: Global, page: &mut Page) -> Result<EventState<P::State>, AllocError>
+        ensures { IfOk result (λ state. Grows (ReportsEvents (P.shows self.now.report state.state) (P.so_far self.now.report) self.now.beside self.now.selection state.count [])
+            [] page.old page.new) }
     {
-        match one.arrival {
-            Some(packet) if self.is_with && is_lost_or_marked(packet.fate) => {
-                self.packets
-                    .explain_packet(&explained_packet(one, packet), page)
+        let mut record = Page::new(alloc);
+        let state = self.report.begin(&mut record)?;
+        self.put_header(record.as_bytes(), page)?;
+        Ok(EventState {
+            state,
+            updates: QueuesUpdates::new(alloc),
+            count: 0,
+            record,
+        })
+    }
+
+    /// Adds the text before the first event, with the text beside it.
+    fn put_header(&self, record: &[u8], page: &mut Page) -> Result<(), AllocError>
+        ensures { OnOk result (Grows (IsWoven (texts_before self.now.beside) record.now) [] page.old page.new) }
+    {
+        match self.beside {
+            Beside::Queue => push_with_field(record, b"queue", page),
+            Beside::Nothing | Beside::Packets => push_record(record, page),
+        }
+    }
+
+    /// Adds the text of the event of a selected step, with the text beside it.
+    fn put(&self, one: &DecidedStep, record: &[u8], page: &mut Page) -> Result<(), AllocError>
+        ensures { OnOk result (Grows (IsWoven (texts_beside self.now.beside one.now.arrival) record.now) [] page.old page.new) }
+    {
+        match (self.beside, one.arrival) {
+            (Beside::Queue, _) => push_with_field(record, one.queue.bytes(), page),
+            (Beside::Packets, Some(packet)) if is_lost_or_marked(packet.fate) => {
+                push_with_packet(record, one, packet, page)
             }
-            _ => Ok(()),
+            _ => push_record(record, page),
         }
     }
 }
 
-impl<P: Report, Q: PacketReport> RowReport for EventRows<P, Q> {
+impl<P: Report> RowReport for EventRows<P> {
     type State = EventState<P::State>;
 
-    ghost shows = { λ it state. ReportsEvents (P.shows it.report state.state) (P.so_far it.report) (Q.explains it.packets) it.is_with it.selection state.count };
+    ghost shows = { λ it state. ReportsEvents (P.shows it.report state.state) (P.so_far it.report) it.beside it.selection state.count };
 
     fn report_row(
         &self,
@@ -139,17 +213,18 @@ impl<P: Report, Q: PacketReport> RowReport for EventRows<P, Q> {
             return Ok(());
         };
         state.count = state.count.saturating_add(1);
+        state.record.clear();
         self.report
-            .report_event(&mut state.state, &explained, page)?;
-        self.report_packet(&one, page)
+            .report_event(&mut state.state, &explained, &mut state.record)?;
+        self.put(&one, state.record.as_bytes(), page)
     }
 }
 
-/// Writes a report about the selected events of a text of recorded steps, up to the first fault. With a `queue` only the steps of this queue are decided and reported. Returns the number of events and the
-/// finding.
+/// Writes a report about the selected events of a text of recorded steps, up to the first fault. With a `queue` only the steps
+/// of this queue are decided and reported. Returns the number of events and the finding.
 ///
-/// The text is `whole` of the report for the explanations (`explained_of`) of the selected steps, in order. With `words` each
-/// packet that was dropped on arrival or marked is explained in words after its event.
+/// The text is `whole` of the report for the explanations (`explained_of`) of the selected steps, in order, with the texts
+/// `beside` these within it.
 ///
 /// # Errors
 ///
@@ -161,32 +236,27 @@ pub fn report<R: Read + Drop, W: Write, P: Report>(
     selection: Selection,
     queue: Option<&str>,
     report: P,
-    is_with: bool,
+    beside: Beside,
 ) -> Result<StepsExplained, StepsFault>
     ensures reports { IfOk result (λ explained. Ends
-        (λ rows. Writes (IsReport (P.whole report) is_with selection explained.count rows) (W.contents output.old) (W.contents output.new))
+        (λ rows. Writes (IsReport (P.whole report) beside selection explained.count rows) (W.contents output.old) (W.contents output.new))
         (outcome_of (option_map (λ name. name.now) queue.entry)) (option_map records_of (R.remaining input)) (Ok explained.finding)) }
     ensures refuses { IfErr result (λ why. is_failure why ≡ false → IfSome (R.remaining input)
         (λ text. (outcome_of (option_map (λ name. name.now) queue.entry) (records_of text)).1 ≡ Err why)) }
 {
     let mut page = Page::new(alloc);
-    let mut state = match report.begin(&mut page) {
-        Ok(state) => EventState {
-            state,
-            updates: QueuesUpdates::new(alloc),
-            count: 0,
-        },
+    let rows = EventRows {
+        report,
+        beside,
+        selection,
+    };
+    let mut state = match rows.begin(alloc, &mut page) {
+        Ok(state) => state,
         Err(_) => return Err(out_of_memory()),
     };
     let mut text = match Text::begin(alloc, input, queue) {
         Ok(text) => text,
         Err(why) => return Err(why),
-    };
-    let rows = EventRows {
-        report,
-        packets: PacketWords,
-        is_with,
-        selection,
     };
     let outcome = text.decide(&rows, &mut state, &mut page, output);
     let ended = rows.report.end(&state.state, &mut page);

@@ -16,11 +16,9 @@
 //! A text of pie-watch without the column `rq` has 0 in the columns of the last three lines: an audit then learns the numbers
 //! of two of them from the next arrival and round, and takes the memory to be 0. The deficits and the order of the flows do
 //! not decide any step, and are 0. The packets that a change of fq_pie has dropped before its row are not kept.
-ghost use Rattle.std.specs.Prelude.{◌≡◌, ◌≤◌, ◌+◌, ◌++◌, IfOk, OnOk, Option, ℕ, false, length, true};
+ghost use Rattle.std.specs.Prelude.{◌≡◌, ◌≤◌, ◌+◌, ◌++◌, OnOk, Option, ℕ, false, length, true};
 ghost use Rattle.std.specs.List.{flat_map, fold};
-ghost use Rattle.pie_linux_history.specs.Cuts.{flow_row, flow_rows, flow_step, flows_rows, in_32, is_new, is_told, less_flow, less_memory, named_flow, queue_row, queue_rows, resume_step, wait_row, wait_step};
-ghost use Rattle.pie_linux_history.specs.Decisions.{waiting_of};
-ghost use Rattle.pie_linux_history.specs.Resumes.{emptied, first_numbers, known_number, memory_at, number_field, resumed, resumed_flow};
+ghost use Rattle.pie_linux_history.specs.{Cuts.flow_row, Cuts.flow_rows, Cuts.flow_step, Cuts.flows_rows, Cuts.in_32, Cuts.is_new, Cuts.is_told, Cuts.less_flow, Cuts.less_memory, Cuts.named_flow, Cuts.queue_row, Cuts.queue_rows, Cuts.resume_step, Cuts.wait_row, Cuts.wait_step, Decisions.waiting_of, Resumes.emptied, Resumes.first_numbers, Resumes.known_number, Resumes.memory_at, Resumes.number_field, Resumes.resumed, Resumes.resumed_flow};
 
 use crate::columns::{Columns, blank};
 use crate::numbers::{FlowNumbers, QueueNumbers, Waiting};

@@ -33,9 +33,9 @@
 //!
 //! `rqb` is 0 if `rq` is 0. Rows `flow` and `wait` are inputs. No step reads the processor and the state before a step.
 //!
-//! A text without the column `rq` is compared in fewer columns: the other numbers are those of the row.
-ghost use Rattle.std.specs.Prelude.{◌≡◌, if◌then◌else◌};
-ghost use Rattle.pie_linux_history.specs.Right.{base, bytes_returned, early_result, named_flow_of, of_flows, percent_of, readings_until, returned_value, right_arrival, right_bytes, right_change, right_decision, right_departure, right_destroy, right_left, right_opening, right_reset, right_reset_of, right_round, right_shortened, right_size, right_update, right_updated, state_of_pie};
+//! A text without the column `rq` is compared in fewer columns (`is_compared` of difference.rt).
+ghost use Rattle.std.specs.Prelude.{◌≡◌};
+ghost use Rattle.pie_linux_history.specs.Right.{base, bytes_returned, early_result, named_flow_of, of_flows, percent_of, readings_until, right_arrival, right_bytes, right_change, right_departure, right_destroy, right_opening, right_reset, right_round, right_size, right_update, state_of_pie};
 
 use crate::columns::blank;
 use crate::numbers::{QueueNumbers, Waiting, counts_memory};
@@ -70,19 +70,6 @@ pub(crate) struct Departed {
     pub is_timed: bool,
 }
 
-/// Returns the return value of enqueue.
-fn returned_value(cause: LinuxCause, has_flows: bool) -> u32
-    ensures { result ≡ returned_value cause has_flows }
-{
-    if cause.is_queued() {
-        0
-    } else if has_flows {
-        2
-    } else {
-        1
-    }
-}
-
 /// Returns the return value of `pie_drop_early`, 255 if it is not called.
 fn early_result(cause: LinuxCause) -> u32
     ensures { result ≡ early_result cause }
@@ -98,19 +85,15 @@ fn early_result(cause: LinuxCause) -> u32
     }
 }
 
-/// Returns the step whose numbers are 0, in a text without the column `rq` the recorded step.
+/// Returns the step whose other numbers are 0.
 #[tactic(auto, unfolding(crate::specs::Right::base))]
 fn base(step: &Step) -> Step
     ensures { result ≡ base step.now }
 {
-    if step.has_returned {
-        Step {
-            number: step.number,
-            moment: step.moment,
-            ..blank(step.kind, step.has_flows, true)
-        }
-    } else {
-        *step
+    Step {
+        number: step.number,
+        moment: step.moment,
+        ..blank(step.kind, step.has_flows, step.has_returned)
     }
 }
 
@@ -148,45 +131,7 @@ fn bytes_returned(step: &Step) -> u32
 
 // ---- an arrival
 
-/// Returns the step of an arrival with the numbers that each text has. After it the queue has the numbers `queue`, and the
-/// flow `state`.
-#[tactic(auto, unfolding(crate::specs::Right::right_decision))]
-fn right_decision(queue: &QueueNumbers, state: &LinuxState, one: &Arrived, step: &Step) -> Step
-    ensures { result ≡ right_decision queue.now state.now one.now step.now }
-{
-    let base = base(step);
-    let has_flows = queue.has_flows;
-    let is_over = !counts_memory(one.cause);
-    let (is_bare, is_silent) = (is_over, is_over && (has_flows && !step.has_returned));
-    Step {
-        length_before: one.length,
-        bytes_before: one.bytes,
-        limit: queue.params.limit,
-        early: early_result(one.cause),
-        draws: u32::from(one.cause.draws()),
-        returned: returned_value(one.cause, has_flows),
-        size: step.size,
-        packet_length: step.packet_length,
-        stats: queue.stats,
-        backlog: if is_bare { base.backlog } else { one.backlog },
-        after: if is_silent { step.after } else { *state },
-        x0: if has_flows { one.memory } else { base.x0 },
-        x1: if has_flows { queue.memory } else { base.x1 },
-        x2: if has_flows {
-            queue.over_memory.unwrap_or(step.x2)
-        } else {
-            base.x2
-        },
-        mtu: step.mtu,
-        protocol: step.protocol,
-        header: step.header,
-        contained: step.contained,
-        returned_packets: step.returned_packets,
-        ..base
-    }
-}
-
-/// Returns the step of an arrival.
+/// Returns the step of an arrival. After it the queue has the numbers `queue`, and the flow `state`.
 #[tactic(auto, unfolding(crate::specs::Right::right_arrival))]
 pub(crate) fn right_arrival(
     queue: &QueueNumbers,
@@ -196,28 +141,52 @@ pub(crate) fn right_arrival(
 ) -> Step
     ensures { result ≡ right_arrival queue.now state.now one.now step.now }
 {
-    let right = right_decision(queue, state, one, step);
-    if !step.has_returned {
-        return right;
-    }
-    let has_flows = queue.has_flows;
-    let is_queued = one.cause.is_queued();
+    let (has_flows, is_queued) = (queue.has_flows, one.cause.is_queued());
     Step {
-        flow: named_flow_of(has_flows, Some(queue.flow_chosen(step.priority, step.hash))),
-        length_after: queue.length.wrapping_add(step.returned_packets),
-        bytes_after: queue.bytes.wrapping_add(step.returned_bytes),
-        enqueued: if is_queued { step.enqueued } else { 0 },
         moment: if is_queued && !queue.params.dq_rate_estimator {
             step.enqueued.wrapping_mul(64)
         } else {
             step.moment
         },
+        flow: named_flow_of(has_flows, Some(queue.flow_chosen(step.priority, step.hash))),
+        backlog: if counts_memory(one.cause) {
+            one.backlog
+        } else {
+            0
+        },
+        size: step.size,
+        packet_length: step.packet_length,
+        mtu: step.mtu,
+        length_before: one.length,
+        length_after: queue.length.wrapping_add(step.returned_packets),
+        bytes_before: one.bytes,
+        bytes_after: queue.bytes.wrapping_add(step.returned_bytes),
+        limit: queue.params.limit,
+        returned: if is_queued {
+            0
+        } else if has_flows {
+            2
+        } else {
+            1
+        },
+        protocol: step.protocol,
+        header: step.header,
+        contained: step.contained,
+        early: early_result(one.cause),
+        draws: u32::from(one.cause.draws()),
         word: if one.cause.draws() { step.word } else { 0 },
+        enqueued: if is_queued { step.enqueued } else { 0 },
         hash: of_flows(has_flows, step.hash),
         priority: of_flows(has_flows, step.priority),
         truesize: of_flows(has_flows, step.truesize),
+        x0: of_flows(has_flows, one.memory),
+        x1: of_flows(has_flows, queue.memory),
+        x2: of_flows(has_flows, queue.over_memory.unwrap_or(step.x2)),
+        after: *state,
+        stats: queue.stats,
+        returned_packets: step.returned_packets,
         returned_bytes: bytes_returned(step),
-        ..right
+        ..base(step)
     }
 }
 
@@ -234,27 +203,7 @@ fn readings_until(readings: [u64; 3], reads: u32) -> [u64; 3]
     ]
 }
 
-/// Returns the step of a departure with the numbers that each text has. After it the queue has the numbers `queue`, and the
-/// flow `state`.
-#[tactic(auto, unfolding(crate::specs::Right::right_left))]
-fn right_left(queue: &QueueNumbers, state: &LinuxState, one: &Departed, step: &Step) -> Step
-    ensures { result ≡ right_left queue.now state.now one.now step.now }
-{
-    Step {
-        flow: step.flow,
-        size: one.waiting.size,
-        packet_length: one.waiting.length,
-        enqueued: one.waiting.enqueued,
-        backlog: one.backlog,
-        length_after: queue.length.wrapping_add(step.returned_packets),
-        bytes_after: queue.bytes.wrapping_add(step.returned_bytes),
-        after: *state,
-        returned_packets: step.returned_packets,
-        ..base(step)
-    }
-}
-
-/// Returns the step of a departure.
+/// Returns the step of a departure. After it the queue has the numbers `queue`, and the flow `state`.
 #[tactic(auto, unfolding(crate::specs::Right::right_departure))]
 pub(crate) fn right_departure(
     queue: &QueueNumbers,
@@ -264,43 +213,33 @@ pub(crate) fn right_departure(
 ) -> Step
     ensures { result ≡ right_departure queue.now state.now one.now step.now }
 {
-    let right = right_left(queue, state, one, step);
-    if !step.has_returned {
-        return right;
-    }
     Step {
-        flow: named_flow_of(queue.has_flows, step.flow),
         moment: if one.is_timed {
             step.moment
         } else {
             state.dq_tstamp.wrapping_mul(64)
         },
-        reads: one.reads,
+        flow: named_flow_of(queue.has_flows, step.flow),
+        backlog: one.backlog,
+        size: one.waiting.size,
+        packet_length: one.waiting.length,
+        length_after: queue.length.wrapping_add(step.returned_packets),
+        bytes_after: queue.bytes.wrapping_add(step.returned_bytes),
+        enqueued: one.waiting.enqueued,
         readings: readings_until(step.readings, one.reads),
+        reads: one.reads,
         x1: of_flows(queue.has_flows, queue.memory),
+        after: *state,
+        returned_packets: step.returned_packets,
         returned_bytes: bytes_returned(step),
         is_drop: queue.has_flows && step.is_drop,
-        ..right
+        ..base(step)
     }
 }
 
 // ---- updates and rounds
 
-/// Returns the step of an update with the numbers that each text has. After it the flow has the state `state`.
-#[tactic(auto, unfolding(crate::specs::Right::right_updated))]
-fn right_updated(state: &LinuxState, backlog: u32, step: &Step) -> Step
-    ensures { result ≡ right_updated state.now backlog step.now }
-{
-    Step {
-        flow: step.flow,
-        backlog,
-        after: *state,
-        returned_packets: step.returned_packets,
-        ..base(step)
-    }
-}
-
-/// Returns the step of an update.
+/// Returns the step of an update. After it the flow has the state `state`.
 #[tactic(auto, unfolding(crate::specs::Right::right_update))]
 pub(crate) fn right_update(
     queue: &QueueNumbers,
@@ -310,16 +249,15 @@ pub(crate) fn right_update(
 ) -> Step
     ensures { result ≡ right_update queue.now state.now backlog step.now }
 {
-    let right = right_updated(state, backlog, step);
-    if !step.has_returned {
-        return right;
-    }
     Step {
         flow: named_flow_of(queue.has_flows, step.flow),
+        backlog,
         length_after: queue.length.wrapping_add(step.returned_packets),
         bytes_after: queue.bytes.wrapping_add(step.returned_bytes),
+        after: *state,
+        returned_packets: step.returned_packets,
         returned_bytes: bytes_returned(step),
-        ..right
+        ..base(step)
     }
 }
 
@@ -365,29 +303,7 @@ fn right_bytes(queue: &QueueNumbers, was: &QueueNumbers, step: &Step) -> u32
     }
 }
 
-/// Returns the step of a change with the numbers that each text has. `was` are the queue's numbers before it, and `queue` those
-/// after it.
-#[tactic(auto, unfolding(crate::specs::Right::right_shortened))]
-fn right_shortened(
-    queue: &QueueNumbers,
-    was: &QueueNumbers,
-    state: &LinuxState,
-    step: &Step,
-) -> Step
-    ensures { result ≡ right_shortened queue.now was.now state.now step.now }
-{
-    let base = base(step);
-    Step {
-        limit: step.params.limit,
-        size: right_size(was, step),
-        stats: queue.stats,
-        after: state_of_pie(queue.has_flows, state, &base.after),
-        params: step.params,
-        ..base
-    }
-}
-
-/// Returns the step of a change.
+/// Returns the step of a change. `was` are the queue's numbers before it, and `queue` those after it.
 #[tactic(auto, unfolding(crate::specs::Right::right_change))]
 pub(crate) fn right_change(
     queue: &QueueNumbers,
@@ -397,28 +313,29 @@ pub(crate) fn right_change(
 ) -> Step
     ensures { result ≡ right_change queue.now was.now state.now step.now }
 {
-    let right = right_shortened(queue, was, state, step);
-    if !step.has_returned {
-        return right;
-    }
-    let has_flows = queue.has_flows;
+    let (base, has_flows, size) = (base(step), queue.has_flows, right_size(was, step));
     Step {
-        mtu: step.mtu,
         backlog: right_bytes(queue, was, step),
+        size,
+        mtu: step.mtu,
         length_after: queue.length.wrapping_add(step.returned_packets),
         bytes_after: queue.bytes.wrapping_add(step.returned_bytes),
+        limit: step.params.limit,
         truesize: of_flows(has_flows, step.truesize),
         x0: of_flows(has_flows, step.x0),
         x1: of_flows(has_flows, queue.flows),
         x2: of_flows(has_flows, step.x2),
-        returned_packets: if step.moved < right_size(was, step) {
+        after: state_of_pie(has_flows, state, &base.after),
+        params: step.params,
+        stats: queue.stats,
+        returned_packets: if step.moved < size {
             0
         } else {
             step.returned_packets
         },
         returned_bytes: bytes_returned(step),
         moved: step.moved,
-        ..right
+        ..base
     }
 }
 
@@ -432,55 +349,35 @@ pub(crate) fn percent_of(marks: MarkLimit) -> u32
     }
 }
 
-/// Returns the step of a reset with the numbers that each text has. `queue` are the queue's numbers before it.
-#[tactic(auto, unfolding(crate::specs::Right::right_reset_of))]
-fn right_reset_of(queue: &QueueNumbers, state: &LinuxState, step: &Step) -> Step
-    ensures { result ≡ right_reset_of queue.now state.now step.now }
-{
-    let base = base(step);
-    Step {
-        stats: queue.stats,
-        after: state_of_pie(queue.has_flows, state, &base.after),
-        ..base
-    }
-}
-
-/// Returns the step of a reset.
+/// Returns the step of a reset. `queue` are the queue's numbers before it.
 #[tactic(auto, unfolding(crate::specs::Right::right_reset))]
 pub(crate) fn right_reset(queue: &QueueNumbers, state: &LinuxState, step: &Step) -> Step
     ensures { result ≡ right_reset queue.now state.now step.now }
 {
-    let right = right_reset_of(queue, state, step);
-    if !step.has_returned {
-        return right;
-    }
-    let has_flows = queue.has_flows;
-    let length = queue.length.wrapping_add(step.returned_packets);
+    let (base, has_flows) = (base(step), queue.has_flows);
     Step {
         mtu: step.mtu,
-        limit: queue.params.limit,
-        length_after: of_flows(has_flows, length),
+        length_after: of_flows(has_flows, queue.length.wrapping_add(step.returned_packets)),
         bytes_after: queue.bytes.wrapping_add(step.returned_bytes),
+        limit: queue.params.limit,
         truesize: of_flows(has_flows, queue.memory_limit),
         x0: of_flows(has_flows, percent_of(queue.params.marks)),
         x1: of_flows(has_flows, queue.flows),
         x2: of_flows(has_flows, queue.quantum),
+        after: state_of_pie(has_flows, state, &base.after),
         params: queue.params,
+        stats: queue.stats,
         returned_packets: step.returned_packets,
         returned_bytes: bytes_returned(step),
-        ..right
+        ..base
     }
 }
 
-/// Returns the last step of a queue. A text without the column `rq` has none of its numbers.
+/// Returns the last step of a queue.
 #[tactic(auto, unfolding(crate::specs::Right::right_destroy))]
 pub(crate) fn right_destroy(queue: &QueueNumbers, state: &LinuxState, step: &Step) -> Step
     ensures { result ≡ right_destroy queue.now state.now step.now }
 {
-    if !step.has_returned {
-        return *step;
-    }
-    let right = right_reset(queue, state, step);
     Step {
         length_after: 0,
         bytes_after: 0,
@@ -490,7 +387,7 @@ pub(crate) fn right_destroy(queue: &QueueNumbers, state: &LinuxState, step: &Ste
         },
         returned_packets: 0,
         returned_bytes: 0,
-        ..right
+        ..right_reset(queue, state, step)
     }
 }
 
@@ -499,9 +396,6 @@ pub(crate) fn right_destroy(queue: &QueueNumbers, state: &LinuxState, step: &Ste
 pub(crate) fn right_opening(step: &Step) -> Step
     ensures { result ≡ right_opening step.now }
 {
-    if !step.has_returned {
-        return *step;
-    }
     let base = base(step);
     let (is_new, has_flows) = (step.kind == Kind::Init, step.has_flows);
     let state = if is_new {

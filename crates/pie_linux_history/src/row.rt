@@ -2,7 +2,7 @@
 ghost use Rattle.std.specs.Prelude.{◌≡◌, ◌++◌, ◌∷◌, [], IfOk, IfSome, OnOk, decimal};
 ghost use Rattle.csv.specs.Records.{fields_of, partial_of};
 ghost use Rattle.pie_record.specs.Text.{text_of};
-ghost use Rattle.pie_linux_history.specs.Cuts.{column_of, family_of, field_by, row_of, word_of};
+ghost use Rattle.pie_linux_history.specs.Cuts.{family_of, field_by, row_of, word_of};
 
 use crate::columns::{COUNT, Columns, FAMILY, FLOW, TYPE};
 use crate::difference::numbers_of;
@@ -95,6 +95,13 @@ fn text_of(alloc: Global, row: &ByteRecord) -> Option<Vec<u8>>
         Ok(text) => Some(text),
         Err(_) => None,
     }
+}
+
+/// Returns the text of a field of CSV, with a line feed.
+pub(crate) fn field_text(alloc: Global, field: &[u8]) -> Result<Vec<u8>, AllocError> {
+    let mut row = ByteRecord::new(alloc);
+    row.push_field(field)?;
+    text_of(alloc, &row).ok_or(AllocError)
 }
 
 /// Adds the row of a step of the queue with this name to a page.

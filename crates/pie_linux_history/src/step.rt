@@ -1,9 +1,7 @@
 //! One recorded step.
 ghost use Rattle.std.specs.Prelude.{◌≡◌, ◌≤◌, length};
 ghost use Rattle.std.specs.Str.{bytes_eq, is_utf8};
-ghost use Rattle.pie_linux_history.specs.Columns.{padded, queue_name};
-ghost use Rattle.pie_linux_history.specs.LookBack.{name_of};
-ghost use Rattle.pie_linux_history.specs.Queue.{is_part};
+ghost use Rattle.pie_linux_history.specs.{Columns.padded, Columns.queue_name, LookBack.is_opening, LookBack.name_of, Queue.is_part};
 
 use pie_linux::{LinuxParams, LinuxState, LinuxStats};
 use std::fmt;
@@ -120,6 +118,13 @@ impl Kind {
         ensures { result ≡ is_part self }
     {
         matches!(self, Kind::Flow | Kind::Wait)
+    }
+
+    /// Returns true if a queue begins with the row.
+    pub(crate) fn is_opening(self) -> bool
+        ensures { result ≡ is_opening self }
+    {
+        matches!(self, Kind::Init | Kind::Resume)
     }
 }
 

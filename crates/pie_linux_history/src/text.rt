@@ -4,11 +4,7 @@ ghost use Rattle.std.specs.List.{cons_option};
 ghost use Rattle.std.specs.Io.KnownBytes.{append_known};
 ghost use Rattle.pie_explain.specs.Report.{Grows};
 ghost use Rattle.pie_record.specs.Text.{TakesRow, records_of};
-ghost use Rattle.pie_linux_history.specs.Audit.{Begins, Ends, HasFound, ReadsColumns, differences_of, finding_by, finding_of, has_failed, is_failure, outcome_after, outcome_of};
-ghost use Rattle.pie_linux_history.specs.Columns.{columns_of};
-ghost use Rattle.pie_linux_history.specs.Known.{HasRead, Leaves, TakesNext};
-ghost use Rattle.pie_linux_history.specs.LookBack.{Entry};
-ghost use Rattle.pie_linux_history.specs.Reports.{Writes};
+ghost use Rattle.pie_linux_history.specs.{Audit.Begins, Audit.Ends, Audit.HasFound, Audit.ReadsColumns, Audit.differences_of, Audit.finding_by, Audit.finding_of, Audit.has_failed, Audit.is_failure, Audit.outcome_after, Audit.outcome_of, Columns.columns_of, Known.HasRead, Known.Leaves, Known.TakesNext, LookBack.Entry, Reports.Writes};
 
 use crate::columns::{Columns, out_of_memory};
 use crate::fault::StepsFault;

@@ -102,7 +102,7 @@ impl QueuesUpdates {
         let Some(updates) = self.all.get_mut(place) else {
             return Ok(NONE);
         };
-        if matches!(step.kind, Kind::Init | Kind::Resume) {
+        if step.kind.is_opening() {
             updates.begin(0, 0);
         }
         if updates.none.opening == 0 && step.moment > 0 {

@@ -3,4 +3,5 @@ use Rattle.pie_linux_history.specs.Differences.{first_difference}
 use Rattle.pie_linux_history.proofs.difference.first_difference.Given as goal
 
 abbrev pub invariant-loop-column : goal.invariant-loop-column
-invariant-loop-column l = first_difference 0 l.recorded l.right ≡ first_difference l.column (drop l.column l.recorded) (drop l.column l.right)
+invariant-loop-column l =
+    first_difference l.step 0 l.recorded l.right ≡ first_difference l.step l.column (drop l.column l.recorded) (drop l.column l.right)

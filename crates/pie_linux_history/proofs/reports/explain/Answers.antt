@@ -1,7 +1,6 @@
 use Rattle.std.proofs.Common.{◌≡◌, refl, []}
 use Rattle.std.specs.Prelude.{Ok, Err}
-use Rattle.pie_linux_history.proofs.AuditFacts.{ends-result, ends-text, found-none}
-use Rattle.pie_linux_history.proofs.ReportFacts.{ends-with, grows-same, packets-none, writes-first, writes-out}
+use Rattle.pie_linux_history.proofs.{AuditFacts.ends-result, AuditFacts.ends-text, AuditFacts.found-none, ReportFacts.ends-with, ReportFacts.grows-same, ReportFacts.packets-none, ReportFacts.writes-first, ReportFacts.writes-out}
 use Rattle.pie_linux_history.proofs.reports.explain.Goals as goal
 
 pub returns-in-Ok-finish-clause-explains : goal.returns-in-Ok-finish-clause-explains

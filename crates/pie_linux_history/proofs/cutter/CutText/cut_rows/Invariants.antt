@@ -1,7 +1,6 @@
-use Rattle.std.specs.Prelude.{◌≡◌, ◌≤◌, []}
+use Rattle.std.specs.Prelude.{◌≤◌, []}
 use Rattle.std.specs.Io.KnownBytes.{append_known}
-use Rattle.pie_linux_history.specs.Cuts.{plan}
-use Rattle.pie_linux_history.specs.Known.{HasRead}
+use Rattle.pie_linux_history.specs.{Cuts.plan, Known.HasRead}
 use Rattle.pie_linux_history.proofs.CuttingFacts.{Cutting}
 use Rattle.pie_linux_history.proofs.cutter.CutText.cut_rows.Given as goal
 

@@ -1,7 +1,5 @@
 use Rattle.std.proofs.Common.{◌≡◌, ◌∙◌, Option, ap, arith, is_some, refl}
-use Rattle.pie_linux_history.specs.Columns.{handle_of}
-use Rattle.pie_linux_history.specs.LookBack.{name_of}
-use Rattle.pie_linux_history.specs.Queue.{opened, opening_difference}
+use Rattle.pie_linux_history.specs.{Columns.handle_of, LookBack.name_of, Queue.opened, Queue.opening_difference}
 use Rattle.pie_linux_history.specs.declared.difference.Difference.{Difference}
 use Rattle.pie_linux_history.proofs.KnownFacts.{looked-push, looked-set, names-begun, names-pushed, place-within}
 use Rattle.pie_linux_history.proofs.known.KnownQueues.open.Goals as goal

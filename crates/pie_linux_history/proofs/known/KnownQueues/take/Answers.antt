@@ -1,7 +1,5 @@
-use Rattle.std.proofs.Common.{◌≡◌, ◌∙◌, Option, Some, arith, ap}
-use Rattle.pie_linux_history.specs.declared.explained.Decision.{Decision}
-use Rattle.pie_linux_history.specs.Known.{looked_up, tracked}
-use Rattle.pie_linux_history.specs.LookBack.{name_of}
+use Rattle.std.proofs.Common.{◌≡◌, ◌∙◌, Some, arith, ap}
+use Rattle.pie_linux_history.specs.{Known.looked_up, Known.tracked, LookBack.name_of}
 use Rattle.pie_linux_history.proofs.KnownFacts.{looked-at, looked-take, name-at, names-set, place-within, taken-as}
 use Rattle.pie_linux_history.proofs.known.KnownQueues.take.Goals as goal
 
@@ -17,7 +15,6 @@ returns-in-Ok c =
     record {
       taken = rw (found, c.numbers_at-before.ensures, c.numbers_at.ensures)
           (taken-as (tracked known) (tracked c.take.new.self) c.args.step.now c.in-Ok.decision c.in-Ok.ensures.decided c.in-Ok.ensures.follows);
-      decision = rw found (ap (λ (x : Decision). let some : Option Decision = Some x in some) c.in-Ok.ensures.decided);
       lost = rw found c.in-Ok.ensures.lost;
       queues = λ other. looked-take c.args.self.now.all.items c.in-Some.place c.args.name.now known c.take.new.self c.args.step.now other
           c.in-Some.ensures c.in-Some-get_mut.ensures.value c.in-Ok.ensures.name c.in-Ok.ensures.follows;

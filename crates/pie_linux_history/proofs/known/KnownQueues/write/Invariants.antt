@@ -1,7 +1,6 @@
 use Rattle.std.specs.Prelude.{◌≡◌, ◌++◌, drop, map}
 use Rattle.std.specs.List.{flat_map}
-use Rattle.pie_linux_history.specs.Cuts.{named_rows}
-use Rattle.pie_linux_history.specs.Known.{named}
+use Rattle.pie_linux_history.specs.{Cuts.named_rows, Known.named}
 use Rattle.pie_linux_history.proofs.known.KnownQueues.write.Given as goal
 
 abbrev pub invariant-loop-place : goal.invariant-loop-place

@@ -1,8 +1,7 @@
 use Rattle.std.proofs.Common.{◌≡◌, []}
 use Rattle.pie_linux_history.specs.declared.queues.StepsCounts.{StepsCounts}
 use Rattle.pie_linux_history.specs.LookBack.{counts_of, lack_count}
-use Rattle.pie_linux_history.proofs.KnownFacts.{represents-none}
-use Rattle.pie_linux_history.proofs.LookBackFacts.{latest-none}
+use Rattle.pie_linux_history.proofs.{KnownFacts.represents-none, LookBackFacts.latest-none}
 use Rattle.pie_linux_history.proofs.queues.Queues.new.Goals as goal
 
 none : (counts : StepsCounts) → counts ≡ record { events = 0; steps = 0; lost = 0; without_returned = 0; without_protocol = 0; without_change = 0 }

@@ -16,8 +16,8 @@ returns-in_default-selected g c = λ entries entry text read leaves was.
 pub returns : goal.returns
 returns g c = λ entries entry text read leaves was.
     let some = sym c.selected.ensures ∙ c.in-Some-selected.is in
-    rw c.saturating_add-state.ensures (on-ok c.report_packet.result
-    (events-more entries entry _ _ _ c.in-Some.one c.in-Some-selected.explained
+    rw c.saturating_add-state.ensures (on-ok c.put.result
+    (events-more entries entry _ _ _ _ c.in-Some.one c.in-Some-selected.explained
     (rw c.in-Some.is at (full-is c.args.queues.now entries entry c.in_ok-one.field-0 c.decided.result c.in_ok-one.ensures c.decided.ensures read leaves))
-    some was (c.in_ok-report_event.ensures _ was.text_is.plain was.shown was.text_is.says_it))
-    (c.report_packet.ensures c.in-Some-selected.explained some))
+    some c.clear.ensures was (c.in_ok-report_event.ensures _ was.text_is.plain was.shown was.text_is.says_it))
+    (rw c.as_bytes.ensures at c.put.ensures))

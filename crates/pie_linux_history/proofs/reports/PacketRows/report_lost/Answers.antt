@@ -1,7 +1,6 @@
 use Rattle.std.proofs.Common.{arith, refl}
 use Rattle.pie_linux.specs.declared.cause.LinuxCause.TheVariants.{OverLimit}
-use Rattle.pie_linux_history.specs.declared.explained.DecidedPacket.{DecidedPacket}
-use Rattle.pie_linux_history.specs.declared.explained.Fate.TheVariants.{Arrival}
+use Rattle.pie_linux_history.specs.declared.{explained.DecidedPacket.DecidedPacket, explained.Fate.TheVariants.Arrival}
 use Rattle.pie_linux_history.specs.Reports.{packet_if}
 use Rattle.pie_linux_history.proofs.ReportFacts.{lost-all, lost-first, lost-next}
 use Rattle.pie_linux_history.proofs.reports.PacketRows.report_lost.Goals as goal

@@ -1,9 +1,6 @@
 use Rattle.std.specs.Prelude.{◌≡◌, ℕ, List, Option, option_map}
 use Rattle.std.specs.Io.KnownBytes.{append_known}
-use Rattle.pie_linux_history.specs.Audit.{HasFound, differences_of}
-use Rattle.pie_linux_history.specs.Known.{HasRead}
-use Rattle.pie_linux_history.specs.LookBack.{Entry}
-use Rattle.pie_linux_history.specs.Reports.{Writes}
+use Rattle.pie_linux_history.specs.{Audit.HasFound, Audit.differences_of, Known.HasRead, LookBack.Entry, Reports.Writes}
 use Rattle.pie_linux_history.proofs.AuditFacts.{GoesOn}
 use Rattle.pie_linux_history.proofs.text.Text.decide.Given as goal
 

@@ -1,6 +1,6 @@
 #!/usr/bin/env python3
 """Compares include/pie.h, include/pie_link.h and the Rust declarations (bindings/rust/src) with the source of the
-libraries (crates/pie_params/src and those of pie_abi, pie_c, pie_port and pie_link_c): structs with the
+libraries (crates/pie_params/src and those of pie_abi, pie_c and pie_link_c): structs with the
 order, names and widths of their fields; functions with the order, names and widths of their parameters; codes, ECN
 fields, the version. Ranges, defaults and tables of rates in comments are compared with each other, docs/FORMATS.md,
 docs/LIBRARY.md and docs/PARAMETERS.md; the orders of errors with the source; the words of a flight recorder's
@@ -282,30 +282,29 @@ def compare_numbers(header, source):
 
 
 def compare_link(root):
-    """Compares include/pie_link.h with crates/pie_link_c, its calls with their parameters, and with
-    crates/pie_port: its codes, their descriptions, and port and excerpt, which C sees as a pointer."""
+    """Compares include/pie_link.h with crates/pie_link_c: its calls with their parameters, its codes, their
+    descriptions, and port and excerpt, which C sees as a pointer."""
     header = Header((root / "include/pie_link.h").read_text())
     names = {**TYPES, "PiePort": "pie_port", "PieExcerpt": "pie_excerpt", "PieRegisters": "pie_registers", "PieTotals": "pie_totals"}
-    text = "\n".join(read_source(root / f"crates/{it}/src", "*.rt") for it in ("pie_port", "pie_link_c"))
-    source = Rust(text, names, r'pub extern "C" ')
+    source = Rust(read_source(root / "crates/pie_link_c/src", "*.rt"), names, r'pub extern "C" ')
     # (a `Global` takes no bytes: C passes nothing for it)
     calls = {name: (result, [it for it in given if it[0] != "Global"]) for name, (result, given) in source.functions.items()}
     given = {name: (result, [(kind, {"added": "new"}.get(field, field)) for kind, field in it]) for name, (result, it) in header.functions.items()}
     yield from same("include/pie_link.h: calls", given, calls, "in crates/pie_link_c/src")
     for handle in ("PiePort", "PieExcerpt"):
         if not re.search(rf"pub struct {handle} \{{\s*at: \*mut u8,\s*alloc: Global,\s*///.*?\s*pub ghost", source.text):
-            yield f"crates/pie_port/src: a {names[handle]} is not a pointer alone"
+            yield f"crates/pie_link_c/src: a {names[handle]} is not a pointer alone"
     # (after the library's pointer, a port contains the header's pointer)
     yield from same("include/pie_link.h: a pie_port", header.structs.get("pie_port"), [("&mut void", "at"), ("&mut pie_link_shared", "shared")], "here")
     yield from same("include/pie_link.h: a pie_excerpt", header.structs.get("pie_excerpt"), [("&mut void", "at")], "here")
     for name in ("pie_registers", "pie_totals"):
-        yield from same(f"include/pie_link.h: struct {name}", header.structs.get(name), source.structs.get(name), "in crates/pie_port/src")
+        yield from same(f"include/pie_link.h: struct {name}", header.structs.get(name), source.structs.get(name), "in crates/pie_link_c/src")
     most = re.findall(r"const MOST: usize = (\d+);", source.text)
-    yield from same("include/pie_link.h: the most events of a fold", [header.defines.get("PIE_LINK_MOST")], most, "in crates/pie_port/src")
+    yield from same("include/pie_link.h: the most events of a fold", [header.defines.get("PIE_LINK_MOST")], most, "in crates/pie_link_c/src")
     found = {"PIE_" + name: int(number) for name, number in re.findall(r"const ([A-Z_]+): u32 = (\d+);", source.text)}
-    yield from same("include/pie_link.h: codes", header.constants, found, "in crates/pie_port/src")
+    yield from same("include/pie_link.h: codes", header.constants, found, "in crates/pie_link_c/src")
     words = re.findall(r"case (PIE_\w+): return", header.text)
-    yield from same("include/pie_link.h: the codes that have words", sorted(words), sorted(found), "in crates/pie_port/src")
+    yield from same("include/pie_link.h: the codes that have words", sorted(words), sorted(found), "in crates/pie_link_c/src")
     tries = {name[13:] for name in calls if name.startswith("pie_link_try_")}
     waits = set(re.findall(r"static inline uint32_t pie_link_(\w+)\(struct pie_port", header.text)) - {"share", "gather", "close"}
     yield from same("include/pie_link.h: the calls that wait", sorted(waits), sorted(tries), "of those that don't")

@@ -104,7 +104,7 @@ EDITS = [
 
 
 def copied(folder):
-    crates = ("pie_params", "pie_abi", "pie_c", "pie_port", "pie_link_c", "pie_explain")
+    crates = ("pie_params", "pie_abi", "pie_c", "pie_link_c", "pie_explain")
     for name in ("include", "bindings", *(f"crates/{it}/src" for it in crates), "docs"):
         shutil.copytree(ROOT / name, folder / name, ignore=shutil.ignore_patterns("target"))
 

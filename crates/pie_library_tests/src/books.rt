@@ -2,7 +2,7 @@
 ghost use Rattle.std.specs.Prelude.{◌≡◌};
 
 use crate::flushes::Sink;
-use crate::test_numbers::{Seen, begin};
+use crate::report::{Seen, begin};
 use pie_book::{Book, Command, Excerpt, FoldRefusal, Limits, OpenRefusal};
 use pie_excerpt::write_excerpt;
 use pie_link::Arrival;

@@ -122,21 +122,6 @@ fn decide_all<D: Decides>(alloc: Global, place: &mut D) -> u64 {
     sum
 }
 
-/// Returns the opening of a book and a link.
-pub fn opening(limits: Limits, mode: Mode) -> Opening {
-    let usual = Opening::usual(limits, Params::default_profile(), 0);
-    let choices = Choices {
-        mode,
-        ..usual.choices
-    };
-    Opening { choices, ..usual }
-}
-
-/// Opens a book with these limits.
-pub fn open_book(alloc: Global, limits: Limits, mode: Mode) -> Option<Book> {
-    Book::open_with(alloc, opening(limits, mode)).ok()
-}
-
 /// Prints the time of one event.
 fn time<R: Clock + Print, D: Decides>(
     report: &mut Report<R>,
@@ -159,7 +144,12 @@ const LIMITS: Limits = Limits {
 
 /// Prints it of a book.
 fn time_book<R: Clock + Print>(to: &mut Report<R>, alloc: Global, name: &'static str, mode: Mode) {
-    if let Some(mut book) = open_book(alloc, LIMITS, mode) {
+    let usual = Opening::usual(LIMITS, Params::default_profile(), 0);
+    let choices = Choices {
+        mode,
+        ..usual.choices
+    };
+    if let Ok(mut book) = Book::open_with(alloc, Opening { choices, ..usual }) {
         time(to, alloc, name, &mut book);
     }
 }

@@ -4,7 +4,7 @@
 ghost use Rattle.std.specs.Prelude.{◌≡◌, IfOk};
 
 use crate::books::{arrival, arrive, limits};
-use crate::test_numbers::{Seen, begin};
+use crate::report::{Seen, begin};
 use pie_book::{Answer, Command, Excerpt, FoldRefusal, Limits, OpenRefusal, Opening, Refusal};
 use pie_link::{Caller, Link, LinkRefusal, Told, Tried};
 use pie_params::Params;

@@ -3,10 +3,10 @@
 ghost use Rattle.std.specs.Prelude.{◌≡◌, Some};
 ghost use Rattle.pie_lock.specs.Rule.{Represents};
 
-use crate::places::{Place, jobs_at, toil_all};
 use pie_lock::{Counter, CounterEntry, Held, Pass, RuledLock, no_entries, one_entry};
 use std::alloc::Global;
 use std::sync::Wait;
+use std::thread;
 use std::thread::{Threads, sleep};
 use std::time::{Clock, Duration};
 
@@ -16,11 +16,9 @@ const LONG: u64 = 200;
 
 /// A thread at the lock.
 #[derive(Drop)]
-pub(crate) struct AtLock<'a> {
-    pub(crate) lock: &'a RuledLock<Counter>,
-    pub(crate) pass: Pass<Counter>,
-    /// Time for which the lock is held in a turn, in milliseconds.
-    pub(crate) long: u64,
+struct AtLock<'a> {
+    lock: &'a RuledLock<Counter>,
+    pass: Pass<Counter>,
     ghost own: { pass.lock ≡ lock.now },
 }
 
@@ -39,74 +37,52 @@ fn add_one(lock: &RuledLock<Counter>, mut held: Held<Counter>, caller: u16) -> P
     }
 }
 
-/// Waits this many milliseconds.
-fn hold<R: Clock>(rt: &R, long: u64) {
-    if long != 0 {
-        sleep(rt, Duration::from_millis(long));
-    }
+/// Holds the lock for a long time.
+fn hold<R: Clock>(rt: &R) {
+    sleep(rt, Duration::from_millis(LONG));
 }
 
 /// Makes one turn of a thread that waits for the lock.
-fn waiting_turn<R: Wait + Clock>(
-    rt: &R,
-    lock: &RuledLock<Counter>,
-    pass: Pass<Counter>,
-    long: u64,
-) -> Pass<Counter>
+fn waiting_turn<R: Wait + Clock>(rt: &R, lock: &RuledLock<Counter>, pass: Pass<Counter>)
     requires own { pass.lock ≡ lock.now }
-    ensures { result.lock ≡ lock.now }
 {
     let caller = pass.first();
     let (held, due) = lock.take(rt, pass);
-    hold(rt, long);
+    hold(rt);
     let pass = add_one(lock, held, caller);
     lock.wake(&pass, due);
-    pass
 }
 
 /// Makes one turn of a thread. If the lock is free, the turn wakes no thread: sleeping threads have to look again.
-fn turn<R: Wait + Clock>(
-    rt: &R,
-    lock: &RuledLock<Counter>,
-    pass: Pass<Counter>,
-    long: u64,
-) -> Pass<Counter>
-    requires own { pass.lock ≡ lock.now }
-    ensures { result.lock ≡ lock.now }
-{
+fn turn<R: Wait + Clock>(rt: &R, place: AtLock) {
+    let AtLock { lock, pass } = place;
     let caller = pass.first();
     match lock.try_take(pass) {
         Ok(held) => {
-            hold(rt, long);
-            add_one(lock, held, caller)
+            hold(rt);
+            let _ = add_one(lock, held, caller);
         }
-        Err(pass) => waiting_turn(rt, lock, pass, long),
+        Err(pass) => waiting_turn(rt, lock, pass),
     }
 }
 
-impl Place for AtLock<'_> {
-    fn share(&mut self) -> Option<Self> {
-        let (lock, long) = (self.lock, self.long);
-        match lock.share(&mut self.pass) {
-            Ok(pass) => Some(AtLock { lock, pass, long }),
-            Err(_) => None,
+/// Returns this many threads at the lock. (If memory is short, there are fewer.)
+fn threads_at<'a>(alloc: Global, place: &mut AtLock<'a>, threads: u16) -> Vec<AtLock<'a>> {
+    let mut all = Vec::new(alloc);
+    for _ in 0..threads {
+        if let Ok(pass) = place.lock.share(&mut place.pass) {
+            let _ = all.push(AtLock {
+                lock: place.lock,
+                pass,
+            });
         }
     }
-
-    fn call<R: Wait + Clock>(self, rt: &R, _sends: bool, _turn: u64) -> Self {
-        let AtLock { lock, pass, long } = self;
-        let pass = if long == 0 {
-            waiting_turn(rt, lock, pass, long)
-        } else {
-            turn(rt, lock, pass, long)
-        };
-        AtLock { lock, pass, long }
-    }
+    all
 }
 
 /// Returns true if a lock has counted three.
 fn has_three<R: Wait>(rt: &R, place: AtLock) -> bool {
-    let AtLock { lock, pass, .. } = place;
+    let AtLock { lock, pass } = place;
     let (mut held, due) = lock.take(rt, pass);
     let counter = held.state();
     let (count, total) = (counter.count(), counter.total());
@@ -120,10 +96,10 @@ fn has_three<R: Wait>(rt: &R, place: AtLock) -> bool {
 pub(crate) fn all_wake<R: Threads + Wait + Clock + Sync>(rt: &R, alloc: Global) -> bool {
     match RuledLock::new(alloc, Counter::new(), 4) {
         Ok((lock, pass)) => {
-            let (lock, long) = (&lock, LONG);
-            let mut place = AtLock { lock, pass, long };
-            let jobs = jobs_at(alloc, &mut place, 3);
-            toil_all(rt, jobs, 1) & has_three(rt, place)
+            let mut place = AtLock { lock: &lock, pass };
+            let threads = threads_at(alloc, &mut place, 3);
+            let are_done = thread::map_vec(rt, threads, &|place: AtLock| { turn(rt, place) });
+            are_done.is_ok() & has_three(rt, place)
         }
         Err(_) => false,
     }

@@ -1,32 +1,25 @@
-//! `pie_library_tests`: tests of properties that no clause states and no script can observe, and the cost of calls.
+//! `pie_library_tests`: tests of properties that no clause states and no script can observe, and the cost of an event.
 //! Its argument names the part; without an argument it runs all tests.
 //!
 //! `calls` makes calls that may run out of memory, one after another, and prints their answers and effects;
 //! `tests/libraries/refused_memory.py` makes each request for memory of each call fail in turn. `tests` prints
 //! the result of each test, and `sleepers` that of the test whose system calls `bench/pie_lock_calls.sh` counts.
 //! `pace` prints the result of a test for a storm with a thread that starts late.
-//! `book`, `lock` and `link` measure (bench/README.md).
+//! `book` measures (bench/README.md).
 #![tactic(auto)]
 
 mod books;
-mod endless;
 mod event_costs;
 mod flushes;
-mod link_costs;
 mod links;
 mod lock;
-mod lock_costs;
-mod places;
 mod report;
 mod rows;
-mod rules;
 mod storms;
-mod test_numbers;
 mod words;
 
 use crate::flushes::WRITES;
-use crate::report::Report;
-use crate::test_numbers::{print_numbers, say};
+use crate::report::{Report, print_numbers, say};
 use std::alloc::Global;
 use std::rt::Clock;
 use std::sync::Wait;
@@ -62,8 +55,6 @@ fn part<R: Threads + Wait + Clock + Print + Sync>(to: &mut Report<R>, alloc: Glo
         "sleepers" => sleepers(to, alloc),
         "pace" => pace(to, alloc),
         "book" => event_costs::measure(to, alloc),
-        "lock" => lock_costs::measure(to, alloc),
-        "link" => link_costs::measure(to, alloc),
         _ => tests(to, alloc),
     }
 }
@@ -99,7 +90,7 @@ fn tests<R: Threads + Wait + Clock + Print + Sync>(to: &mut Report<R>, alloc: Gl
         say(to, name, writes.reports_its_flush(alloc));
     }
     print_tests!(to:
-        "rules_by_worked_rows" rules::are_worked_rows();
+        "rules_by_worked_rows" rows::are_rules_followed();
         "refusals_in_words" words::refusals_in_words(alloc);
         "the_largest_ring" words::the_largest_ring(alloc);
         "a_core_decides_worked_histories" rows::core_decides(alloc);
@@ -110,7 +101,7 @@ fn tests<R: Threads + Wait + Clock + Print + Sync>(to: &mut Report<R>, alloc: Gl
         "an_explanation_without_memory_is_flushed" flushes::explanations_are_flushed(alloc);
         "runs_end_with_registers_and_statistics" rows::runs_end(alloc);
         "runs_are_bounded_by_records" rows::runs_are_bounded(alloc);
-        "a_history_without_an_end_is_read" endless::lines_come(alloc);
+        "a_history_without_an_end_is_read" rows::lines_come(alloc);
         "a_queue_of_two_packets" rows::queue_is_first_in_first_out(alloc);
         "calls_that_nothing_else_makes" words::calls_that_nothing_else_makes(alloc);
         "a_caller_of_65535_is_answered_and_closes" links::is_answered(to.rt, alloc);

@@ -1,4 +1,5 @@
-//! The output: for each measurement a line with its name, value and unit.
+//! The output: for each call and each test a line with its result, and for each measurement one with its name, value and
+//! unit.
 
 use std::io;
 use std::io::ErrorKind;
@@ -57,11 +58,6 @@ impl<'a, R: Clock + Print> Report<'a, R> {
         }
     }
 
-    /// Returns the number of events per second, if this many occurred since then.
-    pub fn rate(&mut self, start: Option<Instant>, events: u64) -> u128 {
-        u128::from(events) * 1_000_000_000 / self.since(start).max(1)
-    }
-
     /// Prints the nanoseconds since then for each of this many calls, to a tenth.
     pub fn nanos(&mut self, part: &str, name: &str, start: Option<Instant>, calls: u64) {
         let tenths = self.since(start).saturating_mul(10) / u128::from(calls).max(1);
@@ -75,4 +71,42 @@ impl<'a, R: Clock + Print> Report<'a, R> {
         let said = println!(self.rt; "{part}_{name}_checksum {sum} sum");
         self.printed(said);
     }
+}
+
+/// The answer of a call, and two observed numbers, which the test of the call describes.
+#[derive(Clone, Copy)]
+pub(crate) struct Seen(&'static str, u64, u64);
+
+impl Seen {
+    /// The call was not made.
+    pub(crate) const NOTHING: Seen = Seen("not made", 0, 0);
+
+    /// Returns the result of a call that succeeded.
+    pub(crate) fn done(one: u64, other: u64) -> Seen {
+        Seen("done", one, other)
+    }
+
+    /// Returns the result of a call that was refused, for lack of memory or for another reason.
+    pub(crate) fn refused(is_memory: bool, one: u64) -> Seen {
+        Seen(if is_memory { "memory" } else { "refused" }, one, 0)
+    }
+}
+
+/// Prints the name of the next call: it makes all memory requests up to the next line.
+pub(crate) fn begin(rt: &impl Print, name: &str) {
+    let _ = println!(rt; "begin {name}");
+}
+
+/// Prints the result of a call.
+pub(crate) fn print_numbers<R: Clock + Print>(report: &mut Report<R>, name: &str, seen: Seen) {
+    let Seen(answer, one, other) = seen;
+    let said = println!(report.rt; "{name}: {answer}, {one}, {other}");
+    report.printed(said);
+}
+
+/// Prints the name of a test, and `holds` or `fails`.
+pub(crate) fn say<R: Clock + Print>(report: &mut Report<R>, name: &str, holds: bool) {
+    let word = if holds { "holds" } else { "fails" };
+    let said = println!(report.rt; "{name}: {word}");
+    report.printed(said);
 }

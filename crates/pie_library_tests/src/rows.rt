@@ -1,16 +1,19 @@
-//! Worked histories, whose events a core and a book decide again; the numbers of runs; texts without an end; a queue. All numbers were computed by
-//! hand.
+//! Worked rows: histories, whose events a core and a book decide again; the rules over checked numbers; the results of
+//! runs; texts without an end; a queue. All numbers were computed by hand.
 
 use crate::books::packet;
-use crate::endless::{Compared, Endless, departures};
 use pie_book::{Answer, Book, Core, Event, Opening, Profile, Registers, Stats};
-use pie_fixed::Nanos;
-use pie_queue::ByteQueue;
+use pie_control::{Control, delay, next_probability};
+use pie_early::{Choice, Early, Offered};
+use pie_fixed::{Nanos, Prob};
+use pie_params::{Elements, Params, Step};
+use pie_queue::{ByteQueue, Ecn};
+use pie_rate::Rate;
 use pie_record::{Record, Records};
 use pie_trace::{HistoryLines, Line, RunEnd, TraceFault, run_trace, run_trace_within};
 use std::alloc::Global;
 use std::io;
-use std::io::Read;
+use std::io::{Read, Write};
 
 /// One packet comes and leaves, and the next departure finds none.
 const EMPTIED: &[u8] = b"open,0,4,16,100
@@ -351,6 +354,172 @@ pub(crate) fn queue_is_first_in_first_out(alloc: Global) -> bool {
                 && back.is_some_and(|back| back.tag == 3)
                 && first.is_some_and(|first| first.packet.tag == 1 && first.since == since)
                 && queue.bytes() == 200
+        }
+        _ => false,
+    }
+}
+
+// ---- texts without an end
+
+/// Gives a first record with the default parameters, a ring of four packets and an event log of 16 events, and then one record
+/// without end.
+#[derive(Drop)]
+struct Endless {
+    /// The bytes that are left of the record that it gives now.
+    rest: &'static [u8],
+    /// The record that it gives then.
+    again: &'static [u8],
+}
+
+impl Endless {
+    fn of(again: &'static [u8]) -> Endless {
+        let rest = b"open,0,4,16,100\n";
+        Endless { rest, again }
+    }
+}
+
+impl Read for Endless {
+    fn read(&mut self, buf: &mut [u8]) -> io::Result<usize> {
+        if self.rest.is_empty() {
+            self.rest = self.again;
+        }
+        let count = self.rest.len().min(buf.len());
+        buf[..count].copy_from_slice(&self.rest[..count]);
+        self.rest = &self.rest[count..];
+        Ok(count)
+    }
+}
+
+/// A writer that accepts all bytes, and compares them with the expected ones.
+#[derive(Drop)]
+struct Compared<'a> {
+    /// The expected bytes that have not been written yet.
+    rest: &'a [u8],
+    /// True if another byte than the expected one was written.
+    differs: bool,
+}
+
+impl<'a> Compared<'a> {
+    fn with(wanted: &'a [u8]) -> Compared<'a> {
+        Compared {
+            rest: wanted,
+            differs: false,
+        }
+    }
+
+    /// Returns true if exactly the expected bytes were written.
+    fn is_all(&self) -> bool {
+        self.rest.is_empty() && !self.differs
+    }
+}
+
+impl Write for Compared<'_> {
+    fn write(&mut self, buf: &[u8]) -> io::Result<usize> {
+        let seen = buf.len().min(self.rest.len());
+        self.differs |= !self.rest.starts_with(buf);
+        self.rest = &self.rest[seen..];
+        Ok(buf.len())
+    }
+
+    fn flush(&mut self) -> io::Result<()> {
+        Ok(())
+    }
+}
+
+/// Returns the history of 999 departures in a book whose event log has room for 16.
+fn departures(alloc: Global) -> io::Result<String> {
+    let mut history = String::from_str(alloc, "open,0,4,16,100\n")?;
+    for _ in 0..16 {
+        history.push_str("depart,1,1,empty\n")?;
+    }
+    for record in 18..1001 {
+        writeln!(history, "refused,{record},5")?;
+    }
+    Ok(history)
+}
+
+/// Tests that a history without an end has its opening and a thousand events.
+pub(crate) fn lines_come(alloc: Global) -> bool {
+    let Ok((mut lines, opening)) = HistoryLines::open(alloc, Endless::of(b"depart,2,1,empty\n"))
+    else {
+        return false;
+    };
+    for _ in 0..1000 {
+        match lines.next_line() {
+            Ok(Some(Line::Valid(event))) => {
+                if event.caller != 2 || event.answer != Answer::Empty {
+                    return false;
+                }
+            }
+            _ => return false,
+        }
+    }
+    opening.limits.tail == 16
+}
+
+// ---- the rules, which a controller calls over plain numbers alone
+
+/// The size of departures, the bytes that they leave, and their moments: the first opens a cycle, the second closes it after 12 milliseconds and
+/// opens the next, and the third closes that one after 20.
+const DEPARTURES: [(u32, u64, u64); 3] = [
+    (1500, 20_000, 1000),
+    (16_384, 16_384, 12_001_000),
+    (16_384, 0, 32_001_000),
+];
+
+/// Returns true if the average of both cycles is 14 milliseconds, and none is open then.
+fn are_cycles_averaged() -> bool {
+    let mut rate = Rate::cleared();
+    for place in 0..DEPARTURES.len() {
+        let (size, left, moment) = DEPARTURES[place];
+        if let Some(moment) = Nanos::from_units(moment) {
+            rate.departed(size, left, moment, 16_384);
+        }
+    }
+    rate.average() == 14_000_000 && !rate.is_measuring()
+}
+
+/// Returns true if three packets of 16,384 bytes are a delay of 42 milliseconds then, and two updates at 30 lead to
+/// these registers.
+fn are_updates_made(params: &Params, start: Nanos) -> bool {
+    let mut control = Control::opened(params, start);
+    let _ = control.update(params, Elements::usual(), 30_000_000, start);
+    let first = control.prob();
+    let _ = control.update(params, Elements::usual(), 30_000_000, start);
+    let next = next_probability(params, Step::Capped, first, 30_000_000, 30_000_000).units();
+    let is_next = first.units() == 19_226_074
+        && next == 33_874_511
+        && control.prob().units() == next;
+    let are_kept = control.old() == 30_000_000 && control.burst() == 120_000_000;
+    is_next && are_kept && delay(49_152, 14_000_000, params.dq_threshold()) == 42_000_000
+}
+
+/// Returns true if, of arrivals at a probability of a tenth with the greatest word, the 85th is the first that is
+/// dropped.
+fn is_last_dropped(params: &Params, tenth: Prob, start: Nanos) -> bool {
+    let control = Control::from_parts(tenth, 15_000_000, 0, start);
+    let mut early = Early::opened();
+    let offered = Offered {
+        bytes: 3000,
+        size: 1500,
+        ecn: Ecn::NotEct,
+        word: u64::MAX,
+    };
+    for _ in 0..84 {
+        let _ = early.consider(params, Elements::usual(), &control, offered);
+    }
+    let accumulated = early.accu().units();
+    let choice = early.consider(params, Elements::usual(), &control, offered);
+    accumulated == 8_400_000_000_000 && choice == Choice::Drop && early.accu().units() == 0
+}
+
+pub(crate) fn are_rules_followed() -> bool {
+    let params = Params::default_profile();
+    match (Prob::from_units(100_000_000_000), Nanos::from_units(0)) {
+        (Some(tenth), Some(start)) => {
+            are_cycles_averaged()
+                && are_updates_made(&params, start)
+                && is_last_dropped(&params, tenth, start)
         }
         _ => false,
     }

@@ -4,7 +4,6 @@ use Rattle.std.specs.Io.Chain.{chain_remaining}
 use Rattle.std.specs.Io.KnownBytes.{Consumes, Keeps, prepend_known}
 use Rattle.std.specs.Str.{bytes_eq}
 use Rattle.std.specs.declared.io.Error.{Error}
-use Rattle.std.specs.declared.io.traits.Chain.{Chain}
 use Rattle.pie_commands.specs.declared.head.Head.{Head}
 use Rattle.pie_commands.specs.declared.progress.ProgressReader.{ProgressReader}
 
@@ -33,10 +32,6 @@ with_other first (Some byte) = first ++ byte ∷ []
 abbrev pub head_bytes : Head → List ℕ
 head_bytes head = with_other head.header.now head.other
 
--- the inner reader, after the bytes that were read to recognize the text
-abbrev pub inner_of : {R W C : Type 0} → ProgressReader R W C → Chain Head R
-inner_of watched = watched.inner
-
 -- the bytes that the reader will return, if they are known
-abbrev pub remaining_of : {R W C : Type 0} → (R → Option (List ℕ)) → ProgressReader R W C → Option (List ℕ)
+abbrev pub remaining_of : {R : Type 0} → (R → Option (List ℕ)) → ProgressReader R → Option (List ℕ)
 remaining_of remaining watched = chain_remaining (λ head. Some (head_bytes head)) remaining watched.inner

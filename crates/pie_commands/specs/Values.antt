@@ -5,10 +5,9 @@ use Rattle.std.specs.Result.{result_ok}
 use Rattle.std.specs.Str.{bytes_eq}
 use Rattle.std.specs.Str.Parse.{digits_value, without_leading_plus}
 use Rattle.clap.specs.ValueTests.{accepts}
-use Rattle.clap.specs.Words.{Row, Text, one_of}
+use Rattle.clap.specs.Words.{Row, Text, first_of, one_of}
 use Rattle.clap.specs.declared.builder.value_parser.ValueParser.TheVariants.{Unsigned}
 use Rattle.pie_units.specs.Time.{moment_in, when_in}
-use Rattle.pie_units.specs.declared.utc.Moment.{Moment}
 use Rattle.pie_units.specs.declared.utc.MomentFault.{MomentFault}
 use Rattle.pie_units.specs.declared.utc.When.{When}
 use Rattle.pie_units.specs.declared.utc.When.TheVariants as when
@@ -26,7 +25,7 @@ number_given name options = option_and_then number_of (one_of name options)
 
 -- true if an option without a value is present
 abbrev pub flag_given : Text → List Row → Bool
-flag_given name options = option_map_or (λ text. bytes_eq text (codes "true")) (one_of name options) false
+flag_given name options = option_map_or (λ text. bytes_eq text (codes "true")) (first_of name options) false
 
 -- the number in an option's value, or `unnamed` without the option; clamped to its range, though `clap` refuses a number out of it
 abbrev pub number_or : Text → ℕ → ℕ → ℕ → List Row → ℕ
@@ -34,19 +33,13 @@ number_or name least most unnamed options = max least (min (unwrap_or (number_gi
 
 -- ---- moments
 
--- the nanoseconds of a moment that was read, if there was one
-abbrev pub units_of : Result (Option Moment) MomentFault → Result (Option ℕ) MomentFault
-units_of (Ok None) = Ok None
-units_of (Ok (Some moment)) = Ok (Some moment.0)
-units_of (Err why) = Err why
-
 -- the moment in an option's value
 abbrev pub moment_given : Text → List Row → Result (Option ℕ) MomentFault
-moment_given name options = option_transpose (option_map moment_in (one_of name options))
+moment_given name options = option_transpose (option_map moment_in (first_of name options))
 
 -- the bound in an option's value
 abbrev pub bound_given : Text → List Row → Result (Option When) WhenFault
-bound_given name options = option_transpose (option_map when_in (one_of name options))
+bound_given name options = option_transpose (option_map when_in (first_of name options))
 
 -- true unless both bounds are given, are of the same kind, moments or wall-clock times, and the first is after the last
 abbrev pub in_order : Option When → Option When → Bool

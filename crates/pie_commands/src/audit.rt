@@ -3,206 +3,189 @@
 use crate::audit_json::write_object;
 use crate::call::Call;
 use crate::difference::{Details, details_of, write_details};
-use crate::end::{End, end_with_fault};
-use crate::files::{NamedFiles, Source, open_text};
+use crate::end::End;
+use crate::files::{Output, Source};
 use crate::joint::report_joint;
-use crate::name::InLine;
+use crate::line::Part::{Name, Number, Text};
+use crate::line::{lead, say, say_parts, say_text, write_parts};
 use crate::options::{flag, text};
-use crate::progress::{ProgressReader, Screen, shows_progress};
-use crate::steps::{NoQueue, QUEUE_OF_STEPS, audit_steps, finding_of, lacks_queue};
+use crate::progress::ProgressReader;
+use crate::steps::{audit_steps, lacks_queue, report_differences, report_lost};
 use pie_audit::Finding;
 use pie_cut::{Joined, Joint, TextEnd, UnlikeRecords, audit_joined};
-use pie_linux_history::{Differences, StepsAudit, StepsFinding};
+use pie_linux_history::{Differences, StepsFinding};
 use pie_trace::TraceFault;
 use std::io;
-use std::io::{Read, Write};
-
-/// The message for recorded steps of Linux that are to be joined.
-const NOT_JOINED: &str = "--joined is not for a text of pie-watch";
+use std::io::Write;
 
 /// The result of an audit of a text.
 #[derive(Drop)]
 pub(crate) struct Audited {
     pub(crate) joined: Joined,
-    /// The finding of recorded steps of Linux.
-    pub(crate) steps: Option<StepsFinding>,
-    /// The differences of recorded steps of Linux.
-    pub(crate) differences: Option<Differences>,
+    /// The finding of recorded steps of Linux, and the steps that differ.
+    pub(crate) steps: Option<(StepsFinding, Differences)>,
     /// The records that differ at a joint.
     unlike: Option<UnlikeRecords>,
 }
 
-/// Returns the result of an audit of recorded steps of the chosen `queue` in the file `name`, if it has a name, as `audit_text` does.
-fn audited_steps<H: NamedFiles + Screen, R: Read + Drop, E: Write>(
-    call: &mut Call<'_, '_, '_, '_, H, R, E>,
-    name: Option<&str>,
-    queue: Option<&str>,
-    audit: StepsAudit,
+/// Audits recorded steps in the file `name`, if it has a name, as `audit_text` does.
+fn audit_of_steps<'w>(
+    call: &Call<'_, 'w>,
+    name: Option<&'w str>,
+    watched: ProgressReader<'_, Source<'_>>,
 ) -> Result<Audited, End> {
-    match (audit.finding, queue) {
-        (Ok(found), Some(chosen)) if lacks_queue(queue, found) => {
-            call.line(name, NoQueue(chosen));
-            Err(End::Failed)
+    let queue = text(call.options, "queue");
+    let audit = audit_steps(call.alloc, watched, queue);
+    let found = match audit.finding {
+        Ok(found) => found,
+        Err(why) => {
+            report_differences(call.errors, name, &audit.differences, 0);
+            return Err(call.end_of_steps(name, name, why));
         }
-        (Ok(found), _) => Ok(Audited {
-            joined: Joined {
-                finding: finding_of(found),
-                joint: None,
-            },
-            steps: Some(found),
-            differences: Some(audit.differences),
-            unlike: None,
-        }),
-        (Err(why), _) => {
-            call.report_differences(name, &audit.differences, 0);
-            Err(call.end_of_steps(name, name, why))
-        }
+    };
+    if let Some(chosen) = queue
+        && lacks_queue(queue, found)
+    {
+        let [file, colon] = lead(name);
+        let lacks = Text("the text has no queue ");
+        return Err(call.failed(&[file, colon, lacks, Name(chosen)]));
     }
+    let finding = match found {
+        StepsFinding::Clean(counts) => Finding::Clean {
+            events: counts.events,
+        },
+        StepsFinding::Differs { first, .. } => Finding::Differs { event: first.event },
+    };
+    Ok(Audited {
+        joined: Joined {
+            finding,
+            joint: None,
+        },
+        steps: Some((found, audit.differences)),
+        unlike: None,
+    })
 }
 
-/// Audits a text of either kind in the file `name`, if it has a name. With `--joined` also compares its beginning
-/// with `end`, the end of the text before it, and stores the end of this text in `end`. If the text can't be audited, writes
-/// a line to the error stream, and returns the end.
-fn audit_text<H: NamedFiles + Screen, R: Read + Drop, E: Write>(
-    call: &mut Call<'_, '_, '_, '_, H, R, E>,
+/// Audits a history in the file `name`, if it has a name, as `audit_text` does.
+fn audit_history(
+    call: &Call<'_, '_>,
     name: Option<&str>,
-    reader: Source<R, H::File>,
+    watched: ProgressReader<'_, Source<'_>>,
     end: &mut Option<TextEnd>,
 ) -> Result<Audited, End> {
-    let (rt, alloc, are_joined) = (call.rt, call.alloc, flag(call.options, "joined"));
-    let queue = text(call.options, "queue");
-    let is_shown = shows_progress(rt, call.options, false);
-    let (watched, kind) = ProgressReader::recognizing(reader, &mut *call.errors, rt, is_shown);
-    match kind {
-        Ok(false) if queue.is_none() => {}
-        Ok(true) if !are_joined => {
-            *end = None;
-            let audit = audit_steps(alloc, watched, queue);
-            return audited_steps(call, name, queue, audit);
-        }
-        Ok(is_steps) => {
-            drop(watched);
-            *end = None;
-            call.line(name, if is_steps { NOT_JOINED } else { QUEUE_OF_STEPS });
-            return Err(End::Failed);
-        }
-        Err(why) => {
-            drop(watched);
-            *end = None;
-            return Err(call.end_of_text(name, name, why));
-        }
-    }
     let mut unlike = None;
-    let found = if are_joined {
-        audit_joined(alloc, watched, end, &mut unlike)
+    let found = if flag(call.options, "joined") {
+        audit_joined(call.alloc, watched, end, &mut unlike)
     } else {
-        joined_of(pie_audit::audit(alloc, watched))
+        match pie_audit::audit(call.alloc, watched) {
+            Ok(finding) => Ok(Joined {
+                finding,
+                joint: None,
+            }),
+            Err(why) => Err(why),
+        }
     };
     match found {
         Ok(joined) => Ok(Audited {
             joined,
             steps: None,
-            differences: None,
             unlike,
         }),
         Err(why) => Err(call.end_of_text(name, name, why)),
     }
 }
 
-/// Returns the result of an audit, without a joint.
-fn joined_of(found: Result<Finding, TraceFault>) -> Result<Joined, TraceFault> {
-    match found {
-        Ok(finding) => Ok(Joined {
-            finding,
-            joint: None,
-        }),
-        Err(why) => Err(why),
-    }
-}
-
-/// Audits the text in the file `name`, or in standard input without a name, as `audit_text` does.
+/// Audits a text of either kind in the file `name`, or in standard input without a name. With `--joined` also compares its
+/// beginning with `end`, the end of the text before it, and stores the end of this text in `end`. If the text can't be audited,
+/// writes a line to the error stream, and returns the end.
 #[inline(never)]
-fn audit_named<H: NamedFiles + Screen, R: Read + Drop, E: Write>(
-    call: &mut Call<'_, '_, '_, '_, H, R, E>,
-    name: Option<&str>,
+fn audit_text<'w>(
+    call: &Call<'_, 'w>,
+    name: Option<&'w str>,
     end: &mut Option<TextEnd>,
 ) -> Result<Audited, End> {
-    match open_text(call.rt, name, &mut call.input, call.errors) {
-        Some(text) => audit_text(call, name, text, end),
-        None => {
-            *end = None;
-            Err(End::Unopened)
+    let (watched, is_steps) = match call.open_either(name, name, false) {
+        Ok(opened) => opened,
+        Err(end) => return Err(end),
+    };
+    let has_queue = text(call.options, "queue").is_some();
+    match (is_steps, has_queue, flag(call.options, "joined")) {
+        (false, false, _) => audit_history(call, name, watched, end),
+        (true, _, false) => audit_of_steps(call, name, watched),
+        _ => {
+            drop(watched);
+            let [file, colon] = lead(name);
+            let why = if is_steps {
+                "--joined is not for a text of pie-watch"
+            } else {
+                "--queue is only for a text of pie-watch"
+            };
+            Err(call.failed(&[file, colon, Text(why)]))
         }
     }
 }
 
 /// Writes the lines of a result, each after the name of the file if there is one, and flushes the writer.
-fn write_lines<W: Write>(name: Option<&str>, joined: Joined, output: &mut W) -> io::Result<()> {
-    write_name(name, output)?;
-    let written = match joined.finding {
-        Finding::Clean { events } => writeln!(output, "clean,{events}"),
-        Finding::Differs { event } => writeln!(output, "differs,{event}"),
+fn write_lines(name: Option<&str>, joined: Joined, output: &mut Output) -> io::Result<()> {
+    let [file, colon] = lead(name);
+    let (finding, number) = match joined.finding {
+        Finding::Clean { events } => (Text("clean,"), Number(events)),
+        Finding::Differs { event } => (Text("differs,"), Number(event)),
     };
-    written?;
-    if let Some(joint) = joined.joint {
-        write_name(name, output)?;
-        let written = match joint {
-            Joint::Follows => writeln!(output, "follows"),
-            Joint::Gap { last, first } => writeln!(output, "gap,{last},{first}"),
-            Joint::Unlike { last, .. } => writeln!(output, "unlike,{last}"),
-        };
-        written?;
-    }
+    write_parts(output, &[file, colon, finding, number, Text("\n")])?;
+    let (none, comma) = (Text(""), Text(","));
+    let joint = match joined.joint {
+        None => return output.flush(),
+        Some(Joint::Follows) => [Text("follows"), none, none, none],
+        Some(Joint::Gap { last, first }) => { [Text("gap,"), Number(last), comma, Number(first)] }
+        Some(Joint::Unlike { last, .. }) => { [Text("unlike,"), Number(last), none, none] }
+    };
+    write_parts(output, &[file, colon])?;
+    write_parts(output, &joint)?;
+    output.write_all(b"\n")?;
     output.flush()
-}
-
-/// Writes the name of a file, if there is one, and a colon.
-fn write_name<W: Write>(name: Option<&str>, output: &mut W) -> io::Result<()> {
-    match name {
-        Some(name) => write!(output, "{}: ", InLine(name)),
-        None => Ok(()),
-    }
 }
 
 /// Writes the lines on the error stream about a result: the event that differs with its `details`, the numbers of lost steps,
 /// or the joint that does not fit.
-fn report<H: NamedFiles + Screen, R: Read + Drop, E: Write>(
-    call: &mut Call<'_, '_, '_, '_, H, R, E>,
-    name: Option<&str>,
-    audited: &Audited,
+fn report<'r>(
+    call: &Call<'_, '_>,
+    name: Option<&'r str>,
+    audited: &'r Audited,
     details: &Option<Details>,
 ) {
-    match (audited.steps, &audited.differences) {
-        (Some(StepsFinding::Clean(counts)), _) => {
-            call.report_lost(name, counts);
+    match &audited.steps {
+        Some((StepsFinding::Clean(counts), _)) => {
+            report_lost(call.errors, name, *counts);
             if counts.steps == 0 && counts.lost == 0 {
-                call.line(name, "no step was recorded");
+                let [file, colon] = lead(name);
+                say(call.errors, &[file, colon, Text("no step was recorded")]);
             }
         }
-        (Some(StepsFinding::Differs { first, .. }), Some(found)) => {
-            call.line(name, first);
-            call.report_differences(name, found, 1);
+        Some((StepsFinding::Differs { first, .. }, found)) => {
+            say_text(call.errors, &lead(name), *first);
+            report_differences(call.errors, name, found, 1);
         }
-        _ => {}
+        None => {}
     }
     let Some(name) = name else {
         return;
     };
     if let Some(details) = details {
-        write_details(call.alloc, name, details, false, call.errors);
+        write_details(call, name, details);
     }
     report_joint(call.errors, name, audited.joined, &audited.unlike);
 }
 
 /// Writes the result of an audit, and the lines about it. Returns the end of the text.
-fn end_of_audited<H: NamedFiles + Screen, R: Read + Drop, W: Write, E: Write>(
-    call: &mut Call<'_, '_, '_, '_, H, R, E>,
-    name: Option<&str>,
-    audited: &Audited,
-    output: &mut W,
+fn end_of_audited<'r>(
+    call: &Call<'_, '_>,
+    name: Option<&'r str>,
+    audited: &'r Audited,
+    output: &mut Output,
 ) -> End {
-    let details = match (audited.joined.finding, audited.steps, name) {
-        (Finding::Differs { event }, None, Some(name)) => { details_of(call, name, event) }
+    let details = match (audited.joined.finding, &audited.steps, name) {
+        (Finding::Differs { event }, None, Some(name)) => details_of(call, name, event),
         _ => None,
     };
     let written = if flag(call.options, "json") {
@@ -211,7 +194,7 @@ fn end_of_audited<H: NamedFiles + Screen, R: Read + Drop, W: Write, E: Write>(
         write_lines(name, audited.joined, output)
     };
     if written.is_err() {
-        return end_with_fault(call.errors, TraceFault::Write);
+        return End::Fault(TraceFault::Write);
     }
     report(call, name, audited, &details);
     match (audited.joined.finding, audited.joined.joint) {
@@ -229,23 +212,39 @@ fn worse(one: End, other: End) -> End {
     }
 }
 
+/// Audits the text in the file `name`, and writes the result. `is_read` is true if standard input was already read.
+fn audit_named<'w>(
+    call: &Call<'_, 'w>,
+    name: Option<&'w str>,
+    is_read: bool,
+    last: &mut Option<TextEnd>,
+    output: &mut Output,
+) -> End {
+    if is_read && name == Some("-") {
+        say_parts! { call.errors; Text("-: standard input has already been read") };
+        *last = None;
+        return End::Unopened;
+    }
+    match audit_text(call, name, last) {
+        Ok(audited) => end_of_audited(call, name, &audited, output),
+        Err(end) => {
+            *last = None;
+            end
+        }
+    }
+}
+
 /// `pie audit`: audits the files that the options name, each in turn, or standard input if they name none, and writes the finding of
 /// each. With `--joined` they are the files of one history, in its order; then it also writes the joint of a file with the
 /// file before it, if that file was clean. Returns the worst end of all files; a joint that does not fit counts as a
 /// difference. If a line can't be written, returns the writer's fault.
-pub(crate) fn audit<H: NamedFiles + Screen, R: Read + Drop, W: Write, E: Write>(
-    call: &mut Call<'_, '_, '_, '_, H, R, E>,
-    output: &mut W,
-) -> End {
+pub(crate) fn audit(call: &Call<'_, '_>, output: &mut Output) -> End {
     let mut last: Option<TextEnd> = None;
     let names = call.options.get_strs("file").unwrap_or(&[]);
     let mut worst = End::Done;
     for place in 0..names.len().max(1) {
-        let name = names.get(place).copied();
-        let end = match audit_named(call, name, &mut last) {
-            Ok(audited) => end_of_audited(call, name, &audited, output),
-            Err(end) => end,
-        };
+        let (name, is_read) = (names.get(place).copied(), names[..place].contains(&"-"));
+        let end = audit_named(call, name, is_read, &mut last, output);
         if names.is_empty() || matches!(end, End::Fault(TraceFault::Write)) {
             drop(last);
             return end;

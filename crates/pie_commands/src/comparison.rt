@@ -1,13 +1,17 @@
 //! The comparison of a history with its control and with the other history of `pie what-if`, by the numbers of their
 //! summaries.
 
+use crate::call::Call;
 use crate::explain::explain_by;
+use crate::files::Output;
 use crate::json::JsonWriter;
+use crate::line::Part::{Number, Text, Wide};
+use crate::line::{put_parts, write_parts};
+use itoa::Buffer;
 use pie_explain::{EventChoice, ExplainFault, Form, Selection, SummariesOnly};
 use pie_trace::{Omitted, TraceFault};
-use std::alloc::{AllocError, Global};
+use std::alloc::Global;
 use std::io;
-use std::io::Write;
 
 /// The first line of a comparison.
 pub(crate) const NO_REACTION: &str =
@@ -22,10 +26,12 @@ last_turned_on first_turned_off last_turned_off wait_99 last_target last_burst_a
 const PROBABILITIES: &str = "greatest_probability last_probability";
 
 /// The text in words after the line with the events that are compared.
-const MEANINGS: &str = "control: their commands after a record params with the unchanged parameters
+const MEANINGS: &str = "
+control: their commands after a record params with the unchanged parameters
 other: their commands after this record with the parameters of the options
 difference: other - control, the effect of the parameters
-field                              recorded           control             other         difference";
+field                              recorded           control             other         difference
+";
 
 /// A column of a comparison: the events of `text` after the event with the number `after`. The text omits commands of
 /// the history.
@@ -44,6 +50,16 @@ pub(crate) enum Table {
     Json,
 }
 
+/// The texts around the name and the numbers of a field, as an object of JSON.
+const JSON: [&str; 6] = [
+    "{\"field\":\"",
+    "\",\"recorded\":",
+    ",\"control\":",
+    ",\"other\":",
+    ",\"difference\":",
+    "}\n",
+];
+
 /// Returns the fault of a text whose output is collected in memory: a failed write is a lack of memory.
 pub(crate) fn fault_in_memory(why: TraceFault) -> TraceFault {
     match why {
@@ -54,13 +70,13 @@ pub(crate) fn fault_in_memory(why: TraceFault) -> TraceFault {
 
 /// Adds the summary of the events of a column to a text, as two lines of CSV: a header and a record. Nothing is written to
 /// `output`.
-fn add_summary<W: Write>(
-    alloc: Global,
+fn add_summary(
+    call: &Call<'_, '_>,
     column: &Column<'_>,
-    output: &mut W,
+    output: &mut Output,
     summaries: &mut Vec<u8>,
 ) -> Result<(), ExplainFault> {
-    let mut written = JsonWriter::new(alloc, output, false, usize::MAX);
+    let mut written = JsonWriter::new(call.alloc, output, false, usize::MAX);
     let selection = Selection::of(EventChoice::After(column.after));
     let form = Form {
         csv: true,
@@ -71,7 +87,8 @@ fn add_summary<W: Write>(
         every: None,
         style: None,
     };
-    let outcome = explain_by(alloc, column.text, &mut written, selection, sums);
+    let reader = call.reader_of(column.text);
+    let outcome = explain_by(call.alloc, reader, &mut written, selection, sums);
     let written = written.into_withheld();
     let is_added = summaries.extend_from_slice(&written).is_ok();
     match outcome {
@@ -82,58 +99,61 @@ fn add_summary<W: Write>(
     }
 }
 
-/// Returns the line of the summaries at this place.
-fn line_of(summaries: &[u8], place: usize) -> &str {
-    let text = std::str::from_utf8(summaries).unwrap_or("");
-    text.split('\n').nth(place).unwrap_or("")
-}
-
 /// Returns true if the text has this word.
 fn has_word(text: &str, word: &str) -> bool {
-    for known in text.split(' ') {
-        if known == word {
-            return true;
-        }
-    }
-    false
+    text.split(' ').any(|known| known == word)
 }
 
-/// Returns a number with this sign: as a time in milliseconds, a probability in per cent, rounded down, or a count, by the
-/// name of its field.
-fn cell_of(alloc: Global, name: &str, sign: &str, number: u128) -> Result<String, AllocError> {
-    if has_word(TIMES, name) {
-        let (whole, rest) = (number / 1_000_000, number % 1_000_000);
-        return format!(in alloc; "{sign}{whole}.{rest:06} ms");
+/// Adds spaces to a page: as many as a text of this length lacks in a column of this width.
+fn pad(page: &mut Vec<u8>, length: usize, width: usize) -> io::Result<()> {
+    for _ in length..width {
+        page.push(b' ')?;
     }
-    if has_word(PROBABILITIES, name) {
-        let (whole, rest) = (number / 10_000_000_000, number % 10_000_000_000 / 1_000_000);
-        return format!(in alloc; "{sign}{whole}.{rest:04} %");
-    }
-    format!(in alloc; "{sign}{number}")
+    Ok(())
 }
 
-/// Writes a cell after a space, in a column of this width, or in no column if it is 0.
-fn write_cell<W: Write>(
+/// Adds a cell after a space, at the end of a column of this width: a number with this sign, as a time in milliseconds, a
+/// probability in per cent, rounded down, or a count, by the name of its field.
+fn add_cell(
     alloc: Global,
-    output: &mut W,
+    page: &mut Vec<u8>,
     name: &str,
     sign: &str,
     number: u128,
     width: usize,
 ) -> io::Result<()> {
-    let text = cell_of(alloc, name, sign, number)?;
-    match width {
-        0 => write!(output, " {text}"),
-        17 => write!(output, " {text:>17}"),
-        _ => write!(output, " {text:>18}"),
+    // (the decimals follow a 1)
+    let (scale, decimals, unit) = if has_word(TIMES, name) {
+        (1_000_000, 1_000_000 + number % 1_000_000, " ms")
+    } else if has_word(PROBABILITIES, name) {
+        (
+            10_000_000_000,
+            10_000 + number % 10_000_000_000 / 1_000_000,
+            " %",
+        )
+    } else {
+        (1, 1, "")
+    };
+    let mut digits = Buffer::new();
+    let decimals = digits.format(decimals).as_bytes();
+    let mut cell = Vec::new(alloc);
+    write_parts(&mut cell, &[Text(sign), Wide(number / scale)])?;
+    if decimals.len() > 1 {
+        cell.push(b'.')?;
+        cell.extend_from_slice(&decimals[1..])?;
     }
+    cell.extend_from_slice(unit.as_bytes())?;
+    page.push(b' ')?;
+    pad(page, cell.len(), width)?;
+    page.extend_from_slice(&cell)?;
+    Ok(())
 }
 
-/// Writes the line of a field: its name, its numbers (recorded, control, other), and the difference of the other history and
+/// Adds the line of a field: its name, its numbers (recorded, control, other), and the difference of the other history and
 /// the control. In words there is no line if all numbers are 0.
-fn write_line<W: Write>(
+fn add_line(
     alloc: Global,
-    output: &mut W,
+    page: &mut Vec<u8>,
     table: Table,
     name: &str,
     numbers: [u128; 3],
@@ -142,46 +162,48 @@ fn write_line<W: Write>(
     let difference = control.abs_diff(other);
     let minus = if other < control { "-" } else { "" };
     let plus = if control < other { "+" } else { minus };
-    match table {
+    let (texts, sign) = match table {
         Table::Words => {
             if recorded == 0 && control == 0 && other == 0 {
                 return Ok(());
             }
-            write!(output, "{name:<25}")?;
+            page.extend_from_slice(name.as_bytes())?;
+            pad(page, name.len(), 25)?;
             for number in numbers {
-                write_cell(alloc, output, name, "", number, 17)?;
+                add_cell(alloc, page, name, "", number, 17)?;
             }
-            write_cell(alloc, output, name, plus, difference, 18)?;
-            output.write_all(b"\n")
+            add_cell(alloc, page, name, plus, difference, 18)?;
+            return Ok(page.push(b'\n')?);
         }
-        Table::Csv => writeln!(
-            output,
-            "{name},{recorded},{control},{other},{plus}{difference}"
-        ),
-        Table::Json => writeln!(
-            output,
-            "{{\"field\":\"{name}\",\"recorded\":{recorded},\"control\":{control},\"other\":{other},\"difference\":{minus}{difference}}}"
-        ),
+        Table::Csv => (["", ",", ",", ",", ",", "\n"], plus),
+        Table::Json => (JSON, minus),
+    };
+    let [begin, first, second, third, fourth, end] = texts;
+    put_parts! { page;
+        Text(begin), Text(name), Text(first), Wide(recorded), Text(second), Wide(control), Text(third), Wide(other),
+        Text(fourth), Text(sign), Wide(difference), Text(end)
     }
 }
 
-/// Writes the head of a comparison: in words its assumption and the meaning of each column. `before` is the number of
+/// Adds the head of a comparison: in words its assumption and the meaning of each column. `before` is the number of
 /// events that all columns leave out.
-fn write_head<W: Write>(output: &mut W, table: Table, before: u64) -> io::Result<()> {
+fn add_head(page: &mut Vec<u8>, table: Table, before: u64) -> io::Result<()> {
     match table {
-        Table::Words => writeln!(
-            output,
-            "{NO_REACTION}\nrecorded: the events of the history after event {before}\n{MEANINGS}"
-        ),
-        Table::Csv => writeln!(output, "field,recorded,control,other,difference"),
+        Table::Words => {
+            put_parts! { page;
+                Text(NO_REACTION), Text("\nrecorded: the events of the history after event "), Number(before),
+                Text(MEANINGS)
+            }
+        }
+        Table::Csv => write_parts(page, &[Text("field,recorded,control,other,difference\n")]),
         Table::Json => Ok(()),
     }
 }
 
-/// Writes the lines for the commands of each kind that the histories omit.
-fn write_omitted<W: Write>(
+/// Adds the lines for the commands of each kind that the histories omit.
+fn add_omitted(
     alloc: Global,
-    output: &mut W,
+    page: &mut Vec<u8>,
     table: Table,
     control: Omitted,
     other: Omitted,
@@ -195,7 +217,7 @@ fn write_omitted<W: Write>(
     ];
     for (name, control, other) in kinds {
         let numbers = [0, u128::from(control), u128::from(other)];
-        write_line(alloc, output, table, name, numbers)?;
+        add_line(alloc, page, table, name, numbers)?;
     }
     Ok(())
 }
@@ -205,20 +227,19 @@ fn number_of(field: Option<&str>) -> u128 {
     field.unwrap_or("").parse().unwrap_or(0)
 }
 
-/// Writes the lines of all fields of the summaries, whose header is `names`. Returns the targets at the end.
-fn write_fields<W: Write>(
+/// Adds the lines of all fields of the summaries, a header and a record for each column. Returns the targets at the end.
+fn add_fields(
     alloc: Global,
-    output: &mut W,
+    page: &mut Vec<u8>,
     table: Table,
-    names: &str,
-    records: [&str; 3],
+    summaries: &[u8],
 ) -> io::Result<[u128; 3]> {
-    let [recorded, control, other] = records;
-    let (mut recorded, mut control, mut other) = (
-        recorded.split(','),
-        control.split(','),
-        other.split(','),
-    );
+    let text = std::str::from_utf8(summaries).unwrap_or("");
+    let mut lines = text.split('\n');
+    let names = lines.next().unwrap_or("");
+    let mut recorded = lines.next().unwrap_or("").split(',');
+    let mut control = lines.nth(1).unwrap_or("").split(',');
+    let mut other = lines.nth(1).unwrap_or("").split(',');
     let mut targets = [0; 3];
     for name in names.split(',') {
         let numbers = [
@@ -229,7 +250,7 @@ fn write_fields<W: Write>(
         if name == "last_target" {
             targets = numbers;
         }
-        write_line(alloc, output, table, name, numbers)?;
+        add_line(alloc, page, table, name, numbers)?;
     }
     Ok(targets)
 }
@@ -240,60 +261,51 @@ fn write_fields<W: Write>(
 /// # Errors
 ///
 /// Returns the fault of an explanation; `Trace` with `Memory` if memory is short.
-pub(crate) fn comparison<W: Write>(
-    alloc: Global,
+pub(crate) fn comparison(
+    call: &Call<'_, '_>,
     columns: [Column<'_>; 3],
     table: Table,
-    output: &mut W,
+    output: &mut Output,
     page: &mut Vec<u8>,
 ) -> Result<(), ExplainFault> {
-    let mut summaries = Vec::new(alloc);
+    let mut summaries = Vec::new(call.alloc);
     let mut outcome = Ok(());
     for column in &columns {
         if outcome.is_ok() {
-            outcome = add_summary(alloc, column, output, &mut summaries);
+            outcome = add_summary(call, column, output, &mut summaries);
         }
     }
-    let names = line_of(&summaries, 0);
-    let records = [
-        line_of(&summaries, 1),
-        line_of(&summaries, 3),
-        line_of(&summaries, 5),
-    ];
     let is_written = outcome.is_ok()
-        && write_page(alloc, page, table, names, records, &columns).is_ok();
+        && write_page(call.alloc, page, table, &summaries, &columns).is_ok();
     match outcome {
         Ok(()) if !is_written => Err(ExplainFault::Trace(TraceFault::Memory)),
         _ => outcome,
     }
 }
 
-/// Writes a comparison of these records of summaries.
-fn write_page<W: Write>(
+/// Writes a comparison of these summaries.
+fn write_page(
     alloc: Global,
-    output: &mut W,
+    page: &mut Vec<u8>,
     table: Table,
-    names: &str,
-    records: [&str; 3],
+    summaries: &[u8],
     columns: &[Column<'_>; 3],
 ) -> io::Result<()> {
     let [recorded, control, other] = *columns;
-    write_head(output, table, recorded.after)?;
-    let targets = write_fields(alloc, output, table, names, records)?;
-    write_omitted(alloc, output, table, control.omitted, other.omitted)?;
-    match table {
-        Table::Words => {
-            let leads = [
-                "above_target: above the target of the column, at its end",
-                ",",
-                " and",
-            ];
-            for place in 0..3 {
-                output.write_all(leads[place].as_bytes())?;
-                write_cell(alloc, output, "last_target", "", targets[place], 0)?;
-            }
-            output.write_all(b"\n")
+    add_head(page, table, recorded.after)?;
+    let targets = add_fields(alloc, page, table, summaries)?;
+    add_omitted(alloc, page, table, control.omitted, other.omitted)?;
+    if matches!(table, Table::Words) {
+        let leads = [
+            "above_target: above the target of the column, at its end",
+            ",",
+            " and",
+        ];
+        for place in 0..3 {
+            page.extend_from_slice(leads[place].as_bytes())?;
+            add_cell(alloc, page, "last_target", "", targets[place], 0)?;
         }
-        Table::Csv | Table::Json => Ok(()),
+        page.push(b'\n')?;
     }
+    Ok(())
 }

@@ -4,18 +4,18 @@ ghost use Rattle.clap.specs.Words.{found_of, rows_of};
 ghost use Rattle.pie_commands.specs.Cuts.{HasSome, chosen, pieces_of, moment_bound, step_pieces_of, within};
 
 use crate::call::Call;
-use crate::end::{End, fault};
-use crate::files::{NamedFiles, Source, open_text};
+use crate::end::End;
+use crate::files::{Output, Source};
+use crate::line::Part::{Number, Text};
+use crate::line::{parts, say};
 use crate::options::{bounds_of, file, number, report_two};
-use crate::progress::{ProgressReader, Screen, shows_progress};
+use crate::progress::ProgressReader;
 use crate::steps::cut_steps;
 use clap::ArgMatches;
 use pie_cut::{CutFault, Span, cut_every, last_number};
 use pie_linux_history::{RowSpan, StepPieces, StepsFault, StepsFinding, count_rows};
-use pie_trace::TraceFault;
 use pie_units::When;
-use std::alloc::Global;
-use std::io::{Read, Write};
+use std::io::Stderr;
 
 /// The pieces to cut out of a text.
 #[derive(Clone, Copy)]
@@ -73,7 +73,7 @@ fn chosen(
 
 /// Returns the pieces of these options. If they are not valid together, writes lines to `errors` and returns `None`.
 #[tactic(auto, unfolding(crate::specs::Cuts::pieces_of))]
-fn pieces_of<E: Write>(options: &ArgMatches<'_>, errors: &mut E) -> Option<Pieces>
+fn pieces_of(options: &ArgMatches<'_>, errors: Stderr) -> Option<Pieces>
     ensures chosen { result ≡ pieces_of (rows_of (found_of options.now)) }
     ensures some { IfSome result HasSome }
 {
@@ -82,7 +82,7 @@ fn pieces_of<E: Write>(options: &ArgMatches<'_>, errors: &mut E) -> Option<Piece
     let (last, every) = (number(options, "last"), number(options, "every"));
     let wanted = chosen(event, around, last, every, within(from, to));
     if wanted.is_none() {
-        fault(errors, NO_PART);
+        say(errors, &[Text(NO_PART)]);
         let given = [
             ("event", event.is_some()),
             ("last", last.is_some()),
@@ -91,7 +91,7 @@ fn pieces_of<E: Write>(options: &ArgMatches<'_>, errors: &mut E) -> Option<Piece
         ];
         report_two(&given, errors);
         if around.is_some() && event.is_none() {
-            fault(errors, "--around needs --event");
+            say(errors, &[Text("--around needs --event")]);
         }
     }
     wanted
@@ -133,126 +133,99 @@ fn step_pieces_of(pieces: Pieces) -> Option<StepPieces>
 // ---- the ends
 
 /// Returns the end of a cut of a history with this result.
-fn end_of<H: NamedFiles + Screen, R: Read + Drop, E: Write>(
-    call: &mut Call<'_, '_, '_, '_, H, R, E>,
-    outcome: Result<u64, CutFault>,
-) -> End {
+fn end_of(call: &Call<'_, '_>, outcome: Result<u64, CutFault>) -> End {
     match outcome {
         Ok(_) => End::Done,
         Err(CutFault::Trace(why)) => call.end_at_fault(why),
         Err(CutFault::Differs { event }) => call.end_at_event(CutFault::Differs { event }, event),
-        Err(CutFault::NoEvents) => call.failed(CutFault::NoEvents),
+        Err(CutFault::NoEvents) => call.failed_by(CutFault::NoEvents),
     }
 }
 
 /// Returns the end of a cut of recorded steps with this result.
-fn end_of_steps<H: NamedFiles + Screen, R: Read + Drop, E: Write>(
-    call: &mut Call<'_, '_, '_, '_, H, R, E>,
-    outcome: Result<(u64, StepsFinding), StepsFault>,
-) -> End {
+fn end_of_steps(call: &Call<'_, '_>, outcome: Result<(u64, StepsFinding), StepsFault>) -> End {
     match outcome {
-        Ok((0, StepsFinding::Clean(_))) => call.failed(CutFault::NoEvents),
+        Ok((0, StepsFinding::Clean(_))) => call.failed_by(CutFault::NoEvents),
         Ok((_, StepsFinding::Clean(_))) => End::Done,
         Ok((_, StepsFinding::Differs { first, .. })) => {
-            let event = first.event;
-            call.end_at_step(CutFault::Differs { event }, first)
+            call.end_at_step(
+                parts! {
+                Text("event "), Number(first.event),
+                Text(" is not what the rules give there, so what comes after it is not cut")
+            },
+                first,
+            )
         }
         Err(why) => call.end_of_steps(None, file(call.options), why),
     }
 }
 
 /// Cuts these pieces out of a history.
-fn cut_out<R: Read + Drop, W: Write>(
-    alloc: Global,
-    reader: R,
-    output: &mut W,
+fn cut_out(
+    call: &Call<'_, '_>,
+    reader: ProgressReader<'_, Source<'_>>,
+    output: &mut Output,
     pieces: Pieces,
 ) -> Result<u64, CutFault>
     requires { HasSome pieces }
 {
-    match pieces {
-        Pieces::Excerpt(span) => pie_cut::cut(alloc, reader, output, span),
-        Pieces::Every(every) => cut_every(alloc, reader, output, every),
-        Pieces::Last(many) => pie_cut::cut(alloc, reader, output, Span::last(u64::MAX, many)),
-    }
-}
-
-/// Returns the number of the last event of a text of either kind.
-fn last_event<H: NamedFiles + Screen, R: Read + Drop, E: Write>(
-    call: &mut Call<'_, '_, '_, '_, H, R, E>,
-    text: Source<R, H::File>,
-) -> Result<u64, TraceFault> {
-    let (rt, is_shown) = (call.rt, shows_progress(call.rt, call.options, true));
-    let (watched, kind) = ProgressReader::recognizing(text, &mut *call.errors, rt, is_shown);
-    match kind {
-        Ok(false) => last_number(call.alloc, watched),
-        Ok(true) => count_rows(call.alloc, watched),
-        Err(why) => {
-            drop(watched);
-            Err(why)
-        }
-    }
+    let span = match pieces {
+        Pieces::Every(every) => return cut_every(call.alloc, reader, output, every),
+        Pieces::Excerpt(span) => span,
+        Pieces::Last(many) => Span::last(u64::MAX, many),
+    };
+    pie_cut::cut(call.alloc, reader, output, span)
 }
 
 /// Returns the pieces as numbers of events: the last `many` events of the file that the options name, which is read for it.
 /// If there is no file, or if it can't be read, writes a line to the error stream, and returns the end.
-fn numbered<H: NamedFiles + Screen, R: Read + Drop, E: Write>(
-    call: &mut Call<'_, '_, '_, '_, H, R, E>,
-    pieces: Pieces,
-) -> Result<Pieces, End>
+fn numbered(call: &Call<'_, '_>, pieces: Pieces) -> Result<Pieces, End>
     requires { HasSome pieces }
     ensures { IfOk result HasSome }
 {
     let Pieces::Last(many) = pieces else {
         return Ok(pieces);
     };
-    let name = match file(call.options) {
-        None | Some("-") => return Err(call.failed(NO_NAME)),
-        Some(name) => name,
+    let name = file(call.options);
+    if matches!(name, None | Some("-")) {
+        return Err(call.failed(&[Text(NO_NAME)]));
+    }
+    let (watched, is_steps) = match call.open_either(None, name, true) {
+        Ok(opened) => opened,
+        Err(end) => return Err(end),
     };
-    let Some(text) = open_text(call.rt, Some(name), &mut call.input, call.errors) else {
-        return Err(End::Unopened);
+    let last = if is_steps {
+        count_rows(call.alloc, watched)
+    } else {
+        last_number(call.alloc, watched)
     };
-    match last_event(call, text) {
+    match last {
         Ok(number) => Ok(Pieces::Excerpt(Span::last(number, many))),
         Err(why) => Err(call.end_at_fault(why)),
     }
 }
 
 /// `pie cut`: cuts the pieces that the options choose out of the text in the file that they name, or in standard input.
-pub(crate) fn cut<H: NamedFiles + Screen, R: Read + Drop, W: Write, E: Write>(
-    call: &mut Call<'_, '_, '_, '_, H, R, E>,
-    output: &mut W,
-) -> End {
-    let (rt, alloc, options) = (call.rt, call.alloc, call.options);
-    let Some(pieces) = pieces_of(options, call.errors) else {
+pub(crate) fn cut(call: &Call<'_, '_>, output: &mut Output) -> End {
+    let Some(pieces) = pieces_of(call.options, call.errors) else {
         return End::Failed;
     };
     let pieces = match numbered(call, pieces) {
         Ok(pieces) => pieces,
         Err(end) => return end,
     };
-    let Some(reader) = open_text(rt, file(options), &mut call.input, call.errors) else {
-        return End::Unopened;
+    let (watched, is_steps) = match call.open_either(None, file(call.options), true) {
+        Ok(opened) => opened,
+        Err(end) => return end,
     };
-    let is_shown = shows_progress(rt, options, true);
-    let (watched, kind) = ProgressReader::recognizing(reader, &mut *call.errors, rt, is_shown);
-    match (kind, step_pieces_of(pieces)) {
-        (Ok(false), _) => {
-            let outcome = cut_out(alloc, watched, output, pieces);
-            end_of(call, outcome)
+    match (is_steps, step_pieces_of(pieces)) {
+        (false, _) => end_of(call, cut_out(call, watched, output, pieces)),
+        (true, Some(chosen)) => {
+            end_of_steps(call, cut_steps(call.alloc, watched, output, chosen))
         }
-        (Ok(true), Some(chosen)) => {
-            let outcome = cut_steps(alloc, watched, output, chosen);
-            end_of_steps(call, outcome)
-        }
-        (Ok(true), None) => {
+        (true, None) => {
             drop(watched);
-            call.failed(NO_WALL_CLOCK)
-        }
-        (Err(why), _) => {
-            drop(watched);
-            call.end_at_fault(why)
+            call.failed(&[Text(NO_WALL_CLOCK)])
         }
     }
 }

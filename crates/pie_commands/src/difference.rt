@@ -1,17 +1,15 @@
 //! The details of an event that differs: its record, the record that the rules give there, or the reason why they give none.
 
 use crate::call::Call;
-use crate::files::{NamedFiles, Source};
-use crate::name::{InCommand, InLine};
-use crate::progress::{ProgressReader, Screen};
-use either::Right;
+use crate::line::Part::{Name, Number, Text, Word};
+use crate::line::{parts, put_parts, say_parts, say_text};
+use crate::options::Work;
 use pie_book::Event;
 use pie_explain::{DecidedEvent, EventDecision, decide_event, push_words};
 use pie_params::Params;
 use pie_record::{Line, Page, RowBuffer, put_event, put_params};
-use std::alloc::Global;
 use std::fmt;
-use std::io::{Read, Write};
+use std::io::Write;
 
 /// The details of an event that differs.
 #[derive(Clone, Copy)]
@@ -75,54 +73,43 @@ fn put(row: &mut RowBuffer, event: &Event) {
 
 /// Decides the event with this number again. The text is in the file `name`, which is read again. `None` if the file can't be
 /// read again, or is standard input (`-`).
-pub(crate) fn details_of<H: NamedFiles + Screen, R: Read + Drop, E: Write>(
-    call: &mut Call<'_, '_, '_, '_, H, R, E>,
-    name: &str,
-    number: u64,
-) -> Option<Details> {
-    if name == "-" {
-        return None;
-    }
-    let (rt, alloc) = (call.rt, call.alloc);
-    let text: Source<R, H::File> = Right(rt.open_again(name)?);
-    let reader = ProgressReader::new(text, &mut *call.errors, rt, false);
-    match decide_event(alloc, reader, number) {
+pub(crate) fn details_of(call: &Call<'_, '_>, name: &str, number: u64) -> Option<Details> {
+    match decide_event(call.alloc, call.open_again(name)?, number) {
         Ok(Some(decided)) => Some(Details { number, decided }),
         _ => None,
     }
 }
 
 /// Writes the lines about an event that differs, of the file `name`: its record, and the record that the rules give there, or
-/// the reason why they give none. If the event `is_explained`, the explanation of the right event follows, otherwise the
+/// the reason why they give none. If the call explains events, the explanation of the right event follows, otherwise the
 /// command that explains it. Ignores a failed write.
-pub(crate) fn write_details<E: Write>(
-    alloc: Global,
-    name: &str,
-    details: &Details,
-    is_explained: bool,
-    errors: &mut E,
-) {
-    let (number, file) = (details.number, InLine(name));
-    let _ = write!(errors, "pie: {file}: event {number} is recorded as ");
-    let _ = errors.write_all(details.recorded().as_bytes());
-    match details.right() {
+pub(crate) fn write_details(call: &Call<'_, '_>, name: &str, details: &Details) {
+    let (mut errors, recorded, right) = (call.errors, details.recorded(), details.right());
+    let _ = put_parts! { &mut errors;
+        Text("pie: "), Name(name), Text(": event "), Number(details.number), Text(" is recorded as ")
+    };
+    let _ = errors.write_all(recorded.as_bytes());
+    match &right {
         Some(right) => {
-            let _ = write!(errors, "pie: {file}: the rules give ");
+            let _ =
+                put_parts! { &mut errors; Text("pie: "), Name(name), Text(": the rules give ") };
             let _ = errors.write_all(right.as_bytes());
         }
         None => {
-            let why = details.reason();
-            let _ = writeln!(errors, "pie: {file}: the rules allow no such event: {why}");
+            say_text(
+                errors,
+                parts! { Name(name), Text(": the rules allow no such event: ") },
+                details.reason(),
+            );
         }
     }
-    if !is_explained {
-        let word = InCommand(name);
-        let _ = writeln!(
-            errors,
-            "pie: {file}: pie explain --event {number} {word} explains it"
-        );
+    if !matches!(call.subcommand.work, Work::Explain) {
+        say_parts! { errors;
+            Name(name), Text(": pie explain --event "), Number(details.number), Text(" "), Word(name),
+            Text(" explains it")
+        };
     } else if let EventDecision::Answered(right) = &details.decided.decision {
-        let mut page = Page::new(alloc);
+        let mut page = Page::new(call.alloc);
         if push_words(&mut page, None, right).is_ok() {
             let _ = errors.write_all(page.as_bytes());
         }
@@ -131,13 +118,8 @@ pub(crate) fn write_details<E: Write>(
 
 /// Writes the lines about the event with this number, which differs, as `write_details` does. The text is in the file `name`,
 /// which is read again. If it can't be read again, nothing is written.
-pub(crate) fn report_difference<H: NamedFiles + Screen, R: Read + Drop, E: Write>(
-    call: &mut Call<'_, '_, '_, '_, H, R, E>,
-    name: &str,
-    number: u64,
-    is_explained: bool,
-) {
+pub(crate) fn report_difference(call: &Call<'_, '_>, name: &str, number: u64) {
     if let Some(details) = details_of(call, name, number) {
-        write_details(call.alloc, name, &details, is_explained, call.errors);
+        write_details(call, name, &details);
     }
 }

@@ -1,10 +1,10 @@
-//! The end of the program, its exit status, and the lines on the error stream.
+//! The end of the program and its exit status.
 
-use crate::name::InLine;
+use crate::line::Part::Text;
+use crate::line::{say, say_text};
 use pie_trace::TraceFault;
-use std::fmt::Display;
-use std::io::Write;
-use std::{fmt, io};
+use std::io;
+use std::io::{Stderr, Write};
 
 /// The end of `pie`.
 #[derive(Clone, Copy)]
@@ -28,11 +28,6 @@ pub enum End {
 }
 
 impl End {
-    /// Returns true if the writer failed.
-    fn is_unwritten(self) -> bool {
-        matches!(self, End::Fault(TraceFault::Write))
-    }
-
     /// Returns the exit status: 0 if done, 2 if an event differs, otherwise 1. If the writer failed because its reader
     /// is gone (`is_closed`), as with `head`, it is 141, the status of a program that SIGPIPE ended in a shell.
     pub fn status(self, is_closed: bool) -> u8 {
@@ -46,12 +41,12 @@ impl End {
 
     /// Writes the lines of a failure of the writer to `errors`: the system's `reason` if there is one, and that the output
     /// failed. If its reader is gone (`is_closed`), or the writer did not fail, the second line is not written.
-    pub fn report<E: Write>(self, reason: Option<io::Error>, is_closed: bool, errors: &mut E) {
+    pub fn report(self, reason: Option<io::Error>, is_closed: bool, errors: Stderr) {
         if let Some(why) = reason {
-            fault(errors, why);
+            say_text(errors, &[], why);
         }
-        if !is_closed && self.is_unwritten() {
-            fault(errors, "cannot write the output");
+        if !is_closed && matches!(self, End::Fault(TraceFault::Write)) {
+            say(errors, &[Text("cannot write the output")]);
         }
     }
 
@@ -59,79 +54,28 @@ impl End {
     pub(crate) fn is_whole(self) -> bool {
         matches!(self, End::Done | End::Differs)
     }
-
-    /// Returns the end of a subcommand with this end. `is_there` is true if its output file has its name.
-    pub(crate) fn after_output(self, is_there: bool) -> End {
-        if self.is_whole() && !is_there {
-            return End::NoOutputFile;
-        }
-        self
-    }
 }
 
 /// Returns the end for a fault and writes its line to `errors`. A writer's fault has no line here: `End::report`
 /// writes it later.
-pub(crate) fn end_with_fault<E: Write>(errors: &mut E, why: TraceFault) -> End {
-    let end = End::Fault(why);
-    if !end.is_unwritten() {
-        fault(errors, why);
+pub(crate) fn end_with_fault(errors: Stderr, why: TraceFault) -> End {
+    if !matches!(why, TraceFault::Write) {
+        say_text(errors, &[], why);
     }
-    end
-}
-
-/// Returns the end of a subcommand that cannot begin, and writes its line to `errors`.
-pub(crate) fn end_unable<E: Write, D: Display + Drop>(errors: &mut E, text: D) -> End {
-    fault(errors, text);
-    End::CannotStart
+    End::Fault(why)
 }
 
 /// Returns `Failed`, and writes its line to `errors`.
-pub(crate) fn end_failed<E: Write, D: Display + Drop>(errors: &mut E, text: D) -> End {
-    fault(errors, text);
+pub(crate) fn end_failed(errors: Stderr, text: &str) -> End {
+    say(errors, &[Text(text)]);
     End::Failed
 }
 
 /// Writes a page, flushes the output, and returns the end.
-pub(crate) fn end_of_page<W: Write, E: Write>(page: &[u8], output: &mut W, errors: &mut E) -> End {
-    let written = output.write_all(page).is_ok() && output.flush().is_ok();
-    if written {
+pub(crate) fn end_of_page<W: Write>(page: &[u8], output: &mut W) -> End {
+    if output.write_all(page).is_ok() && output.flush().is_ok() {
         End::Done
     } else {
-        end_with_fault(errors, TraceFault::Write)
-    }
-}
-
-/// Writes the line of a fault. A line that can't be written is passed over.
-pub(crate) fn fault<E: Write, D: Display + Drop>(errors: &mut E, text: D) {
-    let _ = errors.write_all(b"pie: ");
-    write_end(errors, text);
-}
-
-/// Writes the line of a fault of the file `name`.
-pub(crate) fn named_fault<E: Write, D: Display + Drop>(errors: &mut E, name: &str, text: D) {
-    begin_line(errors, name);
-    write_end(errors, text);
-}
-
-/// Writes the beginning of a line about the file `name`.
-#[inline(never)]
-fn begin_line<E: Write>(errors: &mut E, name: &str) {
-    let _ = write!(errors, "pie: {}: ", InLine(name));
-}
-
-/// Writes the end of a line. (A function of its own is compiled once for each type of text.)
-#[inline(never)]
-fn write_end<E: Write, D: Display + Drop>(errors: &mut E, text: D) {
-    let _ = writeln!(errors, "{text}");
-}
-
-/// A text, and a number after it.
-#[derive(Clone, Copy)]
-pub(crate) struct Counted(pub(crate) &'static str, pub(crate) u64);
-
-impl Display for Counted {
-    fn fmt<W: fmt::Write>(&self, f: &mut fmt::Formatter<W>) -> fmt::Result {
-        let (text, number) = (self.0, self.1);
-        write!(f, "{text} {number}")
+        End::Fault(TraceFault::Write)
     }
 }

@@ -4,13 +4,15 @@ ghost use Rattle.clap.specs.Words.{found_of, rows_of};
 ghost use Rattle.pie_commands.specs.Selections.{chosen_events, every_of, is_selected, is_summary, may_combine, output_kind_of, selection_of, sums_kind};
 
 use crate::call::Call;
-use crate::end::{End, fault};
-use crate::files::{NamedFiles, Source, open_text};
+use crate::end::End;
+use crate::files::{Output, Source};
 use crate::json::JsonWriter;
+use crate::line::Part::{Number, Text};
+use crate::line::{parts, say};
 use crate::options::{bounds_of, file, flag, moment, number, parsed, report_two, text};
-use crate::progress::{ProgressReader, Screen, shows_progress, writes_to_terminal};
+use crate::progress::{ProgressReader, allows_colours, writes_to_terminal};
 use crate::reports::{as_digest, in_words};
-use crate::steps::{QUEUE_OF_STEPS, explain_steps, lacks_queue};
+use crate::steps::{end_of_clean_steps, explain_steps, lacks_queue};
 use clap::ArgMatches;
 use pie_explain::{
     ByFlow, Digest, EventChoice, EventRecords, ExplainFault, Form, LineStyle, Report, Selection,
@@ -19,7 +21,7 @@ use pie_explain::{
 use pie_linux_history::{StepsExplained, StepsFault, StepsFinding};
 use pie_trace::TraceFault;
 use std::alloc::Global;
-use std::io::{Read, Write};
+use std::io::Stderr;
 
 /// The message for options that choose events more than once.
 const ONE_CHOICE: &str =
@@ -27,6 +29,10 @@ const ONE_CHOICE: &str =
 
 /// The message for an interval of length 0.
 const NO_PERIOD: &str = "--every: the interval must be at least 1 ns";
+
+/// The end of the line about the events that an explanation leaves out at a step that differs.
+const LEFT_OUT: &str =
+    " is not what the rules give there, so it and its queue's events up to the next init or resume are not explained";
 
 /// Returns the length of an interval in these options, if it is valid.
 fn every_of(options: &ArgMatches<'_>) -> Option<u64>
@@ -72,7 +78,7 @@ fn chosen_events(options: &ArgMatches<'_>) -> Option<EventChoice>
 }
 
 /// Writes the lines of options that don't choose events by exactly one option.
-fn report_choices<E: Write>(options: &ArgMatches<'_>, errors: &mut E) {
+fn report_choices(options: &ArgMatches<'_>, errors: Stderr) {
     let given = [
         ("event", number(options, "event").is_some()),
         ("tag", number(options, "tag").is_some()),
@@ -80,7 +86,7 @@ fn report_choices<E: Write>(options: &ArgMatches<'_>, errors: &mut E) {
         ("marked", flag(options, "marked")),
         ("all", flag(options, "all")),
     ];
-    fault(errors, ONE_CHOICE);
+    say(errors, &[Text(ONE_CHOICE)]);
     report_two(&given, errors);
 }
 
@@ -109,7 +115,7 @@ fn conflict(options: &ArgMatches<'_>, is_every: bool) -> Option<&'static str>
 /// Returns the selection of these options. If they are not valid together, writes a line to `errors` and returns
 /// `None`.
 #[tactic(auto, unfolding(crate::specs::Selections::selection_of))]
-fn selection_of<E: Write>(options: &ArgMatches<'_>, errors: &mut E) -> Option<Selection>
+fn selection_of(options: &ArgMatches<'_>, errors: Stderr) -> Option<Selection>
     ensures { result ≡ selection_of (rows_of (found_of options.now)) }
 {
     let (from, to) = bounds_of(options, errors)?;
@@ -119,11 +125,11 @@ fn selection_of<E: Write>(options: &ArgMatches<'_>, errors: &mut E) -> Option<Se
         return None;
     };
     if matches!(every, Some(0)) {
-        fault(errors, NO_PERIOD);
+        say(errors, &[Text(NO_PERIOD)]);
         return None;
     }
     if let Some(why) = conflict(options, every.is_some()) {
-        fault(errors, why);
+        say(errors, &[Text(why)]);
         return None;
     }
     Some(Selection { which, from, to })
@@ -186,10 +192,10 @@ fn output_kind_of(options: &ArgMatches<'_>, style: LineStyle) -> OutputKind
 }
 
 /// Writes the explanations of the chosen events.
-fn explain_with<R: Read + Drop, W: Write>(
+fn explain_with(
     alloc: Global,
-    input: R,
-    output: &mut JsonWriter<'_, W>,
+    input: ProgressReader<'_, Source<'_>>,
+    output: &mut JsonWriter<'_>,
     selection: Selection,
     kind: OutputKind,
 ) -> Result<u64, ExplainFault> {
@@ -208,48 +214,33 @@ fn explain_with<R: Read + Drop, W: Write>(
 
 /// Writes the explanations of the chosen events by one report.
 #[inline(never)]
-pub(crate) fn explain_by<R: Read + Drop, W: Write, P: Report>(
+pub(crate) fn explain_by<P: Report>(
     alloc: Global,
-    input: R,
-    output: &mut JsonWriter<'_, W>,
+    input: ProgressReader<'_, Source<'_>>,
+    output: &mut JsonWriter<'_>,
     selection: Selection,
     report: P,
 ) -> Result<u64, ExplainFault> {
     pie_explain::explain(alloc, input, output, selection, report)
 }
 
-/// Returns the number of bytes that are withheld at most, in case the text lacks the chosen queue.
-fn most_withheld(queue: Option<&str>) -> usize {
-    if queue.is_some() { 1 << 16 } else { 0 }
-}
-
-/// Returns the style of lines in the output of these options.
-fn style_of<H: Screen>(rt: &H, options: &ArgMatches<'_>) -> LineStyle {
-    let repeats = writes_to_terminal(rt, options);
-    let colours = repeats && rt.allows_colours();
-    LineStyle { repeats, colours }
-}
-
 /// Returns the end of an explanation of a history with this result.
-fn end_of<H: NamedFiles + Screen, R: Read + Drop, E: Write>(
-    call: &mut Call<'_, '_, '_, '_, H, R, E>,
-    outcome: Result<u64, ExplainFault>,
-) -> End {
+fn end_of(call: &Call<'_, '_>, outcome: Result<u64, ExplainFault>) -> End {
     match outcome {
         Ok(_) => End::Done,
         Err(ExplainFault::Trace(why)) => call.end_at_fault(why),
         Err(ExplainFault::Differs { event }) => {
             call.end_at_event(ExplainFault::Differs { event }, event)
         }
-        Err(why) => call.failed(why),
+        Err(why) => call.failed_by(why),
     }
 }
 
 /// Returns the end of an explanation of recorded steps with this result. Writes the output that was withheld, unless the text
 /// lacks the chosen queue.
-fn end_of_steps<H: NamedFiles + Screen, R: Read + Drop, W: Write, E: Write>(
-    call: &mut Call<'_, '_, '_, '_, H, R, E>,
-    output: &mut JsonWriter<'_, W>,
+fn end_of_steps(
+    call: &Call<'_, '_>,
+    output: &mut JsonWriter<'_>,
     selection: Selection,
     queue: Option<&str>,
     outcome: Result<StepsExplained, StepsFault>,
@@ -259,49 +250,25 @@ fn end_of_steps<H: NamedFiles + Screen, R: Read + Drop, W: Write, E: Write>(
         Err(_) => false,
     };
     if !is_absent && output.release().is_err() {
-        return call.end_at_fault(TraceFault::Write);
+        return End::Fault(TraceFault::Write);
     }
     match outcome {
         Ok(StepsExplained { count, finding }) => match finding {
-            StepsFinding::Clean(counts) => call.end_of_clean_steps(selection, queue, count, counts),
-            StepsFinding::Differs { first, count } => call.end_of_differing_steps(first, count),
+            StepsFinding::Clean(counts) => {
+                end_of_clean_steps(call, selection, queue, count, counts)
+            }
+            StepsFinding::Differs { first, count } => {
+                let end = call.end_at_step(
+                    parts! { Text("event "), Number(first.event), Text(LEFT_OUT) },
+                    first,
+                );
+                if count > 1 {
+                    say(call.errors, &[Text("events that differ: "), Number(count)]);
+                }
+                end
+            }
         },
         Err(why) => call.end_of_steps(None, file(call.options), why),
-    }
-}
-
-/// Explains the chosen events of a text of either kind.
-fn explain_text<H: NamedFiles + Screen, R: Read + Drop, W: Write, E: Write>(
-    call: &mut Call<'_, '_, '_, '_, H, R, E>,
-    text: Source<R, H::File>,
-    output: &mut JsonWriter<'_, W>,
-    selection: Selection,
-    queue: Option<&str>,
-    kind: OutputKind,
-) -> End {
-    let (rt, alloc, is_shown) = (
-        call.rt,
-        call.alloc,
-        shows_progress(call.rt, call.options, true),
-    );
-    let (watched, found) = ProgressReader::recognizing(text, &mut *call.errors, rt, is_shown);
-    match (found, queue) {
-        (Ok(true), _) => {
-            let outcome = explain_steps(alloc, watched, output, selection, queue, kind);
-            end_of_steps(call, output, selection, queue, outcome)
-        }
-        (Ok(false), None) => {
-            let outcome = explain_with(alloc, watched, output, selection, kind);
-            end_of(call, outcome)
-        }
-        (Ok(false), Some(_)) => {
-            drop(watched);
-            call.failed(QUEUE_OF_STEPS)
-        }
-        (Err(why), _) => {
-            drop(watched);
-            call.end_at_fault(why)
-        }
     }
 }
 
@@ -309,22 +276,37 @@ fn explain_text<H: NamedFiles + Screen, R: Read + Drop, W: Write, E: Write>(
 /// up to its first fault or a history's first event that differs. Returns a difference as `End::Differs`. If the text has a
 /// fault, the options choose events more than once, no event matches, or the reader, the writer or memory fails, the end
 /// is an error. Each error has a line on the error stream; a writer's fault is reported later (`End::report`). On a
-/// terminal the header of lines is repeated, and lines are coloured unless the user wants no colours.
-pub(crate) fn explain<H: NamedFiles + Screen, R: Read + Drop, W: Write, E: Write>(
-    call: &mut Call<'_, '_, '_, '_, H, R, E>,
-    output: &mut W,
-) -> End {
-    let (rt, alloc, options) = (call.rt, call.alloc, call.options);
+/// terminal the header of lines is repeated, and lines are coloured unless the user wants no colours. With a queue up to 64 KiB of
+/// the output are withheld, in case the text lacks it.
+pub(crate) fn explain(call: &Call<'_, '_>, output: &mut Output) -> End {
+    let (alloc, options) = (call.alloc, call.options);
     let Some(selection) = selection_of(options, call.errors) else {
         return End::Failed;
     };
-    let Some(reader) = open_text(rt, file(options), &mut call.input, call.errors) else {
-        return End::Unopened;
+    let (watched, is_steps) = match call.open_either(None, file(options), true) {
+        Ok(opened) => opened,
+        Err(end) => return end,
     };
-    let (kind, queue) = (
-        output_kind_of(options, style_of(rt, options)),
-        text(options, "queue"),
-    );
-    let mut output = JsonWriter::new(alloc, output, flag(options, "json"), most_withheld(queue));
-    explain_text(call, reader, &mut output, selection, queue, kind)
+    let repeats = writes_to_terminal(call);
+    let colours = repeats && allows_colours(call.system);
+    let kind = output_kind_of(options, LineStyle { repeats, colours });
+    let queue = text(options, "queue");
+    let most = if queue.is_some() { 1 << 16 } else { 0 };
+    let mut output = JsonWriter::new(alloc, output, flag(options, "json"), most);
+    match (is_steps, queue) {
+        (true, _) => {
+            let outcome = explain_steps(alloc, watched, &mut output, selection, queue, kind);
+            end_of_steps(call, &mut output, selection, queue, outcome)
+        }
+        (false, None) => {
+            end_of(
+                call,
+                explain_with(alloc, watched, &mut output, selection, kind),
+            )
+        }
+        (false, Some(_)) => {
+            drop(watched);
+            call.failed(&[Text("--queue is only for a text of pie-watch")])
+        }
+    }
 }

@@ -1,21 +1,19 @@
 //! CSV text as objects of JSON.
+use crate::files::Output;
+use crate::line::Part::{Hex, Text};
+use crate::line::write_parts;
 use pie_trace::TraceFault;
 use std::alloc::Global;
 use std::io;
 use std::io::Write;
-
-/// The digits of hexadecimal numbers.
-const DIGITS: &[u8; 16] = b"0123456789abcdef";
+use std::str::from_utf8;
 
 /// Writes a byte of a string of JSON. Quotes, backslashes and control characters are escaped.
 fn write_byte<W: Write>(writer: &mut W, byte: u8) -> io::Result<()> {
     match byte {
         b'"' => writer.write_all(b"\\\""),
         b'\\' => writer.write_all(b"\\\\"),
-        0..=31 => {
-            let (high, low) = (b'0' + (byte >> 4), DIGITS[usize::from(byte & 15)]);
-            writer.write_all(&[b'\\', b'u', b'0', b'0', high, low])
-        }
+        0..=31 => write_parts(writer, &[Text("\\u00"), Hex(byte)]),
         _ => writer.write_all(&[byte]),
     }
 }
@@ -49,22 +47,17 @@ pub(crate) fn write_string<W: Write>(writer: &mut W, bytes: &[u8]) -> io::Result
 
 /// Returns true if the field is a decimal number below 2^64 without leading zeros.
 fn is_number(field: &[u8]) -> bool {
-    let mut number = Some(0u64);
-    for byte in field {
-        number = match (number, *byte) {
-            (Some(number), b'0'..=b'9') => match number.checked_mul(10) {
-                Some(tens) => tens.checked_add(u64::from(*byte - b'0')),
-                None => None,
-            },
-            _ => None,
-        };
-    }
-    number.is_some() && (field.len() == 1 || !field.starts_with(b"0"))
+    let is_canonical = field.len() == 1 || !(field.starts_with(b"0") || field.starts_with(b"+"));
+    let text = from_utf8(field).unwrap_or("");
+    is_canonical && text.parse::<u64>().is_ok()
 }
 
 /// Writes the value of a field: `null` if the field is empty, the field itself if it is a decimal number below 2^64
-/// without leading zeros, otherwise a string.
-fn write_value<W: Write>(writer: &mut W, field: &[u8]) -> io::Result<()> {
+/// without leading zeros, otherwise a string. The value of `queue` is always a string.
+fn write_value<W: Write>(writer: &mut W, name: &[u8], field: &[u8]) -> io::Result<()> {
+    if name == b"queue".as_slice() {
+        return write_string(writer, field);
+    }
     if field.is_empty() {
         return writer.write_all(b"null");
     }
@@ -74,19 +67,21 @@ fn write_value<W: Write>(writer: &mut W, field: &[u8]) -> io::Result<()> {
     write_string(writer, field)
 }
 
-/// A writer of CSV text without quotes. The first line has the names of the fields. If it `is_json`, it writes an object
+/// A writer of CSV text in which only the field `queue` may have quotes. The first line has the names of the fields. If it `is_json`, it writes an object
 /// of JSON and a line feed (NDJSON) for each further line, with these names; otherwise the text itself. One type for both
 /// has one copy of the code that writes to it.
 #[derive(Drop)]
-pub(crate) struct JsonWriter<'a, W: Write> {
-    output: &'a mut W,
+pub(crate) struct JsonWriter<'a> {
+    output: &'a mut Output,
     is_json: bool,
     /// The first line, with its line feed.
     names: Vec<u8>,
     /// The place of the next field's name in it.
     next: usize,
-    /// The bytes of the field under way.
+    /// The bytes of the field under way, without the quotes around it.
     field: Vec<u8>,
+    /// The number of quotes in it, modulo 256.
+    quotes: u8,
     /// Objects, or withheld text, on their way to the writer.
     objects: Vec<u8>,
     /// True after a write for which there was no memory.
@@ -95,21 +90,22 @@ pub(crate) struct JsonWriter<'a, W: Write> {
     most: usize,
 }
 
-impl<'a, W: Write> JsonWriter<'a, W> {
+impl<'a> JsonWriter<'a> {
     /// Returns a writer of objects, or unless it `is_json` of the text itself. At most `most` bytes of its output are withheld,
     /// until they are released or taken. Takes no memory.
     pub(crate) fn new(
         alloc: Global,
-        output: &'a mut W,
+        output: &'a mut Output,
         is_json: bool,
         most: usize,
-    ) -> JsonWriter<'a, W> {
+    ) -> JsonWriter<'a> {
         JsonWriter {
             output,
             is_json,
             names: Vec::new(alloc),
             next: 0,
             field: Vec::new(alloc),
+            quotes: 0,
             objects: Vec::new(alloc),
             is_short: false,
             most,
@@ -146,11 +142,13 @@ impl<'a, W: Write> JsonWriter<'a, W> {
         };
         let lead = if self.next == 0 { b'{' } else { b',' };
         self.objects.push(lead)?;
-        write_string(&mut self.objects, names.get(..end).unwrap_or(&[]))?;
+        let name = names.get(..end).unwrap_or(&[]);
+        write_string(&mut self.objects, name)?;
         self.objects.push(b':')?;
-        write_value(&mut self.objects, self.field.as_slice())?;
+        write_value(&mut self.objects, name, self.field.as_slice())?;
         self.next = self.next.saturating_add(end).saturating_add(1);
         self.field.clear();
+        self.quotes = 0;
         Ok(())
     }
 
@@ -171,9 +169,17 @@ impl<'a, W: Write> JsonWriter<'a, W> {
         if self.names.last() != Some(&b'\n') {
             return Ok(self.names.push(byte)?);
         }
-        match byte {
-            b',' => self.end_field(),
-            b'\n' => {
+        match (byte, self.quotes % 2) {
+            (b'"', _) => {
+                // The second one of two quotes within quotes is a byte of the field.
+                self.quotes = self.quotes.wrapping_add(1);
+                if self.quotes > 1 && self.quotes % 2 == 1 {
+                    self.field.push(byte)?;
+                }
+                Ok(())
+            }
+            (b',', 0) => self.end_field(),
+            (b'\n', 0) => {
                 self.end_field()?;
                 self.next = 0;
                 self.objects.write_all(b"}\n")
@@ -183,7 +189,7 @@ impl<'a, W: Write> JsonWriter<'a, W> {
     }
 }
 
-impl<W: Write> Write for JsonWriter<'_, W> {
+impl Write for JsonWriter<'_> {
     fn write(&mut self, text: &[u8]) -> io::Result<usize> {
         if !self.is_json && self.most == 0 {
             return self.output.write(text);

@@ -7,9 +7,8 @@
 //! ends and files have tests. The output goes to the caller's writer, or to a file that `dispatch_to_file` creates. This
 //! file moves to the name given by `-o` once the output is complete.
 //!
-//! `NamedFiles` opens, creates and moves files; `HostRuntime` implements it for the system's files. `create_output`
-//! creates an output under another name beside its own, and `finish_output` moves it once the output is complete. Until
-//! then an existing file of that name is unchanged.
+//! `create_output` creates an output under another name beside its own, and `finish_output` moves it once the output is
+//! complete. Until then an existing file of that name is unchanged. Lines are written as lists of their parts (line.rt).
 //!
 //! `ProgressReader` wraps a reader. It returns exactly the bytes of the inner reader: `remaining` is the inner reader's.
 //! `recognizing` reads the first bytes, and returns them again: a text of recorded steps of Linux is audited, explained and
@@ -26,13 +25,13 @@ mod call;
 mod comparison;
 mod cut;
 mod difference;
-mod dispatch;
 mod end;
 mod explain;
 mod files;
 mod head;
 mod joint;
 mod json;
+mod line;
 mod name;
 mod options;
 mod params;
@@ -43,11 +42,8 @@ mod run;
 mod steps;
 mod steps_fault;
 mod storm;
-mod system_files;
 mod what_if;
 
 pub use end::End;
-pub use files::NamedFiles;
+pub use files::{Output, word_of_bytes};
 pub use program::command;
-pub use progress::Screen;
-pub use system_files::{Output, word_of_bytes};

@@ -8,7 +8,10 @@ ghost use Rattle.pie_units.specs.declared.options.TuningOptions.{TuningOptions};
 ghost use Rattle.pie_commands.specs.Tuning.{AsksFor, AsksForLayer, IsRequested, RefusesParams, given_or, link_layer_by, number_by};
 
 use crate::call::Call;
-use crate::end::{End, end_with_fault, fault};
+use crate::end::End;
+use crate::files::Output;
+use crate::line::Part::{Number, Text};
+use crate::line::{say, say_parts, say_text};
 use crate::options::{flag, number, number_or, parsed, report_nearest, text};
 use crate::storm::decay_of;
 use clap::ArgMatches;
@@ -21,8 +24,7 @@ use pie_units::{
     drops_bursts, elements_for, gain_of, is_above_a_second, is_short, opening_for, overhead_of,
     packets_of, params_for, rate_of, time_of, write_opening,
 };
-use std::alloc::Global;
-use std::io::Write;
+use std::io::Stderr;
 
 /// Returns the number of the option `name`, which is of this kind, or `unnamed` if the option isn't given.
 fn number_in(
@@ -65,20 +67,15 @@ fn link_layer_by(name: Option<&str>) -> Option<LinkLayer>
 }
 
 /// Returns the options of `tc stab`. If a text is not valid, writes a line to `errors` and returns `None`.
-fn layer_in<E: Write>(alloc: Global, options: &ArgMatches<'_>, errors: &mut E) -> Option<Layer>
-    ensures requested { IfSome result (AsksForLayer (rows_of (found_of options.now))) }
-    ensures none { result ≡ None → (layer : Layer) → AsksForLayer (rows_of (found_of options.now)) layer → ⊥ }
+fn layer_in(call: &Call<'_, '_>) -> Option<Layer>
+    ensures requested { IfSome result (AsksForLayer (rows_of (found_of call.now.options.now))) }
+    ensures none { result ≡ None → (layer : Layer) → AsksForLayer (rows_of (found_of call.now.options.now)) layer → ⊥ }
 {
+    let (options, errors) = (call.options, call.errors);
     let overhead = parsed(overhead_in(options), "--overhead", errors)?;
     let Some(format) = link_layer_by(text(options, "linklayer")) else {
-        let _ = writeln!(errors, "pie: --linklayer must be ethernet, atm or adsl");
-        report_nearest(
-            alloc,
-            options,
-            "linklayer",
-            &["ethernet", "atm", "adsl"],
-            errors,
-        );
+        say(errors, &[Text("--linklayer must be ethernet, atm or adsl")]);
+        report_nearest(call, "linklayer", &["ethernet", "atm", "adsl"]);
         return None;
     };
     Some(Layer {
@@ -90,38 +87,26 @@ fn layer_in<E: Write>(alloc: Global, options: &ArgMatches<'_>, errors: &mut E) -
 
 /// Returns the values of all options. If a text is not a valid number of its kind or names no choice, writes a line
 /// to `errors` and returns `None`.
-fn tuning_in<E: Write>(
-    alloc: Global,
-    options: &ArgMatches<'_>,
-    errors: &mut E,
-) -> Option<TuningOptions>
-    ensures requested { IfSome result (AsksFor (rows_of (found_of options.now))) }
-    ensures none { result ≡ None → (asked : TuningOptions) → AsksFor (rows_of (found_of options.now)) asked → ⊥ }
+fn tuning_in(call: &Call<'_, '_>) -> Option<TuningOptions>
+    ensures requested { IfSome result (AsksFor (rows_of (found_of call.now.options.now))) }
+    ensures none { result ≡ None → (asked : TuningOptions) → AsksFor (rows_of (found_of call.now.options.now)) asked → ⊥ }
 {
+    let (options, errors) = (call.options, call.errors);
     let rate = parsed(
         number_in(options, "rate", Quantity::Rate, 0),
         "--rate",
         errors,
     )?;
-    let target = parsed(
-        number_in(options, "target", Quantity::Time, 15_000_000),
-        "--target",
-        errors,
-    )?;
-    let t_update = parsed(
-        number_in(options, "tupdate", Quantity::Time, 15_000_000),
-        "--tupdate",
-        errors,
-    )?;
-    let packets = parsed(
-        number_in(options, "limit", Quantity::Packets, default_packets(rate)),
-        "--limit",
-        errors,
-    )?;
-    let layer = layer_in(alloc, options, errors)?;
+    let target = number_in(options, "target", Quantity::Time, 15_000_000);
+    let target = parsed(target, "--target", errors)?;
+    let t_update = number_in(options, "tupdate", Quantity::Time, 15_000_000);
+    let t_update = parsed(t_update, "--tupdate", errors)?;
+    let packets = number_in(options, "limit", Quantity::Packets, default_packets(rate));
+    let packets = parsed(packets, "--limit", errors)?;
+    let layer = layer_in(call)?;
     let Some(decay) = decay_of(options) else {
-        let _ = writeln!(errors, "pie: --decay must be zero or half");
-        report_nearest(alloc, options, "decay", &["zero", "half"], errors);
+        say(errors, &[Text("--decay must be zero or half")]);
+        report_nearest(call, "decay", &["zero", "half"]);
         return None;
     };
     Some(TuningOptions {
@@ -143,88 +128,78 @@ fn tuning_in<E: Write>(
 }
 
 /// Warns of each gain that is rounded.
-pub(crate) fn warn_rounded<E: Write>(options: &ArgMatches<'_>, errors: &mut E) {
+pub(crate) fn warn_rounded(options: &ArgMatches<'_>, errors: Stderr) {
     for name in ["alpha", "beta"] {
         if number(options, name).unwrap_or(0) % 2 == 1 {
-            let _ = writeln!(
-                errors,
-                "pie: warning: {name} is rounded down to a whole number of thousandths per second"
-            );
+            say_parts! { errors;
+                Text("warning: "), Text(name), Text(" is rounded down to a whole number of thousandths per second")
+            };
         }
     }
 }
 
 /// Warns if the queue is full before the delay reaches the target, if the chosen limit in packets is below a burst or above a
 /// second, and if the estimator of the departure rate can stall.
-fn warn<E: Write>(
-    options: &ArgMatches<'_>,
-    asked: &TuningOptions,
-    params: &RawParams,
-    errors: &mut E,
-) {
-    let (limit, threshold) = (params.limit_bytes, params.dq_threshold);
+fn warn(call: &Call<'_, '_>, asked: &TuningOptions, params: &RawParams) {
+    let (limit, packets) = (Number(params.limit_bytes), Number(asked.packets));
     if is_short(asked.rate, params) {
-        let _ = writeln!(
-            errors,
-            "pie: warning: limit_bytes ({limit}) is below rate x target: the queue is full before the delay reaches the target, and all losses are tail drops"
-        );
+        say_parts! { call.errors;
+            Text("warning: limit_bytes ("), limit,
+            Text(") is below rate x target: the queue is full before the delay reaches the target, and all losses are tail drops")
+        };
     }
-    let packets = asked.packets;
-    if text(options, "limit").is_some() {
-        if drops_bursts(asked, params) {
-            let _ = writeln!(
-                errors,
-                "pie: warning: limit ({packets} packets) is below rate x (target + burst allowance) in packets of the MTU: bursts that the allowance admits fill the queue"
-            );
-        }
-        if is_above_a_second(asked) {
-            let _ = writeln!(
-                errors,
-                "pie: warning: limit ({packets} packets) is above one second at the rate in packets of the MTU; limit_bytes ({limit}) limits the queue too"
-            );
-        }
+    let is_chosen = text(call.options, "limit").is_some();
+    if is_chosen && drops_bursts(asked, params) {
+        say_parts! { call.errors;
+            Text("warning: limit ("), packets,
+            Text(" packets) is below rate x (target + burst allowance) in packets of the MTU: bursts that the allowance admits fill the queue")
+        };
+    }
+    if is_chosen && is_above_a_second(asked) {
+        say_parts! { call.errors;
+            Text("warning: limit ("), packets,
+            Text(" packets) is above one second at the rate in packets of the MTU; limit_bytes ("), limit,
+            Text(") limits the queue too")
+        };
     }
     if can_stall(asked, params) {
-        let _ = writeln!(
-            errors,
-            "pie: warning: dq_threshold ({threshold}) is above half of rate x target: the departure rate may not be measured for a long time"
-        );
+        say_parts! { call.errors;
+            Text("warning: dq_threshold ("), Number(params.dq_threshold),
+            Text(") is above half of rate x target: the departure rate may not be measured for a long time")
+        };
     }
 }
 
 /// Returns the opening of a book with the parameters of these options. Writes warnings to `errors`. If the options request
 /// no such opening, writes a line to `errors` and returns `None`.
-fn opening_in<E: Write>(alloc: Global, options: &ArgMatches<'_>, errors: &mut E) -> Option<Opening>
-    ensures requested { IfSome result (IsRequested (rows_of (found_of options.now))) }
-    ensures none { result ≡ None → RefusesParams (rows_of (found_of options.now)) }
+fn opening_in(call: &Call<'_, '_>) -> Option<Opening>
+    ensures requested { IfSome result (IsRequested (rows_of (found_of call.now.options.now))) }
+    ensures none { result ≡ None → RefusesParams (rows_of (found_of call.now.options.now)) }
 {
-    let asked = tuning_in(alloc, options, errors)?;
+    let asked = tuning_in(call)?;
     let params = match Params::check(params_for(&asked)) {
         Ok(params) => params,
         Err(why) => {
-            fault(errors, why);
+            say_text(call.errors, &[], why);
             return None;
         }
     };
     if asked.packets == 0 || u64::from(Limits::MAX_PACKETS) < asked.packets {
-        fault(errors, "--limit must be 1 to 1048576 packets");
+        say(call.errors, &[Text("--limit must be 1 to 1048576 packets")]);
         return None;
     }
-    warn_rounded(options, errors);
-    warn(options, &asked, &params.raw(), errors);
+    warn_rounded(call.options, call.errors);
+    warn(call, &asked, &params.raw());
     Some(opening_for(asked.packets as u32, elements_for(&asked), params))
 }
 
 /// `pie params`: writes the record that opens a book with the parameters of these options.
-pub(crate) fn params<H, R: Drop, W: Write, E: Write>(
-    call: &mut Call<'_, '_, '_, '_, H, R, E>,
-    output: &mut W,
-) -> End {
-    let Some(opening) = opening_in(call.alloc, call.options, call.errors) else {
+pub(crate) fn params(call: &Call<'_, '_>, output: &mut Output) -> End {
+    let Some(opening) = opening_in(call) else {
         return End::Failed;
     };
     match write_opening(&opening, output) {
         Ok(()) => End::Done,
-        Err(_) => end_with_fault(call.errors, TraceFault::Write),
+        Err(_) => End::Fault(TraceFault::Write),
     }
 }

@@ -1,15 +1,12 @@
 //! The line after a fault of recorded steps of Linux: the field that causes it.
 
 use crate::call::Call;
-use crate::files::{NamedFiles, Source};
-use crate::name::InCommand;
-use crate::progress::{ProgressReader, Screen};
+use crate::line::Part::{Ascii, Number, Text, Word};
+use crate::line::say_parts;
 use crate::steps::audit_steps;
-use either::Right;
 use pie_linux_history::StepsFault;
 use pie_record::{Record, Records, TraceFault};
-use std::alloc::{AllocError, Global};
-use std::io::{Read, Write};
+use std::alloc::AllocError;
 
 /// The words of the column `type`.
 const TYPES: &str =
@@ -22,18 +19,18 @@ struct Rows {
     fields: Record,
 }
 
-/// Reads the first row, and the row with this number. `None` if there is none, or if it can't be read.
-fn rows_of<R: Read + Drop>(alloc: Global, reader: R, number: u64) -> Option<Rows> {
-    let mut records = Records::new(alloc, reader);
-    let (mut names, mut fields) = (Record::new(alloc), Record::new(alloc));
-    let mut is_read = records.first(&mut names).is_ok();
+/// Reads the text in the file `name` again, up to the row with this number. `None` if there is none, or if it can't be read.
+fn rows_at(call: &Call<'_, '_>, name: &str, number: u64) -> Option<Rows> {
+    let mut records = Records::new(call.alloc, call.open_again(name)?);
+    let (mut names, mut fields) = (Record::new(call.alloc), Record::new(call.alloc));
+    let mut is_read = records.first(&mut names).is_ok() && number > 1;
     for _ in 1..number {
         is_read = is_read && matches!(records.next(&mut fields), Ok(true));
         if !is_read {
             break;
         }
     }
-    if is_read && number > 1 {
+    if is_read {
         Some(Rows { names, fields })
     } else {
         None
@@ -65,9 +62,8 @@ impl Rows {
         Ok(text.push(b'\n')?)
     }
 
-    /// Returns the text of the first row, and of the row with empty fields from `place` on.
-    fn text_to(&self, alloc: Global, place: usize) -> Result<Vec<u8>, AllocError> {
-        let mut text = Vec::new(alloc);
+    /// Adds the first row to a text, and the row with empty fields from `place` on.
+    fn add_rows(&self, text: &mut Vec<u8>, place: usize) -> Result<(), AllocError> {
         for at in 0..self.names.len() {
             if at > 0 {
                 text.push(b',')?;
@@ -75,15 +71,17 @@ impl Rows {
             text.extend_from_slice(self.names.get(at).unwrap_or(&[]))?;
         }
         text.push(b'\n')?;
-        self.add_fields(&mut text, place)?;
-        Ok(text)
+        self.add_fields(text, place)
     }
 
     /// Returns the place of the first field whose number is not allowed: an audit of the fields up to it has a fault of a number.
-    fn bad_number(&self, alloc: Global) -> Option<usize> {
+    fn bad_number(&self, call: &Call<'_, '_>) -> Option<usize> {
         for place in 0..self.fields.len() {
-            let text = self.text_to(alloc, place.saturating_add(1)).ok()?;
-            let found = audit_steps(alloc, text.as_slice(), None).finding;
+            let mut text = Vec::new(call.alloc);
+            if self.add_rows(&mut text, place + 1).is_err() {
+                return None;
+            }
+            let found = audit_steps(call.alloc, call.reader_of(&text), None).finding;
             if matches!(found, Err(StepsFault::Trace(TraceFault::Number { .. }))) {
                 return Some(place);
             }
@@ -109,69 +107,55 @@ impl Rows {
 /// Returns the contents that are allowed in the place of this field of a column of numbers.
 fn allowed_for(column: &[u8], field: &[u8]) -> &'static str {
     if matches!(column, b"proto" | b"l3") {
-        return "a number of at most four hexadecimal digits";
+        return " is a number of at most four hexadecimal digits";
     }
     if field.is_empty() || !field.iter().all(u8::is_ascii_digit) {
-        return "a decimal number";
+        return " is a decimal number";
     }
     if field.starts_with(b"0") {
-        "a number without leading zeros"
+        " is a number without leading zeros"
     } else {
-        "a smaller number"
+        " is a smaller number"
     }
 }
 
 /// Writes the line about a row with a wrong number of fields.
-fn write_count<E: Write>(rows: &Rows, row: u64, name: &str, errors: &mut E) {
-    let (shown, count) = (InCommand(name), rows.fields.len());
+fn report_count(call: &Call<'_, '_>, rows: &Rows, row: u64, name: &str) {
     let (what, all) = match rows.fields.get(0) {
         Some(b"lost") => ("lost", 3),
         _ => ("the first row", rows.names.len()),
     };
-    let _ = writeln!(
-        errors,
-        "pie: record {row} of {shown}: {count} fields; {what} has {all}"
-    );
-}
-
-/// Writes the line about a field that is not allowed.
-fn write_field<E: Write>(rows: &Rows, why: TraceFault, place: usize, name: &str, errors: &mut E) {
-    let (column, field) = (
-        rows.names.get(place).unwrap_or(&[]),
-        rows.fields.get(place).unwrap_or(&[]),
-    );
-    let (row, verb, allowed) = match (why, column) {
-        (TraceFault::Word { row }, b"type") => (row, "are", TYPES),
-        (TraceFault::Word { row }, _) => (row, "are", "pie, fq_pie"),
-        (TraceFault::Number { row }, _) => (row, "is", allowed_for(column, field)),
-        _ => return,
+    say_parts! { call.errors;
+        Text("record "), Number(row), Text(" of "), Word(name), Text(": "), Number(rows.fields.len() as u64),
+        Text(" fields; "), Text(what), Text(" has "), Number(all as u64)
     };
-    let (shown, number) = (InCommand(name), place.saturating_add(1));
-    let (column, field) = (column.escape_ascii(), field.escape_ascii());
-    let _ = writeln!(
-        errors,
-        "pie: record {row} of {shown}, field {number} ({column}): \"{field}\"; allowed {verb} {allowed}"
-    );
 }
 
-/// Reads the text in the file `name` again. Returns its first row and the row with this number.
-fn rows_at<H: NamedFiles + Screen, R: Read + Drop, E: Write>(
-    call: &mut Call<'_, '_, '_, '_, H, R, E>,
-    name: &str,
+/// Writes the line about a field that is not allowed. `is_word` is true for a column of words.
+fn report_place<'r>(
+    call: &Call<'_, '_>,
+    rows: &'r Rows,
     row: u64,
-) -> Option<Rows> {
-    let text: Source<R, H::File> = Right(call.rt.open_again(name)?);
-    let reader = ProgressReader::new(text, &mut *call.errors, call.rt, false);
-    rows_of(call.alloc, reader, row)
+    place: usize,
+    is_word: bool,
+    name: &'r str,
+) {
+    let column = rows.names.get(place).unwrap_or(&[]);
+    let field = rows.fields.get(place).unwrap_or(&[]);
+    let (verb, allowed) = match (is_word, column) {
+        (true, b"type") => (" are ", TYPES),
+        (true, _) => (" are ", "pie, fq_pie"),
+        (false, _) => ("", allowed_for(column, field)),
+    };
+    say_parts! { call.errors;
+        Text("record "), Number(row), Text(" of "), Word(name), Text(", field "), Number((place as u64).saturating_add(1)),
+        Text(" ("), Ascii(column), Text("): \""), Ascii(field), Text("\"; allowed"), Text(verb), Text(allowed)
+    };
 }
 
 /// Reads the text in the file `name` again, and writes a line with the field that causes the fault `why`. Returns false if the
 /// field is not found; nothing is written then.
-pub(crate) fn report_field<H: NamedFiles + Screen, R: Read + Drop, E: Write>(
-    call: &mut Call<'_, '_, '_, '_, H, R, E>,
-    name: &str,
-    why: TraceFault,
-) -> bool {
+pub(crate) fn report_field(call: &Call<'_, '_>, name: &str, why: TraceFault) -> bool {
     let (TraceFault::Fields { row } | TraceFault::Number { row } | TraceFault::Word { row }) = why
     else {
         return false;
@@ -179,16 +163,19 @@ pub(crate) fn report_field<H: NamedFiles + Screen, R: Read + Drop, E: Write>(
     let Some(rows) = rows_at(call, name, row) else {
         return false;
     };
-    let place = match why {
+    let (place, is_word) = match why {
         TraceFault::Fields { .. } => {
-            write_count(&rows, row, name, call.errors);
+            report_count(call, &rows, row, name);
             return true;
         }
-        TraceFault::Word { .. } => rows.bad_word(),
-        _ => rows.bad_number(call.alloc),
+        TraceFault::Word { .. } => (rows.bad_word(), true),
+        _ => (rows.bad_number(call), false),
     };
-    if let Some(place) = place {
-        write_field(&rows, why, place, name, call.errors);
+    match place {
+        Some(place) => {
+            report_place(call, &rows, row, place, is_word, name);
+            true
+        }
+        None => false,
     }
-    place.is_some()
 }

@@ -5,7 +5,10 @@ ghost use Rattle.pie_commands.specs.Storms.{choice_by, decay_in, elements_in, nu
 ghost use Rattle.pie_storm.specs.Plans.{HasStormRange};
 
 use crate::call::Call;
-use crate::end::{End, end_failed, end_unable, end_with_fault};
+use crate::end::{End, end_failed, end_with_fault};
+use crate::files::Output;
+use crate::line::Part::{Number, Text};
+use crate::line::{say_parts, say_text};
 use crate::options::{flag, number_or, report_nearest, text};
 use clap::ArgMatches;
 use pie_book::{Event, Profile};
@@ -14,8 +17,7 @@ use pie_record::first_record::one_of_two;
 use pie_record::words::{decay_word, delay_word, picking_word, size_word, step_word};
 use pie_storm::{StormNumbers, write_storm};
 use pie_trace::TraceFault;
-use std::alloc::Global;
-use std::io::Write;
+use std::io::Stderr;
 use std::marker::Sync;
 use std::sync::Wait;
 use std::thread::Threads;
@@ -25,6 +27,15 @@ use std::time::Clock;
 const NO_CHOICE: &str =
     "storm: --delay must be rate or stamp, --picking derandomized or random, --step capped or uncapped, --size unscaled or scaled, \
 and --decay zero or half";
+
+/// The options that choose elements, with the keywords of each.
+const KEYWORDS: [(&str, [&str; 2]); 5] = [
+    ("delay", ["rate", "stamp"]),
+    ("picking", ["derandomized", "random"]),
+    ("step", ["capped", "uncapped"]),
+    ("size", ["unscaled", "scaled"]),
+    ("decay", ["zero", "half"]),
+];
 
 /// Returns the choice that a word names, of two choices with their keywords: the first without a word, none for another word.
 fn choice<T: Copy>(word: Option<&str>, first: &[u8], one: T, second: &[u8], other: T) -> Option<T>
@@ -70,21 +81,6 @@ fn elements_of(options: &ArgMatches<'_>) -> Option<Elements>
     })
 }
 
-/// Writes a line for each of these options whose text names no choice.
-fn report_keywords<E: Write>(alloc: Global, options: &ArgMatches<'_>, errors: &mut E) {
-    report_nearest(alloc, options, "delay", &["rate", "stamp"], errors);
-    report_nearest(
-        alloc,
-        options,
-        "picking",
-        &["derandomized", "random"],
-        errors,
-    );
-    report_nearest(alloc, options, "step", &["capped", "uncapped"], errors);
-    report_nearest(alloc, options, "size", &["unscaled", "scaled"], errors);
-    report_nearest(alloc, options, "decay", &["zero", "half"], errors);
-}
-
 /// Returns the numbers of the plan that these options request, with these elements. Each number has a default for a command line without it.
 fn numbers_of(options: &ArgMatches<'_>, elements: Elements) -> StormNumbers
     ensures requested { result ≡ numbers_in elements (rows_of (found_of options.now)) }
@@ -110,28 +106,34 @@ fn numbers_of(options: &ArgMatches<'_>, elements: Elements) -> StormNumbers
 /// `pie storm`: runs the storm of these options, audits its events and writes their history. If a text names no
 /// choice, the end is `Failed`; if memory or a thread is missing, `CannotStart`; if the writer fails or memory is short
 /// meanwhile, a fault; otherwise `Done`.
-pub(crate) fn storm<H: Threads + Wait + Clock + Sync, R: Drop, W: Write, E: Write>(
-    call: &mut Call<'_, '_, '_, '_, H, R, E>,
-    output: &mut W,
+pub(crate) fn storm<H: Threads + Wait + Clock + Sync>(
+    threads: &H,
+    call: &Call<'_, '_>,
+    output: &mut Output,
 ) -> End {
-    let (alloc, options) = (call.alloc, call.options);
-    let Some(elements) = elements_of(options) else {
-        let end = end_failed(call.errors, NO_CHOICE);
-        report_keywords(alloc, options, call.errors);
+    let (alloc, errors) = (call.alloc, call.errors);
+    let Some(elements) = elements_of(call.options) else {
+        let end = end_failed(errors, NO_CHOICE);
+        for (name, keywords) in KEYWORDS {
+            report_nearest(call, name, &keywords);
+        }
         return end;
     };
-    let made = match pie_storm::make_storm(call.rt, alloc, numbers_of(options, elements)) {
+    let made = match pie_storm::make_storm(threads, alloc, numbers_of(call.options, elements)) {
         Ok(made) => made,
-        Err(why) => return end_unable(call.errors, why),
+        Err(why) => {
+            say_text(errors, &[], why);
+            return End::CannotStart;
+        }
     };
     let events = made.end.events.as_slice();
-    report_counts(options, events, call.errors);
+    report_counts(call.options, events, errors);
     let written = write_storm(alloc, &made.plan, events, output);
     drop(made);
     match written {
         Ok(()) => End::Done,
-        Err(TraceFault::Memory) => end_with_fault(call.errors, TraceFault::Memory),
-        Err(_) => end_with_fault(call.errors, TraceFault::Write),
+        Err(TraceFault::Memory) => end_with_fault(errors, TraceFault::Memory),
+        Err(_) => End::Fault(TraceFault::Write),
     }
 }
 
@@ -145,10 +147,12 @@ fn changes_of_caller(events: &[Event]) -> u64 {
     changes
 }
 
-/// If the options request it, writes the number of events and of changes of caller to `errors`. Ignores a failed write.
-fn report_counts<E: Write>(options: &ArgMatches<'_>, events: &[Event], errors: &mut E) {
+/// If the options request it, writes the number of events and of changes of caller to `errors`.
+fn report_counts(options: &ArgMatches<'_>, events: &[Event], errors: Stderr) {
     if flag(options, "count") {
-        let (count, changes) = (events.len(), changes_of_caller(events));
-        let _ = writeln!(errors, "pie: {count} events, {changes} changes of caller");
+        say_parts! { errors;
+            Number(events.len() as u64), Text(" events, "), Number(changes_of_caller(events)),
+            Text(" changes of caller")
+        };
     }
 }

@@ -5,12 +5,14 @@ ghost use Rattle.pie_commands.specs.Alterations.{alteration_of, checked_alterati
 
 use crate::call::Call;
 use crate::comparison::{Column, NO_REACTION, Table, comparison, fault_in_memory};
-use crate::end::{End, end_of_page, end_with_fault, fault};
-use crate::files::{NamedFiles, Source, open_text};
+use crate::end::{End, end_of_page, end_with_fault};
+use crate::files::{Output, Source};
 use crate::json::JsonWriter;
-use crate::options::{bound, file, flag, number, output as output_file, parsed, text};
+use crate::line::Part::{Number, Text};
+use crate::line::{say, say_parts, say_text};
+use crate::options::{bound, flag, number, output as output_file, parsed, text};
 use crate::params::warn_rounded;
-use crate::progress::{ProgressReader, Screen, shows_progress};
+use crate::progress::ProgressReader;
 use clap::ArgMatches;
 use pie_explain::ExplainFault;
 use pie_params::Params;
@@ -19,7 +21,7 @@ use pie_trace::{
 };
 use pie_units::{OptionFault, When, gain_of, time_of};
 use std::alloc::Global;
-use std::io::{ErrorKind, Read, Write};
+use std::io::{ErrorKind, Read, Stderr};
 
 /// The message for options without a moment.
 const NO_MOMENT: &str = "what-if needs --from MOMENT; see pie what-if --help";
@@ -88,17 +90,13 @@ fn other_with(
 
 /// Returns the alteration with these parameters if each is in its range. Otherwise writes a line to `errors`, and returns
 /// `None`.
-fn checked_alteration<E: Write>(
-    from: When,
-    params: OtherParams,
-    errors: &mut E,
-) -> Option<Alteration>
+fn checked_alteration(from: When, params: OtherParams, errors: Stderr) -> Option<Alteration>
     ensures { result ≡ checked_alteration from params }
 {
     match Params::check(params.over(Params::default_profile().raw())) {
         Ok(_) => Some(Alteration { from, params }),
         Err(why) => {
-            fault(errors, why);
+            say_text(errors, &[], why);
             None
         }
     }
@@ -106,12 +104,12 @@ fn checked_alteration<E: Write>(
 
 /// Returns the alteration of these options. If they are not valid together, writes a line to `errors` and returns `None`.
 #[tactic(auto, unfolding(crate::specs::Alterations::alteration_of))]
-fn alteration_of<E: Write>(options: &ArgMatches<'_>, errors: &mut E) -> Option<Alteration>
+fn alteration_of(options: &ArgMatches<'_>, errors: Stderr) -> Option<Alteration>
     ensures { result ≡ alteration_of (rows_of (found_of options.now)) }
 {
     let from = parsed(bound(options, "from"), "--from:", errors)?;
     let Some(from) = from else {
-        fault(errors, NO_MOMENT);
+        say(errors, &[Text(NO_MOMENT)]);
         return None;
     };
     let target = parsed(time(options, "target"), "--target", errors)?;
@@ -148,7 +146,7 @@ fn output_wanted(options: &ArgMatches<'_>) -> Option<Wanted> {
 }
 
 /// Writes a line for the commands of each kind that the other history omits.
-fn report_omitted<E: Write>(errors: &mut E, omitted: Omitted) {
+fn report_omitted(errors: Stderr, omitted: Omitted) {
     let kinds = [
         ("arrivals", omitted.arrivals),
         ("departures", omitted.departures),
@@ -158,52 +156,45 @@ fn report_omitted<E: Write>(errors: &mut E, omitted: Omitted) {
     ];
     for (name, number) in kinds {
         if 0 < number {
-            let _ = writeln!(
-                errors,
-                "pie: omitted {name}, which the other history refuses at their place: {number}"
-            );
+            say_parts! { errors;
+                Text("omitted "), Text(name), Text(", which the other history refuses at their place: "),
+                Number(number)
+            };
         }
     }
 }
 
 /// Returns the end of a history that was not decided again, by this reason. If the output was collected in memory, a failed
 /// write is a lack of memory.
-fn end_of<H: NamedFiles + Screen, R: Read + Drop, E: Write>(
-    call: &mut Call<'_, '_, '_, '_, H, R, E>,
-    is_in_memory: bool,
-    why: WhatIfFault,
-) -> End {
+fn end_of(call: &Call<'_, '_>, is_in_memory: bool, why: WhatIfFault) -> End {
     match why {
         WhatIfFault::Trace(why) if is_in_memory => call.end_at_fault(fault_in_memory(why)),
         WhatIfFault::Trace(why) => call.end_at_fault(why),
         WhatIfFault::Differs { event } => {
-            let _ = call.end_at_event(WhatIfFault::Differs { event }, event);
+            let _ = call.end_at_event(why, event);
             End::Failed
         }
-        WhatIfFault::NoEvents => call.failed(WhatIfFault::NoEvents),
+        WhatIfFault::NoEvents => call.failed_by(why),
     }
 }
 
 /// Writes the other history of a text to `output`: while it is decided, or if it is wanted `whole`, once it is complete.
-fn write_other<H: NamedFiles + Screen, R: Read + Drop, W: Write, E: Write>(
-    call: &mut Call<'_, '_, '_, '_, H, R, E>,
+fn write_other(
+    call: &Call<'_, '_>,
     alteration: &Alteration,
     whole: bool,
-    text: Source<R, H::File>,
-    output: &mut W,
+    text: ProgressReader<'_, Source<'_>>,
+    output: &mut Output,
 ) -> End {
-    let (rt, alloc) = (call.rt, call.alloc);
-    let is_shown = shows_progress(rt, call.options, true);
-    let watched = ProgressReader::new(text, &mut *call.errors, rt, is_shown);
     let most = if whole { usize::MAX } else { 0 };
-    let mut other = JsonWriter::new(alloc, output, false, most);
-    let outcome = decide_other(alloc, watched, &mut other, alteration);
+    let mut other = JsonWriter::new(call.alloc, output, false, most);
+    let outcome = decide_other(call.alloc, text, &mut other, alteration);
     let page = other.into_withheld();
     match outcome {
         Ok(end) => {
-            fault(call.errors, NO_REACTION);
+            say(call.errors, &[Text(NO_REACTION)]);
             report_omitted(call.errors, end.omitted);
-            end_of_page(&page, output, call.errors)
+            end_of_page(&page, output)
         }
         Err(why) => end_of(call, whole, why),
     }
@@ -211,25 +202,25 @@ fn write_other<H: NamedFiles + Screen, R: Read + Drop, W: Write, E: Write>(
 
 /// Decides a history again. (A function of its own is compiled once.)
 #[inline(never)]
-fn decide_other<R: Read + Drop, W: Write>(
+fn decide_other(
     alloc: Global,
-    reader: R,
-    other: &mut JsonWriter<'_, W>,
+    reader: ProgressReader<'_, Source<'_>>,
+    other: &mut JsonWriter<'_>,
     alteration: &Alteration,
 ) -> Result<WhatIfEnd, WhatIfFault> {
     decide_again(alloc, reader, other, alteration)
 }
 
 /// Decides the history in `text` again, in memory. Stores the other history in `other`. Nothing is written to `output`.
-fn decide_in_memory<W: Write>(
-    alloc: Global,
+fn decide_in_memory(
+    call: &Call<'_, '_>,
     text: &[u8],
     alteration: &Alteration,
-    output: &mut W,
+    output: &mut Output,
     other: &mut Vec<u8>,
 ) -> Result<WhatIfEnd, WhatIfFault> {
-    let mut writer = JsonWriter::new(alloc, output, false, usize::MAX);
-    let outcome = decide_other(alloc, text, &mut writer, alteration);
+    let mut writer = JsonWriter::new(call.alloc, output, false, usize::MAX);
+    let outcome = decide_other(call.alloc, call.reader_of(text), &mut writer, alteration);
     *other = writer.into_withheld();
     outcome
 }
@@ -237,26 +228,27 @@ fn decide_in_memory<W: Write>(
 /// The texts of a comparison.
 #[derive(Drop)]
 struct Compared {
+    text: Vec<u8>,
     control: Vec<u8>,
     other: Vec<u8>,
     page: Vec<u8>,
 }
 
-/// Writes the text of the comparison of the history in `text` with its control and the other history to a page.
-fn compare_text<W: Write>(
-    alloc: Global,
+/// Writes the comparison of a history with its control and the other history to a page.
+fn compare_text(
+    call: &Call<'_, '_>,
     alteration: &Alteration,
     table: Table,
-    text: &[u8],
-    output: &mut W,
+    output: &mut Output,
     compared: &mut Compared,
 ) -> Result<Result<(), ExplainFault>, WhatIfFault> {
     let control = Alteration {
         from: alteration.from,
         params: UNCHANGED,
     };
-    let control = decide_in_memory(alloc, text, &control, output, &mut compared.control)?;
-    let end = decide_in_memory(alloc, text, alteration, output, &mut compared.other)?;
+    let text = &compared.text;
+    let control = decide_in_memory(call, text, &control, output, &mut compared.control)?;
+    let end = decide_in_memory(call, text, alteration, output, &mut compared.other)?;
     let after = end.before.saturating_add(1);
     let columns = [
         Column {
@@ -275,84 +267,71 @@ fn compare_text<W: Write>(
             omitted: end.omitted,
         },
     ];
-    Ok(comparison(alloc, columns, table, output, &mut compared.page))
+    Ok(comparison(call, columns, table, output, &mut compared.page))
 }
 
 /// Returns the end of a comparison, whose text is in `page` if it is complete.
-fn end_of_comparison<H: NamedFiles + Screen, R: Read + Drop, W: Write, E: Write>(
-    call: &mut Call<'_, '_, '_, '_, H, R, E>,
+fn end_of_comparison(
+    call: &Call<'_, '_>,
     table: Table,
     outcome: Result<Result<(), ExplainFault>, WhatIfFault>,
     page: &[u8],
-    output: &mut W,
+    output: &mut Output,
 ) -> End {
     let written = match outcome {
         Ok(written) => written,
         Err(why) => return end_of(call, true, why),
     };
     if !matches!(table, Table::Words) {
-        fault(call.errors, NO_REACTION);
+        say(call.errors, &[Text(NO_REACTION)]);
     }
     match written {
-        Ok(()) => end_of_page(page, output, call.errors),
+        Ok(()) => end_of_page(page, output),
         Err(ExplainFault::Trace(why)) => end_with_fault(call.errors, why),
-        Err(why) => call.failed(why),
-    }
-}
-
-/// Reads a text into memory.
-fn read_text<H: NamedFiles + Screen, R: Read + Drop, E: Write>(
-    call: &mut Call<'_, '_, '_, '_, H, R, E>,
-    source: Source<R, H::File>,
-    text: &mut Vec<u8>,
-) -> Result<(), TraceFault> {
-    let (rt, is_shown) = (call.rt, shows_progress(call.rt, call.options, true));
-    let mut watched = ProgressReader::new(source, &mut *call.errors, rt, is_shown);
-    match watched.read_to_end(text) {
-        Ok(_) => Ok(()),
-        Err(why) if matches!(why.kind(), ErrorKind::OutOfMemory) => Err(TraceFault::Memory),
-        Err(_) => Err(TraceFault::Read),
+        Err(why) => call.failed_by(why),
     }
 }
 
 /// Compares a history, which is read into memory, with its control and the other history.
-fn compare<H: NamedFiles + Screen, R: Read + Drop, W: Write, E: Write>(
-    call: &mut Call<'_, '_, '_, '_, H, R, E>,
+fn compare(
+    call: &Call<'_, '_>,
     alteration: &Alteration,
     table: Table,
-    source: Source<R, H::File>,
-    output: &mut W,
+    reader: ProgressReader<'_, Source<'_>>,
+    output: &mut Output,
 ) -> End {
-    let alloc = call.alloc;
+    let (alloc, mut reader) = (call.alloc, reader);
     let mut text = Vec::new(alloc);
-    if let Err(why) = read_text(call, source, &mut text) {
-        return call.end_at_fault(why);
+    let read = reader.read_to_end(&mut text);
+    drop(reader);
+    if let Err(why) = read {
+        return call.end_at_fault(match why.kind() {
+            ErrorKind::OutOfMemory => TraceFault::Memory,
+            _ => TraceFault::Read,
+        });
     }
     let mut compared = Compared {
+        text,
         control: Vec::new(alloc),
         other: Vec::new(alloc),
         page: Vec::new(alloc),
     };
-    let outcome = compare_text(alloc, alteration, table, &text, output, &mut compared);
+    let outcome = compare_text(call, alteration, table, output, &mut compared);
     end_of_comparison(call, table, outcome, &compared.page, output)
 }
 
 /// `pie what-if`: decides the history or excerpt in the file that the options name, or in standard input, again with other
 /// parameters from a moment on. With `-o` writes the other history, otherwise a comparison. An event that differs from
 /// the rules, or options that are not valid, are a failure. Each error has a line on the error stream.
-pub(crate) fn what_if<H: NamedFiles + Screen, R: Read + Drop, W: Write, E: Write>(
-    call: &mut Call<'_, '_, '_, '_, H, R, E>,
-    output: &mut W,
-) -> End {
-    let options = call.options;
-    let Some(alteration) = alteration_of(options, call.errors) else {
+pub(crate) fn what_if(call: &Call<'_, '_>, output: &mut Output) -> End {
+    let Some(alteration) = alteration_of(call.options, call.errors) else {
         return End::Failed;
     };
-    let Some(wanted) = output_wanted(options) else {
-        return call.failed(ONE_FORM);
+    let Some(wanted) = output_wanted(call.options) else {
+        return call.failed(&[Text(ONE_FORM)]);
     };
-    warn_rounded(options, call.errors);
-    let Some(text) = open_text(call.rt, file(options), &mut call.input, call.errors) else {
+    warn_rounded(call.options, call.errors);
+    let Some(text) = call.open() else {
         return End::Unopened;
     };
     match wanted {

@@ -1,12 +1,15 @@
 //! The page of `pie advise`: its arguments and its help.
 
-use crate::options::argument::{Argument, HelpPage, ValueKind, row};
+/// Returns the page of `pie advise`.
+pub(crate) fn advise_page() -> &'static [u8] {
+    b"Advises on the parameters of a queue for a link
+--rate RATE | Rate of the link, such as 20mbit. Required
+--rtt RANGE | Round-trip times, such as 10ms-100ms. Required | Round-trip times without the queue, such as 10ms-100ms. Required
+--flows RANGE | Numbers of flows, such as 1-16. Required | Numbers of flows that send at the same time, such as 1-16. Required
+--overhead BYTES | Bytes that the link adds to a packet. Default: 0 | Bytes that the link adds to each packet, -65535 to 65535. Default: 0
+--ecn | Mark packets of ECN-capable endpoints | Mark packets of ECN-capable endpoints. Default: off, they are dropped
 
-/// The page of `pie advise`.
-pub(crate) const ADVISE: HelpPage<'static> = HelpPage {
-    word: "advise",
-    about: "Advises on the parameters of a queue for a link",
-    help: "RATE is written as for pie params, such as 20mbit. RANGE is a value, or the least and the greatest one
+RATE is written as for pie params, such as 20mbit. RANGE is a value, or the least and the greatest one
 with a dash between them: --rtt 10ms-100ms, --flows 1-16. A round-trip time is that of the path
 without the queue. --flows counts the TCP flows that send at the same time.
 
@@ -37,12 +40,5 @@ There is a warning if limit_bytes is below rate x (target + max_burst), or above
 
 Example:
 
-  pie advise --rate 20mbit --rtt 10ms-50ms --flows 4-16 --ecn",
-    arguments: &[
-        row!("rate": Value("RATE"), "Rate of the link, such as 20mbit. Required"),
-        row!("rtt": Value("RANGE"), "Round-trip times, such as 10ms-100ms. Required", "Round-trip times without the queue, such as 10ms-100ms. Required"),
-        row!("flows": Value("RANGE"), "Numbers of flows, such as 1-16. Required", "Numbers of flows that send at the same time, such as 1-16. Required"),
-        row!("overhead": Value("BYTES"), "Bytes that the link adds to a packet. Default: 0", "Bytes that the link adds to each packet, -65535 to 65535. Default: 0"),
-        row!("ecn": Nothing, "Mark packets of ECN-capable endpoints", "Mark packets of ECN-capable endpoints. Default: off, they are dropped"),
-    ],
-};
+  pie advise --rate 20mbit --rtt 10ms-50ms --flows 4-16 --ecn"
+}

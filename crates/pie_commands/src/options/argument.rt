@@ -1,4 +1,14 @@
-//! The arguments of a subcommand as data: its options and the files that it reads.
+//! The arguments of a subcommand: its options and the files that it reads. Each is a row of the subcommand's page.
+//!
+//! A row has the form of the argument, and its lines in `-h` and in `--help`, or one line for both, with ` | ` between them.
+//! The forms are
+//!
+//! - `--name`: an option without a value; `--name rare`: one that only `--help` lists;
+//! - `--name 1-9`: an option whose value is a whole number in this range;
+//! - `--name NAME`: an option whose value is a text of this name in the help;
+//! - `name`: a file, with no option before it; `name ..`: any number of files.
+//!
+//! `progress`, `output`, `force` and `file` alone are rows that several pages have.
 
 use clap::builder::ValueParser;
 use clap::{Arg, ArgAction};
@@ -15,9 +25,7 @@ pub(crate) enum ValueKind {
     Number(u64, u64),
     /// A text of this name in the help.
     Value(&'static str),
-    /// A text of this name in the help, for an option that also has this one-letter name.
-    Lettered(char, &'static str),
-    /// A file, with no option before it.
+    /// A file, with no option before it. `-h` has it in its usage alone.
     File,
     /// Any number of files, with no option before them.
     Files,
@@ -30,90 +38,88 @@ pub(crate) struct Argument {
     pub(crate) name: &'static str,
     pub(crate) takes: ValueKind,
     /// Its line of at most 80 columns in `-h`.
-    pub(crate) short: &'static str,
+    short: &'static str,
     /// Its line in `--help`.
-    pub(crate) help: &'static str,
+    help: &'static str,
 }
-
-/// The page of a subcommand: its name, help and arguments.
-#[derive(Clone, Copy)]
-pub(crate) struct HelpPage<'a> {
-    /// Its name on the command line.
-    pub(crate) word: &'a str,
-    /// Its purpose, in one line.
-    pub(crate) about: &'a str,
-    /// The help text below its options.
-    pub(crate) help: &'a str,
-    /// Its options and files.
-    pub(crate) arguments: &'a [Argument],
-}
-
-/// A row of a table of arguments: the name, the kind of value, and the lines in `-h` and in `--help`, or one for both.
-macro_rules! row {
-    ($name:literal: $takes:ident $(($($of:expr),+))?, $help:literal) => {
-        row!($name: $takes $(($($of),+))?, $help, $help)
-    };
-    ($name:literal: $takes:ident $(($($of:expr),+))?, $short:literal, $help:literal) => {
-        Argument { name: $name, takes: ValueKind::$takes $(($($of),+))?, short: $short, help: $help }
-    };
-}
-
-pub(crate) use row;
 
 /// The option that requests progress reports.
-pub(crate) const PROGRESS: Argument =
-    row!("progress": Rare, "Report progress on standard error. Default: on if it is a terminal and the output is not");
+const PROGRESS: &str =
+    "--progress rare | Report progress on standard error. Default: on if it is a terminal and the output is not";
 
 /// The file to write in place of standard output.
-pub(crate) const OUTPUT: Argument =
-    row!("output": Lettered('o', "FILE"), "Write to FILE, created or replaced when complete",
-    "Write to FILE, which is created or replaced when the output is complete. Default: standard output");
+const OUTPUT: &str =
+    "--output FILE | Write to FILE, created or replaced when complete | Write to FILE, which is created or replaced when the output is complete. Default: standard output";
 
 /// The option that allows an existing output file to be replaced.
-pub(crate) const FORCE: Argument =
-    row!("force": Rare, "Replace the FILE of -o if it exists. Default: off");
+const FORCE: &str = "--force rare | Replace the FILE of -o if it exists. Default: off";
 
 /// A file that may be named.
-pub(crate) const FILE: Argument =
-    row!("file": File, "File to read; - is standard input. Default: standard input");
+const FILE: &str = "file | File to read; - is standard input. Default: standard input";
 
-/// Returns an argument of this name, without a kind of value yet.
-fn named<'a>(alloc: Global, argument: Argument) -> Arg<'a> {
-    Arg::new(alloc, argument.name)
-        .help(argument.short)
-        .long_help(argument.help)
+/// Returns the kind of an option whose form has this value.
+fn kind_of(value: &'static str) -> ValueKind {
+    match (value, value.split_once('-')) {
+        ("", _) => ValueKind::Nothing,
+        ("rare", _) => ValueKind::Rare,
+        (_, None) => ValueKind::Value(value),
+        (_, Some((least, most))) => ValueKind::Number(
+            least.parse().unwrap_or(0),
+            most.parse().unwrap_or(u64::MAX),
+        ),
+    }
 }
 
-/// Returns an option of this name, whose value has the name `value` in the help.
-fn valued<'a>(alloc: Global, argument: Argument, value: &'static str) -> Arg<'a> {
-    named(alloc, argument).long(argument.name).value_name(value)
-}
-
-/// Returns an option of this name without a value.
-fn switch<'a>(alloc: Global, argument: Argument) -> Arg<'a> {
-    named(alloc, argument)
-        .long(argument.name)
-        .action(ArgAction::SetTrue)
-}
-
-/// Returns a file argument, which `-h` has in its usage alone.
-fn file<'a>(alloc: Global, argument: Argument) -> Arg<'a> {
-    named(alloc, argument)
-        .value_name("FILE")
-        .hide_short_help(true)
+impl Argument {
+    /// Returns the argument of a row.
+    pub(crate) fn of(row: &'static str) -> Argument {
+        let row = match row {
+            "progress" => PROGRESS,
+            "output" => OUTPUT,
+            "force" => FORCE,
+            "file" => FILE,
+            _ => row,
+        };
+        let (form, lines) = row.split_once(" | ").unwrap_or((row, ""));
+        let (short, help) = lines.split_once(" | ").unwrap_or((lines, lines));
+        let (name, value) = form.split_once(' ').unwrap_or((form, ""));
+        let (name, takes) = match (name.strip_prefix("--"), value) {
+            (Some(name), _) => (name, kind_of(value)),
+            (None, "") => (name, ValueKind::File),
+            (None, _) => (name, ValueKind::Files),
+        };
+        Argument {
+            name,
+            takes,
+            short,
+            help,
+        }
+    }
 }
 
 /// Returns the argument for `clap`.
 pub(crate) fn arg_of<'a>(alloc: Global, argument: Argument) -> Arg<'a> {
-    match argument.takes {
-        ValueKind::Nothing => switch(alloc, argument),
-        ValueKind::Rare => switch(alloc, argument).hide_short_help(true),
+    let (name, takes) = (argument.name, argument.takes);
+    let action = match takes {
+        ValueKind::Nothing | ValueKind::Rare => ArgAction::SetTrue,
+        ValueKind::Files => ArgAction::Append,
+        _ => ArgAction::Set,
+    };
+    let arg = Arg::new(alloc, name)
+        .help(argument.short)
+        .long_help(argument.help)
+        .action(action)
+        .hide_short_help(matches!(takes, ValueKind::Rare | ValueKind::File | ValueKind::Files));
+    match takes {
+        ValueKind::Nothing | ValueKind::Rare => arg.long(name),
         ValueKind::Number(least, most) => {
-            valued(alloc, argument, "N").value_parser(ValueParser::unsigned(least, most))
+            let parser = ValueParser::unsigned(least, most);
+            arg.long(name).value_name("N").value_parser(parser)
         }
-        ValueKind::Value(value) => valued(alloc, argument, value),
-        ValueKind::Lettered(letter, value) => valued(alloc, argument, value).short(letter),
-        ValueKind::File => file(alloc, argument),
-        ValueKind::Files => file(alloc, argument).action(ArgAction::Append),
+        ValueKind::Value(value) if name == "output" => {
+            arg.long(name).value_name(value).short('o')
+        }
+        ValueKind::Value(value) => arg.long(name).value_name(value),
+        ValueKind::File | ValueKind::Files => arg.value_name("FILE"),
     }
 }

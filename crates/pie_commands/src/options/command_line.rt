@@ -1,12 +1,14 @@
 //! The command of `clap` for the command line, built from the tables of the subcommands.
 
-use crate::options::advise_page::ADVISE;
-use crate::options::argument::{Argument, HelpPage, arg_of};
-use crate::options::history_pages::{AUDIT, CUT, EXPLAIN, MIGRATE};
-use crate::options::trace_pages::{PARAMS, RUN, STORM};
-use crate::options::what_if_page::WHAT_IF;
+use crate::options::advise_page::advise_page;
+use crate::options::argument::{Argument, arg_of};
+use crate::options::history_pages::{audit_page, cut_page, explain_page, migrate_page};
+use crate::options::subcommand::{SUBCOMMANDS, Subcommand, Work};
+use crate::options::trace_pages::{params_page, run_page, storm_page};
+use crate::options::what_if_page::what_if_page;
 use clap::Command;
 use std::alloc::{AllocError, Global};
+use std::str::from_utf8;
 
 /// The version that `pie --version` prints after the name.
 const VERSION: &str = "0.1.0";
@@ -20,70 +22,47 @@ const PIE_HELP: &str =
 The output of a run is its history. pie audit decides it again, and pie explain
 explains it.";
 
-/// The pages of all subcommands.
-const PAGES: [HelpPage<'static>; 9] = [
-    RUN, AUDIT, EXPLAIN, CUT, MIGRATE, STORM, PARAMS, WHAT_IF, ADVISE,
-];
-
-/// A reader of pages.
-pub(crate) trait PageReader {
-    /// Reads a page.
-    fn read_page(&mut self, page: HelpPage<'static>);
+/// The page of a subcommand.
+#[derive(Clone, Copy)]
+pub(crate) struct HelpPage {
+    /// Its purpose, in one line.
+    about: &'static str,
+    /// The rows of its arguments (argument.rt).
+    pub(crate) rows: &'static str,
+    /// The help text below its options.
+    help: &'static str,
 }
 
-/// Passes the page of each subcommand to a reader. (The proof of a function that contains all help takes long.)
-pub(crate) fn read_pages<P: PageReader>(reader: &mut P) {
-    for page in PAGES {
-        reader.read_page(page);
+/// Returns the page of a subcommand. Its text has the purpose, the rows of the arguments, an empty line and the help. (A text
+/// of bytes in a function of its own is proved soonest.)
+pub(crate) fn page_of(work: Work) -> HelpPage {
+    let bytes = match work {
+        Work::Run => run_page(),
+        Work::Audit => audit_page(),
+        Work::Explain => explain_page(),
+        Work::Cut => cut_page(),
+        Work::Migrate => migrate_page(),
+        Work::Storm => storm_page(),
+        Work::Params => params_page(),
+        Work::WhatIf => what_if_page(),
+        Work::Advise => advise_page(),
+    };
+    let text = from_utf8(bytes).unwrap_or("");
+    let (head, help) = text.split_once("\n\n").unwrap_or((text, ""));
+    let (about, rows) = head.split_once('\n').unwrap_or((head, ""));
+    HelpPage { about, rows, help }
+}
+
+/// Builds the command of a subcommand, with its arguments.
+fn command_of<'a>(alloc: Global, subcommand: Subcommand) -> Result<Command<'a>, AllocError> {
+    let page = page_of(subcommand.work);
+    let mut command = Command::new(alloc, subcommand.word)
+        .about(page.about)
+        .after_long_help(page.help);
+    for row in page.rows.lines() {
+        command = command.arg(arg_of(alloc, Argument::of(row)))?;
     }
-}
-
-/// Adds an argument to a command. If there is no command, the argument isn't built.
-fn with_argument<'a>(
-    alloc: Global,
-    begun: Result<Command<'a>, AllocError>,
-    argument: Argument,
-) -> Result<Command<'a>, AllocError> {
-    match begun {
-        Ok(command) => command.arg(arg_of(alloc, argument)),
-        Err(why) => Err(why),
-    }
-}
-
-/// Builds the subcommand of a page, with its arguments.
-fn command_of<'a>(alloc: Global, page: HelpPage<'a>) -> Result<Command<'a>, AllocError> {
-    let mut command = Ok(
-        Command::new(alloc, page.word)
-            .about(page.about)
-            .after_long_help(page.help),
-    );
-    for argument in page.arguments {
-        command = with_argument(alloc, command, *argument);
-    }
-    command
-}
-
-/// The subcommands of the pages that were read, unless memory was short.
-#[derive(Drop)]
-struct Commands<'a> {
-    alloc: Global,
-    all: Vec<Command<'a>>,
-    added: Result<(), AllocError>,
-}
-
-impl Commands<'_> {
-    /// Adds the subcommand of a page.
-    fn add(&mut self, page: HelpPage<'static>) -> Result<(), AllocError> {
-        self.added?;
-        self.all.push(command_of(self.alloc, page)?)?;
-        Ok(())
-    }
-}
-
-impl PageReader for Commands<'_> {
-    fn read_page(&mut self, page: HelpPage<'static>) {
-        self.added = self.add(page);
-    }
+    Ok(command)
 }
 
 /// Returns the command `pie` with its subcommands.
@@ -92,23 +71,14 @@ impl PageReader for Commands<'_> {
 ///
 /// `AllocError` if memory is short.
 pub(crate) fn options<'a>(alloc: Global) -> Result<Command<'a>, AllocError> {
-    let mut commands = Commands {
-        alloc,
-        all: Vec::new(alloc),
-        added: Ok(()),
-    };
-    read_pages(&mut commands);
-    let Commands { all, added, .. } = commands;
-    match added {
-        Ok(()) => Command::new(alloc, "pie")
-            .about("A PIE queue controller (RFC 8033) whose every decision is recorded")
-            .version(VERSION)
-            .after_long_help(PIE_HELP)
-            .subcommand_required(true)
-            .subcommands(all),
-        Err(why) => {
-            drop(all);
-            Err(why)
-        }
+    let mut command = Command::new(alloc, "pie")
+        .about("A PIE queue controller (RFC 8033) whose every decision is recorded")
+        .version(VERSION)
+        .after_long_help(PIE_HELP)
+        .subcommand_required(true);
+    for subcommand in SUBCOMMANDS {
+        let built = command_of(alloc, subcommand)?;
+        command = command.subcommand(built)?;
     }
+    Ok(command)
 }

@@ -1,12 +1,15 @@
 //! The pages of `pie audit`, `pie explain`, `pie cut` and `pie migrate`: their arguments and their help.
 
-use crate::options::argument::{Argument, FILE, FORCE, HelpPage, OUTPUT, PROGRESS, ValueKind, row};
+/// Returns the page of `pie audit`.
+pub(crate) fn audit_page() -> &'static [u8] {
+    b"Decides events of histories again, and reports the first that differs
+--joined | The files are one history's segments: report if they fit | The files are the segments of one history, in order: report if they fit together. Default: off
+--json | Write an object of JSON for each file | Write an object of JSON for each file. Default: text
+--queue NAME | Take only the steps of this queue of pie-watch's text | Of a text of pie-watch, take only the steps of this queue. Default: all queues
+progress
+file .. | Files to audit; - is standard input. Default: standard input
 
-/// The page of `pie audit`.
-pub(crate) const AUDIT: HelpPage<'static> = HelpPage {
-    word: "audit",
-    about: "Decides events of histories again, and reports the first that differs",
-    help: "A history is the output of pie run: the first record of a trace, and then each record with its
+A history is the output of pie run: the first record of a trace, and then each record with its
 answer. An audit decides each event again, from the opening and the events before it, and compares
 the answers.
 
@@ -67,21 +70,34 @@ Example: the output of pie run is clean, and the line is clean,2:
 The audit finds a changed verdict, and the line is differs,1:
 
   printf 'open,0,4,16,100\\narrive,1,10,7,1500,ect0,0\\ndepart,2,25\\n' |
-    pie run | sed s/enqueue/mark/ | pie audit",
-    arguments: &[
-        row!("joined": Nothing, "The files are one history's segments: report if they fit", "The files are the segments of one history, in order: report if they fit together. Default: off"),
-        row!("json": Nothing, "Write an object of JSON for each file", "Write an object of JSON for each file. Default: text"),
-        row!("queue": Value("NAME"), "Take only the steps of this queue of pie-watch's text", "Of a text of pie-watch, take only the steps of this queue. Default: all queues"),
-        PROGRESS,
-        row!("file": Files, "Files to audit; - is standard input. Default: standard input"),
-    ],
-};
+    pie run | sed s/enqueue/mark/ | pie audit"
+}
 
-/// The page of `pie explain`.
-pub(crate) const EXPLAIN: HelpPage<'static> = HelpPage {
-    word: "explain",
-    about: "Explains why the events of a history were decided as they were",
-    help: "At most one of --event, --tag, --lost, --marked and --all selects events. Each event of the history
+/// Returns the page of `pie explain`.
+pub(crate) fn explain_page() -> &'static [u8] {
+    b"Explains why the events of a history were decided as they were
+--event 1-18446744073709551615 | Select event N, counted from 1 | Select event N, counted from 1. Default: none
+--tag 0-18446744073709551615 | Select the events of the packets with tag N | Select the events of the packets with tag N. Default: none
+--lost | Select the arrivals of dropped packets | Select the arrivals of dropped packets. Default: off
+--marked | Select the arrivals of marked packets | Select the arrivals of marked packets. Default: off
+--all | Select all events; on without another selection | Select all events. Default: off, but on without another selection
+--queue NAME | Take only the steps of this queue of pie-watch's text | Of a text of pie-watch, take only the steps of this queue. Default: all queues
+--from MOMENT | Exclude events before this moment or UTC, such as 1.5ms | Exclude events before this moment or time in UTC, such as 1.5ms. Default: the first event
+--to MOMENT | Exclude events after this moment or time in UTC | Exclude events after this moment or time in UTC. Default: the last event
+--summary | Write one summary of the selected events, or of all | Write one summary of the selected events. Default: an explanation of each; on without a selection
+--every TIME | Write a line for each interval, such as 100ms or 1m | Write one line for each interval of this length, such as 100ms or 1m. Default: off
+--full | With --every, write several lines for each interval | With --every, write several lines for each interval. Default: off
+--flows 1-1000 | Write sums of the N flows with the most bytes | Write a summary of each of the N flows with the most bytes, and one of all others. Default: off
+--digest | Write summaries, and explain lost and marked packets | Write summaries, and between them an explanation of each lost or marked packet. Default: off
+--csv | Write CSV with a header | Write CSV with a header. Default: words
+--json | Write an object of JSON for each CSV record | Write one object of JSON a line for each CSV record. Default: words
+--wall | Write moments as wall-clock times in UTC | Write moments as wall-clock times in UTC, if the history has them. Default: off
+progress
+output
+force
+file
+
+At most one of --event, --tag, --lost, --marked and --all selects events. Each event of the history
 is decided again, as by pie audit. The explanation of a selected event names the rule that decided
 it, and the numbers before the event that the rule used. Without a selection the output is a
 summary of all events, as with --summary.
@@ -174,36 +190,24 @@ The output is why the last packet of that trace was dropped:
     picked: its random word, 0.0000 %, is below the probability, 90.3954 %
     dropped: its endpoints do not understand a mark
     before it: 3 packets, 2548 bytes, a delay of 2.488281 ms
-    probability 90.3954 %, set by event 9; last update at 1.001002 ms; burst allowance 0.000000 ms",
-    arguments: &[
-        row!("event": Number(1, u64::MAX), "Select event N, counted from 1", "Select event N, counted from 1. Default: none"),
-        row!("tag": Number(0, u64::MAX), "Select the events of the packets with tag N", "Select the events of the packets with tag N. Default: none"),
-        row!("lost": Nothing, "Select the arrivals of dropped packets", "Select the arrivals of dropped packets. Default: off"),
-        row!("marked": Nothing, "Select the arrivals of marked packets", "Select the arrivals of marked packets. Default: off"),
-        row!("all": Nothing, "Select all events; on without another selection", "Select all events. Default: off, but on without another selection"),
-        row!("queue": Value("NAME"), "Take only the steps of this queue of pie-watch's text", "Of a text of pie-watch, take only the steps of this queue. Default: all queues"),
-        row!("from": Value("MOMENT"), "Exclude events before this moment or UTC, such as 1.5ms", "Exclude events before this moment or time in UTC, such as 1.5ms. Default: the first event"),
-        row!("to": Value("MOMENT"), "Exclude events after this moment or time in UTC", "Exclude events after this moment or time in UTC. Default: the last event"),
-        row!("summary": Nothing, "Write one summary of the selected events, or of all", "Write one summary of the selected events. Default: an explanation of each; on without a selection"),
-        row!("every": Value("TIME"), "Write a line for each interval, such as 100ms or 1m", "Write one line for each interval of this length, such as 100ms or 1m. Default: off"),
-        row!("full": Nothing, "With --every, write several lines for each interval", "With --every, write several lines for each interval. Default: off"),
-        row!("flows": Number(1, 1000), "Write sums of the N flows with the most bytes", "Write a summary of each of the N flows with the most bytes, and one of all others. Default: off"),
-        row!("digest": Nothing, "Write summaries, and explain lost and marked packets", "Write summaries, and between them an explanation of each lost or marked packet. Default: off"),
-        row!("csv": Nothing, "Write CSV with a header", "Write CSV with a header. Default: words"),
-        row!("json": Nothing, "Write an object of JSON for each CSV record", "Write one object of JSON a line for each CSV record. Default: words"),
-        row!("wall": Nothing, "Write moments as wall-clock times in UTC", "Write moments as wall-clock times in UTC, if the history has them. Default: off"),
-        PROGRESS,
-        OUTPUT,
-        FORCE,
-        FILE,
-    ],
-};
+    probability 90.3954 %, set by event 9; last update at 1.001002 ms; burst allowance 0.000000 ms"
+}
 
-/// The page of `pie cut`.
-pub(crate) const CUT: HelpPage<'static> = HelpPage {
-    word: "cut",
-    about: "Writes some events of a history as an excerpt",
-    help: "The output is an excerpt. It begins with the state of the controller before the first selected event
+/// Returns the page of `pie cut`.
+pub(crate) fn cut_page() -> &'static [u8] {
+    b"Writes some events of a history as an excerpt
+--from MOMENT | Start with the first event at this moment or later | Start with the first event at or after this moment or time in UTC. Default: the first event
+--to MOMENT | End before the next event after this moment or UTC | End before the next event after this moment or time in UTC. Default: the last event
+--event 1-18446744073709551615 | Select event N, counted from 1 | Select event N, counted from 1. Default: none
+--around 0-18446744073709551615 | Also select N events before it and N after it | Also select this number of events before and after event N. Default: 0
+--last 1-18446744073709551615 | Select the last N events of a file | Select the last N events of a file. Default: none
+--every 1-18446744073709551615 | Cut all events into segments of N | Cut all events into segments of N, written one after another. Default: off
+progress
+output
+force
+file
+
+The output is an excerpt. It begins with the state of the controller before the first selected event
 (the record resume), the packets in the queue at that time (records queued), and the last wall-clock
 time before it (a record clock). The selected events and the clock records between them follow as
 they were read. Notes are omitted. pie audit and pie explain read an excerpt as they read a whole
@@ -242,26 +246,18 @@ Example: why were packets lost in one minute of a day? The file day has the hist
 Files of a million events each, day.0000 and so on, and their audit:
 
   pie cut --every 1000000 day | csplit -z -n 4 -f day. - '/^resume,/' '{*}'
-  pie audit day.*",
-    arguments: &[
-        row!("from": Value("MOMENT"), "Start with the first event at this moment or later", "Start with the first event at or after this moment or time in UTC. Default: the first event"),
-        row!("to": Value("MOMENT"), "End before the next event after this moment or UTC", "End before the next event after this moment or time in UTC. Default: the last event"),
-        row!("event": Number(1, u64::MAX), "Select event N, counted from 1", "Select event N, counted from 1. Default: none"),
-        row!("around": Number(0, u64::MAX), "Also select N events before it and N after it", "Also select this number of events before and after event N. Default: 0"),
-        row!("last": Number(1, u64::MAX), "Select the last N events of a file", "Select the last N events of a file. Default: none"),
-        row!("every": Number(1, u64::MAX), "Cut all events into segments of N", "Cut all events into segments of N, written one after another. Default: off"),
-        PROGRESS,
-        OUTPUT,
-        FORCE,
-        FILE,
-    ],
-};
+  pie audit day.*"
+}
 
-/// The page of `pie migrate`.
-pub(crate) const MIGRATE: HelpPage<'static> = HelpPage {
-    word: "migrate",
-    about: "Rewrites a history of version one in version two",
-    help: "A history of version one begins with open or rolling. In version two it begins with open2,1,bounded
+/// Returns the page of `pie migrate`.
+pub(crate) fn migrate_page() -> &'static [u8] {
+    b"Rewrites a history of version one in version two
+progress
+output
+force
+file
+
+A history of version one begins with open or rolling. In version two it begins with open2,1,bounded
 or open2,1,rolling, and each record shown has 1 as its last field, because the controller is always
 active. All other records are copied. A history of version two or three is copied. pie audit has the
 same result for both histories. pie run --help lists the records.
@@ -278,6 +274,5 @@ The output is
 
   open2,1,bounded,0,4,16,100
   arrive,1,10,7,1500,ect0,0,enqueue
-  shown,1,10,1,1500,0,0,0,150000000,0,0,0,1",
-    arguments: &[PROGRESS, OUTPUT, FORCE, FILE],
-};
+  shown,1,10,1,1500,0,0,0,150000000,0,0,0,1"
+}

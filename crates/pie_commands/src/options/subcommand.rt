@@ -5,23 +5,14 @@ use pie_trace::diagnosis::TextKind;
 /// The work of a subcommand.
 #[derive(Clone, Copy)]
 pub(crate) enum Work {
-    /// Run a trace.
     Run,
-    /// Audit histories.
     Audit,
-    /// Explain a history.
     Explain,
-    /// Cut a part out of a history.
     Cut,
-    /// Write a history in version two.
     Migrate,
-    /// Make a storm.
     Storm,
-    /// Write parameters as a record.
     Params,
-    /// Decide a history again with other parameters.
     WhatIf,
-    /// Advise on parameters.
     Advise,
 }
 
@@ -42,8 +33,8 @@ macro_rules! named {
     };
 }
 
-/// All subcommands. (A table without their help is looked up at the price of a few names.)
-const SUBCOMMANDS: [Subcommand; 9] = [
+/// All subcommands.
+pub(crate) const SUBCOMMANDS: [Subcommand; 9] = [
     named!("run", Run, Some(TextKind::Trace)),
     named!("audit", Audit, Some(TextKind::History)),
     named!("explain", Explain, Some(TextKind::History)),
@@ -57,11 +48,10 @@ const SUBCOMMANDS: [Subcommand; 9] = [
 
 /// Returns the subcommand of this name.
 pub(crate) fn subcommand_named(word: &str) -> Option<Subcommand> {
-    let mut found = None;
     for subcommand in SUBCOMMANDS {
         if subcommand.word == word {
-            found = Some(subcommand);
+            return Some(subcommand);
         }
     }
-    found
+    None
 }

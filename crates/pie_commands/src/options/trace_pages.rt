@@ -1,12 +1,15 @@
 //! The pages of `pie run`, `pie storm` and `pie params`: their arguments and their help.
 
-use crate::options::argument::{Argument, FILE, FORCE, HelpPage, OUTPUT, PROGRESS, ValueKind, row};
+/// Returns the page of `pie run`.
+pub(crate) fn run_page() -> &'static [u8] {
+    b"Runs a trace and writes its history
+--count | Print the numbers of events and of refused records | Print the numbers of events and of refused records to standard error. Default: off
+progress
+output
+force
+file
 
-/// The page of `pie run`.
-pub(crate) const RUN: HelpPage<'static> = HelpPage {
-    word: "run",
-    about: "Runs a trace and writes its history",
-    help: "A trace is a CSV text with one record on each line. pie run writes each record again, followed by
+A trace is a CSV text with one record on each line. pie run writes each record again, followed by
 the controller's answer. Moments and times are whole nanoseconds from a start of your choice, at
 most 2^60 - 1. Probabilities are in units of 10^-12.
 
@@ -122,21 +125,28 @@ The last lines of the output are
   update,4,1001001,2000000,53955024169,0
   update,4,1001002,2000000,903954174169,0
   arrive,1,1001003,5,500,ect0,0,mark
-  arrive,2,1001003,6,500,not,0,early",
-    arguments: &[
-        row!("count": Nothing, "Print the numbers of events and of refused records", "Print the numbers of events and of refused records to standard error. Default: off"),
-        PROGRESS,
-        OUTPUT,
-        FORCE,
-        FILE,
-    ],
-};
+  arrive,2,1001003,6,500,not,0,early"
+}
 
-/// The page of `pie storm`.
-pub(crate) const STORM: HelpPage<'static> = HelpPage {
-    word: "storm",
-    about: "Runs one controller under many threads at once and writes its history",
-    help: "Each sender sends a packet each millisecond, in a thread of its own. A thread makes as many
+/// Returns the page of `pie storm`.
+pub(crate) fn storm_page() -> &'static [u8] {
+    b"Runs one controller under many threads at once and writes its history
+--senders 2-8 | Number of senders, 2 to 8. Default: 2
+--packets 1-10000 | Packets of each sender. Default: 100 | Number of packets of each sender, 1 to 10000. Default: 100
+--burst 1-1024 | Packets in one call. Default: 1 | Number of packets in one call of a sender, 1 to 1024. Default: 1
+--seed 0-18446744073709551615 | Seed of the random words. Default: 1 | Seed of the random words, 0 to 2^64 - 1. Default: 1
+--load 50-200 | Load in per cent, 50 to 200. Default: 100 | Arriving packets in per cent of the link's capacity, 50 to 200. Default: 100
+--changes 0-100 | Changes of the parameters. Default: 0 | Number of changes of the parameters, 0 to 100. Default: 0
+--folds 0-100 | Removals from the event log. Default: 0 | Number of removals of events from the event log, 0 to 100. Default: 0
+--profile 1-2 | 2 turns itself on and off. Default: 1 | 1: the controller is always active; 2: it turns itself on and off (5.3). Default: 1
+--delay rate|stamp | Source of the delay. Default: rate | Source of the delay: departure rate (5.2) or time stamps (4.3). Default: rate
+--picking derandomized|random | Choice of packets. Default: derandomized | Probabilities accumulate (5.4), or the random word alone decides. Default: derandomized
+--step capped|uncapped | Limit of a rise. Default: capped | A rise is at most 0.02 from a probability of 0.1 on (5.5), or has no limit. Default: capped
+--size unscaled|scaled | Scaling by size. Default: unscaled | scaled: packets below mean_pkt are picked less often, in proportion. Default: unscaled
+--decay zero|half | Delays at which it decays. Default: zero | The probability decays at delays of 0 (4.2), or below half the target. Default: zero
+--count | Print numbers of events and of changes | Print the numbers of events and of changes of caller to standard error. Default: off
+
+Each sender sends a packet each millisecond, in a thread of its own. A thread makes as many
 departures as packets are sent, spread evenly over that time. Another thread makes an update each 15
 milliseconds. With --load 120 the intervals between departures are 1.2 times as long, so packets
 wait, and some are marked or dropped early. With --changes a thread sets a reference delay of 5 ms
@@ -161,30 +171,30 @@ and the events left in the log. They are audited before the history is written.
 
 Example: three senders with ten packets each, and the audit of the history:
 
-  pie storm --senders 3 --packets 10 | pie audit",
-    arguments: &[
-        row!("senders": Number(2, 8), "Number of senders, 2 to 8. Default: 2"),
-        row!("packets": Number(1, 10_000), "Packets of each sender. Default: 100", "Number of packets of each sender, 1 to 10000. Default: 100"),
-        row!("burst": Number(1, 1024), "Packets in one call. Default: 1", "Number of packets in one call of a sender, 1 to 1024. Default: 1"),
-        row!("seed": Number(0, u64::MAX), "Seed of the random words. Default: 1", "Seed of the random words, 0 to 2^64 - 1. Default: 1"),
-        row!("load": Number(50, 200), "Load in per cent, 50 to 200. Default: 100", "Arriving packets in per cent of the link's capacity, 50 to 200. Default: 100"),
-        row!("changes": Number(0, 100), "Changes of the parameters. Default: 0", "Number of changes of the parameters, 0 to 100. Default: 0"),
-        row!("folds": Number(0, 100), "Removals from the event log. Default: 0", "Number of removals of events from the event log, 0 to 100. Default: 0"),
-        row!("profile": Number(1, 2), "2 turns itself on and off. Default: 1", "1: the controller is always active; 2: it turns itself on and off (5.3). Default: 1"),
-        row!("delay": Value("rate|stamp"), "Source of the delay. Default: rate", "Source of the delay: departure rate (5.2) or time stamps (4.3). Default: rate"),
-        row!("picking": Value("derandomized|random"), "Choice of packets. Default: derandomized", "Probabilities accumulate (5.4), or the random word alone decides. Default: derandomized"),
-        row!("step": Value("capped|uncapped"), "Limit of a rise. Default: capped", "A rise is at most 0.02 from a probability of 0.1 on (5.5), or has no limit. Default: capped"),
-        row!("size": Value("unscaled|scaled"), "Scaling by size. Default: unscaled", "scaled: packets below mean_pkt are picked less often, in proportion. Default: unscaled"),
-        row!("decay": Value("zero|half"), "Delays at which it decays. Default: zero", "The probability decays at delays of 0 (4.2), or below half the target. Default: zero"),
-        row!("count": Nothing, "Print numbers of events and of changes", "Print the numbers of events and of changes of caller to standard error. Default: off"),
-    ],
-};
+  pie storm --senders 3 --packets 10 | pie audit"
+}
 
-/// The page of `pie params`.
-pub(crate) const PARAMS: HelpPage<'static> = HelpPage {
-    word: "params",
-    about: "Converts options of tc to the first record of a trace",
-    help: "The record opens a rolling book of version three with at most 2^47 events:
+/// Returns the page of `pie params`.
+pub(crate) fn params_page() -> &'static [u8] {
+    b"Converts options of tc to the first record of a trace
+--rate RATE | Rate of the link, such as 100mbit | Rate of the link, such as 100mbit: the limits are 200 ms at it. Default: 262144 bytes, 1000 packets
+--target TIME | Reference delay. Default: 15ms
+--tupdate TIME | Time between updates. Default: 15ms
+--limit PACKETS | Capacity of the queue, such as 1000p | Capacity of the queue in packets, such as 1000p. Default: limit_bytes / 64, or 1000 without --rate
+--alpha 0-32 | Gain alpha of tc, 0 to 32. Default: 2
+--beta 0-32 | Gain beta of tc, 0 to 32. Default: 20
+--ecn | Mark packets of ECN-capable endpoints | Mark packets of ECN-capable endpoints. Default: off, they are dropped
+--bytemode | Pick small packets less often | Pick a packet below the MTU less often, in proportion to its size. Default: off
+--mtu 1-65535 | MTU of the link in bytes. Default: 1514 | MTU of the link in bytes, for --bytemode and the warnings about --limit. Default: 1514
+--dq_rate_estimator | Compute delays from the departure rate | Compute delays from the departure rate. Default: off, from time stamps
+--no_derandomization | Pick packets by the random word alone | Pick packets by the random word alone. Default: off
+--no_cap_drop_adjustment | Do not cap a rise of the probability | Do not cap a rise of the probability. Default: off
+--decay zero|half | Delays at which it decays. Default: zero | Decay at delays of 0, or below half the target. Default: zero
+--overhead BYTES | Bytes added to each packet. Default: 0 | Bytes that the link adds to each packet, -65535 to 65535. Default: 0
+--mpu 0-65535 | Least size in bytes. Default: 0 | Least size of a packet on the link, in bytes. Default: 0
+--linklayer ethernet|atm|adsl | Format of the link. Default: ethernet | Format of the link; atm and adsl are cells of 53 bytes. Default: ethernet
+
+The record opens a rolling book of version three with at most 2^47 events:
 open3,1,<delay>,<picking>,<step>,<size>,rolling,0,<packets>,<tail>,<events>. The keyword half
 follows <size> if it is the decay. The nine parameters follow unless all have their defaults. pie
 run --help describes the fields.
@@ -229,23 +239,5 @@ Example: the options of tc qdisc add dev eth0 root pie target 20ms limit 2000p e
 
 The output is one line:
 
-  open3,1,stamp,derandomized,capped,unscaled,rolling,0,2000,2000,140737488355328,20000000,15000000,150000000,125,1250,1024,2500000,100000000000,16384",
-    arguments: &[
-        row!("rate": Value("RATE"), "Rate of the link, such as 100mbit", "Rate of the link, such as 100mbit: the limits are 200 ms at it. Default: 262144 bytes, 1000 packets"),
-        row!("target": Value("TIME"), "Reference delay. Default: 15ms"),
-        row!("tupdate": Value("TIME"), "Time between updates. Default: 15ms"),
-        row!("limit": Value("PACKETS"), "Capacity of the queue, such as 1000p", "Capacity of the queue in packets, such as 1000p. Default: limit_bytes / 64, or 1000 without --rate"),
-        row!("alpha": Number(0, 32), "Gain alpha of tc, 0 to 32. Default: 2"),
-        row!("beta": Number(0, 32), "Gain beta of tc, 0 to 32. Default: 20"),
-        row!("ecn": Nothing, "Mark packets of ECN-capable endpoints", "Mark packets of ECN-capable endpoints. Default: off, they are dropped"),
-        row!("bytemode": Nothing, "Pick small packets less often", "Pick a packet below the MTU less often, in proportion to its size. Default: off"),
-        row!("mtu": Number(1, 65535), "MTU of the link in bytes. Default: 1514", "MTU of the link in bytes, for --bytemode and the warnings about --limit. Default: 1514"),
-        row!("dq_rate_estimator": Nothing, "Compute delays from the departure rate", "Compute delays from the departure rate. Default: off, from time stamps"),
-        row!("no_derandomization": Nothing, "Pick packets by the random word alone", "Pick packets by the random word alone. Default: off"),
-        row!("no_cap_drop_adjustment": Nothing, "Do not cap a rise of the probability", "Do not cap a rise of the probability. Default: off"),
-        row!("decay": Value("zero|half"), "Delays at which it decays. Default: zero", "Decay at delays of 0, or below half the target. Default: zero"),
-        row!("overhead": Value("BYTES"), "Bytes added to each packet. Default: 0", "Bytes that the link adds to each packet, -65535 to 65535. Default: 0"),
-        row!("mpu": Number(0, 65535), "Least size in bytes. Default: 0", "Least size of a packet on the link, in bytes. Default: 0"),
-        row!("linklayer": Value("ethernet|atm|adsl"), "Format of the link. Default: ethernet", "Format of the link; atm and adsl are cells of 53 bytes. Default: ethernet"),
-    ],
-};
+  open3,1,stamp,derandomized,capped,unscaled,rolling,0,2000,2000,140737488355328,20000000,15000000,150000000,125,1250,1024,2500000,100000000000,16384"
+}

@@ -2,13 +2,14 @@
 ghost use Rattle.std.specs.Prelude.{◌≡◌, ◌≤◌, IfSome, None, Ok, option_map};
 ghost use Rattle.std.specs.Result.{result_ok};
 ghost use Rattle.clap.specs.Words.{first_of, found_of, rows_of};
-ghost use Rattle.pie_commands.specs.Values.{bound_given, bounds_of, flag_given, in_order, moment_given, number_given, number_or, units_of};
+ghost use Rattle.pie_commands.specs.Values.{bound_given, bounds_of, flag_given, in_order, moment_given, number_given, number_or};
 
-use crate::end::fault;
+use crate::line::Part::Text;
+use crate::line::{say, say_text};
 use clap::ArgMatches;
 use pie_units::{Moment, MomentFault, When, WhenFault};
 use std::fmt::Display;
-use std::io::Write;
+use std::io::Stderr;
 
 /// Returns the number that is given for an option.
 pub(crate) fn number(options: &ArgMatches<'_>, name: &str) -> Option<u64>
@@ -40,7 +41,7 @@ pub(crate) fn number_or(
 pub(crate) fn flag(options: &ArgMatches<'_>, name: &str) -> bool
     ensures { result ≡ flag_given name.now (rows_of (found_of options.now)) }
 {
-    options.get_one::<bool>(name).unwrap_or(false)
+    matches!(text(options, name), Some("true"))
 }
 
 /// Returns the text that is given for an option.
@@ -70,37 +71,38 @@ pub(crate) fn output<'a>(options: &ArgMatches<'a>) -> Option<&'a str> {
 
 // ---- moments and wall-clock times
 
-/// Returns the nanoseconds of a moment that was read, if there was one.
-fn units_of(read: Result<Option<Moment>, MomentFault>) -> Result<Option<u64>, MomentFault>
-    ensures { result ≡ units_of read }
-{
-    match read {
-        Ok(Some(moment)) => Ok(Some(moment.0)),
-        Ok(None) => Ok(None),
-        Err(why) => Err(why),
-    }
-}
-
 /// Returns the moment in an option's value, in nanoseconds.
 pub(crate) fn moment(options: &ArgMatches<'_>, name: &str) -> Result<Option<u64>, MomentFault>
     ensures { result ≡ moment_given name.now (rows_of (found_of options.now)) }
 {
-    units_of(options.try_get_one::<Moment>(name))
+    match text(options, name) {
+        None => Ok(None),
+        Some(text) => match text.parse::<Moment>() {
+            Ok(moment) => Ok(Some(moment.0)),
+            Err(why) => Err(why),
+        },
+    }
 }
 
 /// Returns the bound in an option's value.
 pub(crate) fn bound(options: &ArgMatches<'_>, name: &str) -> Result<Option<When>, WhenFault>
     ensures { result ≡ bound_given name.now (rows_of (found_of options.now)) }
 {
-    options.try_get_one::<When>(name)
+    match text(options, name) {
+        None => Ok(None),
+        Some(text) => match text.parse::<When>() {
+            Ok(bound) => Ok(Some(bound)),
+            Err(why) => Err(why),
+        },
+    }
 }
 
 /// Returns the value that was read from an option. If its text is not valid, writes a line to `errors` that begins with
 /// `option`, and returns `None`.
-pub(crate) fn parsed<T: Copy, F: Copy + Display, E: Write>(
+pub(crate) fn parsed<T: Copy, F: Copy + Display>(
     read: Result<T, F>,
     option: &str,
-    errors: &mut E,
+    errors: Stderr,
 ) -> Option<T>
     ensures read { result ≡ result_ok read }
     ensures ok { IfSome result (λ value. read ≡ Ok value) }
@@ -109,7 +111,7 @@ pub(crate) fn parsed<T: Copy, F: Copy + Display, E: Write>(
     match read {
         Ok(given) => Some(given),
         Err(why) => {
-            let _ = writeln!(errors, "pie: {option} {why}");
+            say_text(errors, &[Text(option), Text(" ")], why);
             None
         }
     }
@@ -129,16 +131,16 @@ fn in_order(from: Option<When>, to: Option<When>) -> bool
 
 /// Returns the bounds `--from` and `--to`. If one is not valid, or if they exclude every moment, writes a line to `errors`, and
 /// returns `None`.
-pub(crate) fn bounds_of<E: Write>(
+pub(crate) fn bounds_of(
     options: &ArgMatches<'_>,
-    errors: &mut E,
+    errors: Stderr,
 ) -> Option<(Option<When>, Option<When>)>
     ensures { result ≡ bounds_of (rows_of (found_of options.now)) }
 {
     let from = parsed(bound(options, "from"), "--from:", errors)?;
     let to = parsed(bound(options, "to"), "--to:", errors)?;
     if !in_order(from, to) {
-        fault(errors, "--from must not be after --to");
+        say(errors, &[Text("--from must not be after --to")]);
         return None;
     }
     Some((from, to))

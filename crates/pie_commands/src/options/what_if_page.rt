@@ -1,12 +1,26 @@
 //! The page of `pie what-if`: its arguments and its help.
 
-use crate::options::argument::{Argument, FILE, FORCE, HelpPage, PROGRESS, ValueKind, row};
+/// Returns the page of `pie what-if`.
+pub(crate) fn what_if_page() -> &'static [u8] {
+    b"Decides a history again with other parameters from a moment on
+--from MOMENT | Change the parameters from this moment on. Required | Change the parameters at this moment, such as 400ms, or wall-clock time. Default: none, it is required
+--target TIME | Reference delay, such as 5ms | Reference delay, such as 5ms. Default: that of the history
+--tupdate TIME | Least time between updates | Least time between updates. Default: that of the history
+--max_burst TIME | Burst allowance | Burst allowance. Default: that of the history
+--alpha 0-32 | Gain alpha of tc, 0 to 32 | Gain alpha of tc, 0 to 32. Default: that of the history
+--beta 0-32 | Gain beta of tc, 0 to 32 | Gain beta of tc, 0 to 32. Default: that of the history
+--mean_pkt 1-65535 | Mean packet size in bytes | Mean packet size in bytes. Default: that of the history
+--limit 1-1073741824 | Limit of the queue in bytes | Limit of the queue in bytes. Default: that of the history
+--mark_ecnth 0-1000000000000 | No marks from this probability on, in 10^-12 | Probability from which ECN-capable packets are dropped, in units of 10^-12. Default: that of the history
+--dq_threshold 1024-65536 | Bytes in a cycle of the rate, a power of two | Bytes in a cycle of the departure rate, a power of two. Default: that of the history
+--csv | Write the comparison as CSV with a header | Write the comparison as CSV with a header. Default: words
+--json | Write the comparison as objects of JSON | Write the comparison as objects of JSON. Default: words
+progress
+--output FILE | Write the other history to FILE, once it is complete | Write the other history to FILE, which is created or replaced when it is complete. Default: compare both
+force
+file
 
-/// The page of `pie what-if`.
-pub(crate) const WHAT_IF: HelpPage<'static> = HelpPage {
-    word: "what-if",
-    about: "Decides a history again with other parameters from a moment on",
-    help: "The input is a history or an excerpt. pie what-if audits it and decides its commands again, with other
+The input is a history or an excerpt. pie what-if audits it and decides its commands again, with other
 parameters from a moment on. The result is another history, which audits clean. Without -o the
 output compares the numbers of summaries. With -o FILE the output is the other history, and with -o -
 it is written to standard output once it is complete.
@@ -59,23 +73,5 @@ only if the other history is complete. pie run --help describes -o.
 
 Example: what if the target had been 5 ms from 400 ms on?
 
-  pie what-if --from 400ms --target 5ms examples/ignored_marks.history",
-    arguments: &[
-        row!("from": Value("MOMENT"), "Change the parameters from this moment on. Required", "Change the parameters at this moment, such as 400ms, or wall-clock time. Default: none, it is required"),
-        row!("target": Value("TIME"), "Reference delay, such as 5ms", "Reference delay, such as 5ms. Default: that of the history"),
-        row!("tupdate": Value("TIME"), "Least time between updates", "Least time between updates. Default: that of the history"),
-        row!("max_burst": Value("TIME"), "Burst allowance", "Burst allowance. Default: that of the history"),
-        row!("alpha": Number(0, 32), "Gain alpha of tc, 0 to 32", "Gain alpha of tc, 0 to 32. Default: that of the history"),
-        row!("beta": Number(0, 32), "Gain beta of tc, 0 to 32", "Gain beta of tc, 0 to 32. Default: that of the history"),
-        row!("mean_pkt": Number(1, 65535), "Mean packet size in bytes", "Mean packet size in bytes. Default: that of the history"),
-        row!("limit": Number(1, 1_073_741_824), "Limit of the queue in bytes", "Limit of the queue in bytes. Default: that of the history"),
-        row!("mark_ecnth": Number(0, 1_000_000_000_000), "No marks from this probability on, in 10^-12", "Probability from which ECN-capable packets are dropped, in units of 10^-12. Default: that of the history"),
-        row!("dq_threshold": Number(1024, 65536), "Bytes in a cycle of the rate, a power of two", "Bytes in a cycle of the departure rate, a power of two. Default: that of the history"),
-        row!("csv": Nothing, "Write the comparison as CSV with a header", "Write the comparison as CSV with a header. Default: words"),
-        row!("json": Nothing, "Write the comparison as objects of JSON", "Write the comparison as objects of JSON. Default: words"),
-        PROGRESS,
-        row!("output": Lettered('o', "FILE"), "Write the other history to FILE, once it is complete", "Write the other history to FILE, which is created or replaced when it is complete. Default: compare both"),
-        FORCE,
-        FILE,
-    ],
-};
+  pie what-if --from 400ms --target 5ms examples/ignored_marks.history"
+}

@@ -2,11 +2,11 @@
 # Boots a kernel of Debian under qemu with two processors, and sends TCP and UDP through its own pie and fq_pie, whose steps pie-watch records
 # (boot_init.sh): a queue that exists before pie-watch, a created one with the rate estimator beside another device's, one with flows, and one with a ring
 # buffer that is too small. pie decides each step again, among them at least five enqueues for each of PACKETS. sums.py compares the steps with the counters
-# of tc: no number may be missing, and each lost step must be counted. Segments are decided alone. Then pie-watch must refuse what it does not know. It
-# takes 1.7 minutes of a processor.
+# of tc: no number may be missing, and each lost step must be counted. Segments are decided alone. Then pie-watch must refuse what it does not know, and the
+# verifier must not need half as many instructions more than in verified.txt. It takes 1.7 minutes of a processor.
 #
 # --kernel 6.12
-#           boots the kernel of Debian 12's backports. If ROOT (build/debian-6.12 by default) does not exist, bindings/kernel/packages.sh makes it
+#           boots the kernel of Debian 12's backports (kernel.sh)
 # PIE       the program that decides the steps again, crates/pie/out/pie by default
 # BYTES     the bytes of TCP, and of UDP, of one phase
 # PACKETS   the packets of the kernel's packet generator that one flood queues; it sends a packet that was dropped again. 40000: 200,000 enqueues
@@ -20,13 +20,8 @@
 set -eu
 cd "$(dirname "$0")/../.."
 me=bindings/linux/boot.sh
-if [ "${1-}" = --kernel ]; then
-    version=${2:?}
-    shift 2
-    [ $# != 0 ] || set -- "$PWD/build/debian-$version"
-    [ -e "$1" ] || bindings/kernel/packages.sh "$version" "$1"
-    HEADERS=${HEADERS:-$1/usr/src}
-fi
+# shellcheck source=kernel.sh
+. bindings/linux/kernel.sh
 pie=${PIE:-$PWD/crates/pie/out/pie}
 [ -x "$pie" ] || { echo "NOT RUN: $me: no program $pie"; exit 0; }
 for program in clang bpftool; do
@@ -65,6 +60,17 @@ for compact in "$work"/steps/*.steps; do
     refused=$(awk -F, '$3 == "enq" && $17 != "0"' "$text" | wc -l)
     [ "$refused" = "$(grep -c -E 'DROPPED (early|over)' "$work/lost")" ] || { echo "$me: $text: $refused enqueues were refused, with other causes" >&2; exit 1; }
 done
+# an audit that found a difference continues from the next row resume: it names a second one after that row
+for text in "$work"/steps/{running,flows}.csv; do
+    awk -F, -v OFS=, 'NR == 1 { for (at = 1; $at != "pktlen"; at++); }
+        $3 == "resume" && turn == 1 { turn = 2 }
+        $3 == "deq" && (turn == 0 && NR > 1000 || turn == 2) { $at++; turn++ }
+        { print }
+        END { exit turn < 3 }' "$text" > "$work/two.csv" || { echo "$me: $text: no row resume between rows deq" >&2; exit 1; }
+    "$pie" audit "$work/two.csv" > "$work/decided" 2>&1 || [ $? = 2 ]
+    [ "$(grep -c 'pktlen is recorded as' "$work/decided")" = 2 ] || { echo "$me: $text with two wrong fields: $(cat "$work/decided")" >&2; exit 1; }
+    echo "  ${text##*/}: $(grep -c ',resume,' "$text") rows resume; two wrong fields are named"
+done
 # each segment begins with its queues, and no step is missing between segments
 mkdir "$work/segments"
 number=1
@@ -80,3 +86,11 @@ find "$work/segments" -name '*.csv' | sort -V | xargs awk -F, '
     { begun[$1]; last[$1] = $4; rows++ }
     END { print "  " files " segments: " rows " rows, each segment clean alone"; exit bad || files < 3 }'
 bindings/linux/sums.py "$work/steps" $((5 * packets))
+# the verifier processed at most one and a half times the instructions of verified.txt, by the kernel and the program
+paste - - < "$work/steps/verified" | awk -v release="$release" '
+    BEGIN { split(release, number, "."); kernel = number[1] "." number[2] }
+    FNR == NR { if ($1 == kernel) most[$2] = 1.5 * $3; next }
+    { programs++; all += $2; if ($2 > greatest) { greatest = $2; name = $1 } }
+    !($1 in most) || $2 > most[$1] { print "the verifier processed " $2 " instructions of " $1 "; verified.txt allows " most[$1]; bad = 1 }
+    END { print "  the verifier processed " all " instructions of " programs " programs, at most " greatest " (" name ")"; exit bad || programs == 0 }' \
+    bindings/linux/verified.txt -

@@ -19,11 +19,12 @@ for at in a:a0 r:ra r:rb b:b0; do
 done
 $box sleep 1
 
-# records NAME WORDS..: records to a compact file of this name. The ring buffer has room for all steps, also if pie-watch has to wait
+# records NAME WORDS..: records to a compact file of this name. The ring buffer has room for all steps, also if pie-watch has to wait. Each queue is resumed
+# every second
 records() {
     name=$1
     shift
-    watches $name --ring 128 --compact -o /tmp/$name.steps "$@"
+    watches $name --ring 128 --compact --resume-every 1 -o /tmp/$name.steps "$@"
 }
 
 # knows: the hosts at the link know their addresses, so that no ARP packet passes the queue later
@@ -183,6 +184,16 @@ refuses capabilities "/bin/as_nobody -- /bin/pie-watch lo" 'missing: CAP_PERFMON
 refuses capability "/bin/as_nobody 38 39 -- /bin/pie-watch lo" 'missing: CAP_SYS_ADMIN'
 refuses version "/bin/setarch x86_64 --uname-2.6 /bin/pie-watch lo" 'Linux 2.6.* was not tested; tested: Linux 6.1 and 6.12'
 
+# verified WORDS..: the names of the programs that pie-watch loads with these words, each before the number of instructions that the verifier processed
+verified() {
+    $in_queue /bin/pie-watch -v --all --duration 1 --force -o /tmp/verified.csv "$@" > /tmp/verified.said 2>&1
+    $box sed -n "s/^libbpf: prog '\(.*\)': -- BEGIN.*/\1/p; s/^processed \([0-9]*\) insns.*/\1/p" /tmp/verified.said
+}
+{
+    verified
+    verified --drops
+} > /tmp/verified
+
 $box grep -v ' pie_reset' /proc/kallsyms > /tmp/symbols
 over /proc/kallsyms /tmp/symbols
 refuses hook "/bin/pie-watch --anyway lo" 'no function pie_reset'
@@ -209,7 +220,7 @@ refuses lockdown "/bin/pie-watch lo" 'locked down'
 
 $box dmesg | $box grep -E 'WARNING|BUG|Oops|Call Trace'
 cd /tmp
-$box tar -cf - *.steps *.json *.later segments.* > /dev/vda || echo "FAILED tar"
+$box tar -cf - *.steps *.json *.later segments.* verified > /dev/vda || echo "FAILED tar"
 $box sync
 echo ended
 $box poweroff -f

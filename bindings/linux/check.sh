@@ -42,6 +42,7 @@ refuses '--rotate needs -o FILE' --rotate 64kb lo
 refuses '--segments needs --rotate' --segments 2 -o "$work/steps.csv" lo
 touch "$work/steps.csv.07"
 refuses 'steps.csv.07: the file exists' --rotate 64kb -o "$work/steps.csv" lo
+refuses '--resume-every is a number of seconds from 1 on: 0' --resume-every 0 lo
 refuses '--duration is a number of seconds from 1 on: 0' --duration 0 lo
 for trigger in 'wait > 50' 'wait > 0ms' 'wait > 5xs' 'wait > 5ms ' 'wait > -1s' waits; do
     refuses "--trigger is drop, or a time such as 'wait > 50ms': $trigger\$" --trigger "$trigger" lo
@@ -86,7 +87,7 @@ refuses 'an address is missing' serve
 refuses 'no address and port, such as :9464' serve 9464
 refuses 'top needs a terminal' top
 for words in '--drops --compact lo' '--drops --rotate 1mb -o f lo' '--drops --trigger drop lo' 'serve :9464 --duration 2' 'top -o f' '--namespaces lo' \
-    '--no-addresses lo' '--labels f lo' '--most 5 lo' '--drops' '--drops --all lo' 'top --drops' 'serve :9464 lo lo' '--most 0 lo'; do
+    '--no-addresses lo' '--labels f lo' '--most 5 lo' '--drops' '--drops --all lo' 'top --drops' 'serve :9464 lo lo' '--most 0 lo' '--drops --resume-every 5 lo'; do
     # shellcheck disable=SC2086
     refuses "$(case $words in *lo\ lo) echo one device ;; --drops | *--all*) echo a device, or ;; *-most\ 0*) echo from 1 on ;; *) echo '--' ;; esac)" $words
 done

@@ -15,15 +15,10 @@
 set -eu
 cd "$(dirname "$0")/../.."
 me=bindings/linux/package.sh
-if [ "${1-}" = --kernel ]; then
-    version=${2:?}
-    shift 2
-    [ $# != 0 ] || set -- "$PWD/build/debian-$version"
-    [ -e "$1" ] || bindings/kernel/packages.sh "$version" "$1"
-    HEADERS=${HEADERS:-$1/usr/src}
-fi
+# shellcheck source=kernel.sh
+. bindings/linux/kernel.sh
 for program in mmdebstrap mke2fs dpkg-buildpackage dh; do
-    PATH=$PATH:/usr/sbin command -v $program > /dev/null || { echo "NOT RUN: $me: no $program here (bindings/linux/install.sh, bindings/c/install.sh)"; exit 0; }
+    PATH=$PATH:/usr/sbin command -v $program > /dev/null || { echo "NOT RUN: $me: no $program here (bindings/linux/install.sh, tests/install.sh bindings/c)"; exit 0; }
 done
 # shellcheck source=../kernel/guest.sh
 . bindings/kernel/guest.sh

@@ -810,9 +810,10 @@ int BPF_PROG(calculation_ends, struct pie_params *params, struct pie_vars *vars,
     struct watch_calc *record;
     if (!is_handled(queue))
         return 0;
-    queue->is_calculating = 0;
-    if (is_fq_pie(queue) && is_same(vars, &queue->vars))
+    if (is_fq_pie(queue) && is_same(vars, &queue->vars)) {
+        queue->is_calculating = 0;
         return 0;
+    }
     record = STEP(queue, WATCH_CALC, NOW);
     if (record != NULL) {
         record->head.flow = flow_of(queue, vars);
@@ -827,6 +828,7 @@ int BPF_PROG(calculation_ends, struct pie_params *params, struct pie_vars *vars,
         flush(queue->place);
         resume_if_due(queue);
     }
+    queue->is_calculating = 0;
     return 0;
 }
 

@@ -64,6 +64,8 @@ static const char usage[] =
     "      --most N        With serve: at most this many queues have metrics of their own, those with the most drops and marks. Default: 1000\n"
     "      --rotate SIZE   Write in segments of this size (64mb), FILE.1, FILE.2 and so on; each can be read alone\n"
     "      --segments N    Keep N segments, and remove older ones. Default: all\n"
+    "      --resume-every SECONDS\n"
+    "                      Write the state of each queue again after this time, from which an audit continues after a difference. Default: 60\n"
     "  -d, --duration SECONDS\n"
     "                      End after this time. Default: at a signal\n"
     "  -t, --trigger EVENT End soon after the first packet that waited longer ('wait > 50ms', also us and s) or was dropped (drop). With --rotate and\n"
@@ -82,6 +84,7 @@ static const char usage[] =
 
 #define MOST_PROGRAMS 64
 #define SUMS_RING 4 /* MiB, by default */
+#define RESUME_EVERY 60 /* s, by default */
 
 enum mode { RECORD, TEXT, DROPS, SERVE, TOP };
 
@@ -92,6 +95,7 @@ struct options {
     bool has_no_addresses, is_every_namespace;
     unsigned handle, ring, part;
     u64 rotate, segments; /* bytes of a segment, and the number of last ones that are kept; 0: one file, and all */
+    u64 resume_every; /* in seconds */
     u64 duration; /* in seconds; 0: until a signal */
     u64 after;    /* in seconds, from the trigger to the end */
     u64 most_wait; /* the trigger: a packet that waited more nanoseconds than this, or else a dropped one */
@@ -107,7 +111,9 @@ struct recording {
     size_t links_count;
     struct watch_output output;
     bool has_fq_pie, has_ring_message;
-    u64 end; /* the moment at which it ends, in nanoseconds; 0: at a signal */
+    u64 begun; /* the moment of its beginning, in nanoseconds */
+    u64 end; /* the moment at which it ends; 0: at a signal */
+    u64 resumed; /* the places of queues that were resumed regularly, those of earlier rounds too */
     bool is_triggered;
     const char *fault;
 };
@@ -435,6 +441,17 @@ static unsigned ring_of(unsigned bytes) {
     return mib;
 }
 
+/* Lets each queue be resumed once in the time of `resume_every`, one place of the table after another. */
+static void resume_regularly(struct recording *recording) {
+    u64 round = recording->options->resume_every * 1000, passed = (nanoseconds() - recording->begun) / 1000000; /* ms */
+    u64 places = passed / round * WATCH_PLACES + passed % round * WATCH_PLACES / round;
+    for (; recording->resumed < places; recording->resumed++) {
+        struct queue *queue = &recording->bpf->bss->queues[recording->resumed % WATCH_PLACES];
+        if (queue->key > TAKEN)
+            queue->is_due = true;
+    }
+}
+
 /* Does what the programs ask for, and what changed around them. */
 static void follow(struct recording *recording) {
     unsigned needed = recording->bpf->bss->ring_needed;
@@ -443,11 +460,12 @@ static void follow(struct recording *recording) {
     if (needed != 0 && !recording->has_ring_message)
         fprintf(stderr, PROGRAM ": a queue is too long for the ring, so that its steps are lost; --ring %u or more\n", ring_of(needed));
     recording->has_ring_message |= needed != 0;
+    resume_regularly(recording);
 }
 
 /* Reads records from the ring until a signal comes, the time is over or an error occurs. */
 static void read_ring_buffer(struct recording *recording, struct ring_buffer *ring) {
-    u64 last = nanoseconds();
+    u64 last = recording->begun = nanoseconds();
     if (recording->options->duration != 0)
         recording->end = last + recording->options->duration * SECOND;
     while (!is_ended && recording->fault == NULL && recording->output.fault == 0 && (recording->end == 0 || nanoseconds() < recording->end)) {
@@ -583,6 +601,7 @@ static void read_options(struct options *options, int count, char **words) {
                                           {"rate-estimator", no_argument, NULL, 'e'},
                                           {"rotate", required_argument, NULL, 'R'},
                                           {"segments", required_argument, NULL, 's'},
+                                          {"resume-every", required_argument, NULL, 'E'},
                                           {"ring", required_argument, NULL, 'r'},
                                           {"duration", required_argument, NULL, 'd'},
                                           {"trigger", required_argument, NULL, 't'},
@@ -603,7 +622,7 @@ static void read_options(struct options *options, int count, char **words) {
         enum mode mode;
     } modes[] = {{"text", TEXT}, {"serve", SERVE}, {"top", TOP}};
     int letter, most;
-    *options = (struct options){.part = 1, .after = 1, .most = SERVE_MOST};
+    *options = (struct options){.part = 1, .after = 1, .resume_every = RESUME_EVERY, .most = SERVE_MOST};
     for (size_t i = 0; i < sizeof modes / sizeof *modes && count > 1; i++) {
         if (strcmp(words[1], modes[i].name) == 0)
             options->mode = modes[i].mode;
@@ -637,6 +656,9 @@ static void read_options(struct options *options, int count, char **words) {
             break;
         case 's':
             options->segments = read_number(optarg, UINT64_MAX, "--segments is a number from 1 on: ");
+            break;
+        case 'E':
+            options->resume_every = read_number(optarg, UINT32_MAX, "--resume-every is a number of seconds from 1 on: ");
             break;
         case 'r':
             options->ring = read_ring(optarg);
@@ -708,8 +730,9 @@ static void check_mode(const struct options *options) {
         fail("a file of steps is missing; --help", "");
     if ((options->mode == RECORD || options->mode == DROPS) && (options->device != NULL) == options->is_all)
         fail("a device, or --all, is missing; --help", "");
-    if (is_summed && (options->is_compact || options->rotate != 0 || options->has_trigger || options->has_clock || options->part != 1))
-        fail("--compact, --rotate, --trigger, --rate-estimator and --every are for a recording of all steps", "");
+    if (is_summed && (options->is_compact || options->rotate != 0 || options->has_trigger || options->has_clock || options->part != 1 ||
+                      options->resume_every != RESUME_EVERY))
+        fail("--compact, --rotate, --trigger, --rate-estimator, --every and --resume-every are for a recording of all steps", "");
     if ((options->mode == SERVE || options->mode == TOP) && (options->output != NULL || options->duration != 0))
         fail("--output and --duration are for a recording", "");
     if (!is_summed && (options->is_every_namespace || options->has_no_addresses))

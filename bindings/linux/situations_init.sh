@@ -51,6 +51,21 @@ says() {
     $box cat /tmp/all.said
 }
 
+# finishes: keeps the texts, and ends
+finishes() {
+    $box dmesg | $box grep -E 'WARNING|BUG|Oops|Call Trace'
+    cd /tmp/steps
+    $box tar -cf - . > /dev/vda || echo "FAILED tar"
+    $box sync
+    echo ended
+    $box poweroff -f
+}
+
+if [ "$list" = more ]; then
+    . /situations_more.sh
+    finishes
+fi
+
 # pie-watch begins before the kernel has its modules
 $in_queue /bin/pie-watch --all --compact --ring 64 -o /tmp/steps/all.steps 2> /tmp/all.said &
 watch=$!
@@ -219,10 +234,4 @@ sends 3000 600 4000
 $box kill -KILL $($box pidof pie-watch)
 $box mv /tmp/steps/killed.csv.partial /tmp/steps/killed.csv || echo "FAILED: no file of the killed reader"
 removes
-
-$box dmesg | $box grep -E 'WARNING|BUG|Oops|Call Trace'
-cd /tmp/steps
-$box tar -cf - . > /dev/vda || echo "FAILED tar"
-$box sync
-echo ended
-$box poweroff -f
+finishes

@@ -4,7 +4,7 @@
 Each drop and mark that tc counts in drops.csv must have a row with its cause, the sums of each queue must be those of tc, and a row must have each column.
 The metrics of a queue must be those of tc, and the sums of all queues those of the queues. The server has no privileges.
 
-usage: bindings/linux/summed.py FOLDER LEAVES"""
+usage: bindings/linux/summed.py FOLDER LEAVES SCRAPES"""
 import csv
 import json
 import re
@@ -172,9 +172,34 @@ def compare_many(folder, leaves):
           f"{sum(it['dropped'] for it in told.values())} dropped; lost events {json.loads((folder / 'many_health.json').read_text())}")
 
 
+def compare_long(folder, scrapes):
+    """Compares the counters of a server that was read each second: none falls, and the last ones are those of tc."""
+    times = [[float(it) for it in line.split()] for line in (folder / "scrapes").read_text().splitlines()]
+    expect("scrapes", len(times), scrapes)
+    last = {}
+    for number in range(1, scrapes + 1):
+        now = metrics(folder / f"scrape.{number}")
+        counters = {name: value for name, value in now.items() if re.search(r"(total|count)(\{|$)", name)}
+        expect(f"scrape {number}: counters that fell or are missing", [name for name in last if counters.get(name, -1) < last[name]], [])
+        expect(f"scrape {number}: queues", (now["pie_host_queues"], now["pie_host_missed_queues_total"]), (2, 0))
+        compare_host(f"scrape {number}", now)
+        last = counters
+    health = json.loads((folder / "long_health.json").read_text())
+    expect("health", (health["status"], health["queues"], health["missed_queues"]), ("ok", 2, 0))
+    values = metrics(folder / "long.metrics")
+    (told,) = queues(folder / "long.json").values()
+    (before,) = queues(folder / "before_long.json").values()
+    compare_metrics(values, "rb", "1:1", "", told, before)
+    compare_host("long", values)
+    print(f"  {scrapes} scrapes in {times[-1][1] - times[0][0]:.0f} s, each in at most {max(to - at for at, to in times):.2f} s; "
+          f"{told['pkts_in'] + told['dropped']} packets, {told['dropped']} dropped; {health}")
+
+
 def main():
-    folder, leaves = Path(sys.argv[1]), int(sys.argv[2])
-    if leaves:
+    folder, leaves, scrapes = Path(sys.argv[1]), int(sys.argv[2]), int(sys.argv[3])
+    if scrapes:
+        compare_long(folder, scrapes)
+    elif leaves:
         compare_many(folder, leaves)
     else:
         compare_few(folder)

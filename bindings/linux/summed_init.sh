@@ -137,6 +137,11 @@ many() {
             echo start > pgctrl; echo rem_device_all > kpktgend_0"
     done
     $box sleep 2
+    # used: the processor time of pie-watch's processes, in hundredths of a second
+    used() {
+        for process in $($box pidof pie-watch); do $box cat /proc/$process/stat; done | $box awk '{ used += $14 + $15 } END { print used }'
+    }
+    began=$(used)
     for turn in 1 2 3; do
         from=$($box cut -d ' ' -f 1 /proc/uptime)
         fetches /metrics many.metrics
@@ -144,13 +149,48 @@ many() {
         fetches /health many_health.json
         echo "TOLD scrape: $from to $to s, $($box wc -c < /tmp/sums/many.metrics) bytes, $($box cat /tmp/sums/many_health.json)"
     done
+    echo "TOLD processor: $(($(used) - began)) hundredths of a second of pie-watch for these scrapes, of $(used) in all"
     counters many_r r
     counters many_b b
     $box kill -INT $($box pidof pie-watch)
     wait
 }
 
-if [ $leaves = 0 ]; then few; else many; fi
+# long: a server that is read each second, beside overloaded queues of both kinds
+long() {
+    loads sch_fq_pie
+    /bin/ip -n b link add d1 type dummy
+    /bin/ip -n b link set d1 up
+    /bin/ip netns exec b $box sysctl -q -w net.ipv6.conf.d1.disable_ipv6=1
+    /bin/tc -n b qdisc add dev d1 root handle 7: fq_pie
+    queues pie ecn
+    /bin/tc -n r class change dev rb parent 1: classid 1:1 htb rate 100kbit
+    /bin/ip -n r link set rb arp off
+    /bin/ip -n r route add 10.9.0.0/16 dev rb
+    counters before_long
+    $in_queue /bin/pie-watch serve --namespaces :9464 2> /tmp/serve.said &
+    until $box grep -q '^pie-watch: serving' /tmp/serve.said; do $box sleep 0.2; done
+    turn=0
+    while [ $turn -lt $scrapes ]; do
+        turn=$((turn + 1))
+        $in_queue /bin/many_packets 200 1 || echo "FAILED many_packets"
+        read -r from rest < /proc/uptime
+        fetches /metrics scrape.$turn
+        read -r to rest < /proc/uptime
+        echo "$from $to" >> /tmp/sums/scrapes
+        [ $((turn % 300)) != 0 ] || echo "TOLD scrape $turn at $to s"
+    done
+    fetches /health long_health.json
+    $box sleep 60
+    fetches /metrics long.metrics
+    counters long
+    $box kill -INT $($box pidof pie-watch)
+    wait
+    /bin/tc -n r qdisc del dev rb root
+    /bin/ip -n b link del d1
+}
+
+if [ ${scrapes:=0} != 0 ]; then long; elif [ $leaves = 0 ]; then few; else many; fi
 $box dmesg | $box grep -E 'WARNING|BUG|Oops|Call Trace'
 cd /tmp/sums
 $box tar -cf - . > /dev/vda || echo "FAILED tar"

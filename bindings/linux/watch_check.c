@@ -2,6 +2,7 @@
 
 #include <bpf/btf.h>
 #include <elf.h>
+#include <errno.h>
 #include <fcntl.h>
 #include <stdarg.h>
 #include <stdint.h>
@@ -16,7 +17,7 @@
 #define WATCH_BTF "/sys/kernel/btf"
 #endif
 #define LOCKDOWN "/sys/kernel/security/lockdown"
-#define TESTED "Linux 6.1 and 6.12 of Debian 12"
+#define TESTED "Linux 6.1 and 6.12 of Debian"
 #define MOST_CODE 8192    /* bytes of a function */
 #define LAST_CODE 512     /* bytes of the last function of a module */
 #define MOST_SYMBOLS 1024 /* with `pie` in their names */
@@ -320,6 +321,10 @@ static void check_calls(struct findings *findings, const struct watch_checked *c
     static unsigned char code[MOST_CODE];
     int core = open("/proc/kcore", O_RDONLY | O_CLOEXEC);
     bool is_read = core >= 0;
+    if (!is_read && errno == ENOENT) {
+        fprintf(stderr, "pie-watch: this kernel has no /proc/kcore, so that inlined functions are not found\n");
+        return;
+    }
     for (size_t i = 0; i < HOOKS && is_read; i++) {
         const struct hook *hook = &hooks[i];
         size_t bytes = hook->caller_end != 0 ? (size_t)(hook->caller_end - hook->caller_at) : LAST_CODE;
@@ -382,10 +387,16 @@ bool watch_can_record(void) {
 
 bool watch_check(struct watch_checked *checked, bool is_anyway) {
     struct findings findings = {.is_anyway = is_anyway};
+    static const unsigned tested[][2] = {{6, 1}, {6, 12}};
     struct utsname kernel;
     unsigned major = 0, minor = 0;
+    bool is_tested = false;
     checked->has_fq_pie = watch_is_loaded("sch_fq_pie");
-    if (uname(&kernel) != 0 || sscanf(kernel.release, "%u.%u", &major, &minor) != 2 || major != 6 || (minor != 1 && minor != 12))
+    if (uname(&kernel) == 0 && sscanf(kernel.release, "%u.%u", &major, &minor) == 2) {
+        for (size_t i = 0; i < sizeof tested / sizeof *tested; i++)
+            is_tested |= major == tested[i][0] && minor == tested[i][1];
+    }
+    if (!is_tested)
         report(&findings, false, "Linux %s was not tested; tested: " TESTED, kernel.release);
     check_types(&findings, checked);
     if (!findings.is_impossible)

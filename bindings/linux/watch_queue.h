@@ -28,6 +28,7 @@ struct queue {
     u32 is_calculating, is_resetting;
     u64 returned_first;                  /* the returned packets that were summed up last: the first one, */
     u32 returned_packets, returned_sum;  /* their number and the sum of their lengths */
+    u64 resumed;        /* the moment at which it was resumed last */
     u32 waiting_memory; /* of the packets, while the queue is resumed */
     u32 ifindex, handle, parent, netns;
     char device[16];
@@ -36,6 +37,7 @@ struct queue {
     u8 kind;
     bool is_named;  /* WATCH_QUEUE was written */
     bool is_broken; /* the ring was full: steps are lost until the queue is resumed */
+    bool is_due;    /* the program in user space sets it: the queue is resumed once, if the ring has a place for it */
     bool is_gone;   /* destroyed, and `lost` was not written */
     bool is_round;  /* fq_pie's timer runs, and calculated nothing yet */
     bool is_enqueue, is_dequeue; /* a beginning was seen */

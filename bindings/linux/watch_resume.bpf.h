@@ -1,52 +1,58 @@
 /* A part of pie_watch.bpf.c: writes a queue that worked before, or whose steps were lost, as it is before its next step. */
+#define COPY 128 /* bytes of the kernel's struct sk_buff that have the fields that are read */
+
 struct walk {
     u64 next, end; /* the next packet or flow, and the end of the list */
     u64 flows;
-    u32 place, seq, flow, number, list, is_peeked;
+    u32 place, flow, list, is_peeked;
     u32 memory; /* of the packets */
-    u32 is_full;
 };
 
 /* The lists of struct watch_flow. */
 enum { NO_LIST, NEW_FLOWS, OLD_FLOWS };
 
+/* A field of a copy of a kernel's struct, from the field `first` on. */
+#define COPIED(copy, type, field, first) (*(typeof(((struct type *)0)->field) *)((char *)(copy) + OFFSET(type, field) - OFFSET(type, first)))
+
 static __always_inline struct walk walk_of(const struct queue *queue, u64 next, u64 end) {
-    return (struct walk){.next = next, .end = end, .flows = queue->flows, .place = queue->place, .seq = queue->seq - 1, .number = queue->number};
+    return (struct walk){.next = next, .end = end, .flows = queue->flows, .place = queue->place};
 }
 
-static __always_inline void head_of_walk(struct watch_head *head, const struct walk *walk, enum watch_type type) {
-    struct queue queue = {.number = walk->number};
-    fill_head(head, &queue, type, walk->seq, NOW);
-    head->flow = walk->flow;
+/* Fills the head of the next record of a resumed queue. */
+static __always_inline void head_of_part(struct watch_head *head, const struct queue *queue, enum watch_type type, u32 flow) {
+    fill_head(head, queue, type, queue->seq - 1, queue->resumed);
+    head->flow = flow;
 }
 
-/* Writes a packet of a list. Returns 1 at its end. */
+/* Writes a packet of a list. Returns 1 at its end, or if the ring is full. The record is first a copy of the beginning of the kernel's struct: one copy of
+ * several fields needs fewer instructions than a copy of each. */
 static long write_waiting(u32 number, struct walk *walk) {
-    u64 skb = walk->next;
-    struct watch_wait *record;
-    u64 cb[6];
-    if (skb == 0 || skb == walk->end)
+    struct queue *queue = &queues[walk->place % WATCH_PLACES];
+    struct watch_wait *record = next_record(queue);
+    u64 skb = walk->next, enqueued;
+    u32 size, pkt_len, memory;
+    char *cb;
+    if (skb == 0 || skb == walk->end || queue->is_broken)
         return 1;
-    record = bpf_ringbuf_reserve(&ring, sizeof *record, 0);
-    if (record == NULL) {
-        walk->is_full = 1;
-        return 1;
-    }
-    head_of_walk(&record->head, walk, WATCH_WAIT);
-    READ(cb, skb, sk_buff, cb);
-    READ(record->size, skb, sk_buff, len);
-    record->pkt_len = *(u32 *)((char *)cb + OFFSET(qdisc_skb_cb, pkt_len));
-    record->enqueued = *(u64 *)((char *)cb + OFFSET(qdisc_skb_cb, data) + OFFSET(pie_skb_cb, enqueue_time));
-    record->memory = *(u32 *)((char *)cb + OFFSET(qdisc_skb_cb, data) + OFFSET(pie_skb_cb, mem_usage));
+    bpf_probe_read_kernel(record, COPY, (void *)skb);
+    cb = (char *)record + OFFSET(sk_buff, cb);
+    walk->next = (u64)COPIED(record, sk_buff, next, next);
+    size = COPIED(record, sk_buff, len, next);
+    pkt_len = COPIED(cb, qdisc_skb_cb, pkt_len, pkt_len);
+    enqueued = *(u64 *)(cb + OFFSET(qdisc_skb_cb, data) + OFFSET(pie_skb_cb, enqueue_time));
+    memory = *(u32 *)(cb + OFFSET(qdisc_skb_cb, data) + OFFSET(pie_skb_cb, mem_usage));
+    head_of_part(&record->head, queue, WATCH_WAIT, walk->flow);
+    record->enqueued = enqueued;
+    record->size = size;
+    record->pkt_len = pkt_len;
+    record->memory = memory;
     record->is_peeked = walk->is_peeked;
-    walk->memory += record->memory;
-    write(record);
-    READ(walk->next, skb, sk_buff, next);
+    walk->memory += memory;
+    hold(queue);
     return 0;
 }
 
-/* Writes the packets of a list of a queue, whose memory is added to `waiting_memory` unless they were returned. Returns 1 if the ring is full, and 0
- * otherwise. */
+/* Writes the packets of a list of a queue, whose memory is added to `waiting_memory` unless they were returned. */
 __noinline int write_packets(u32 place, u64 next, u64 end, u32 flow, u32 is_peeked) {
     struct queue *queue = &queues[place % WATCH_PLACES];
     struct walk walk = walk_of(queue, next, end);
@@ -55,64 +61,62 @@ __noinline int write_packets(u32 place, u64 next, u64 end, u32 flow, u32 is_peek
     bpf_loop(MOST_WAITING, write_waiting, &walk, 0);
     if (!is_peeked)
         queue->waiting_memory += walk.memory;
-    return walk.is_full;
+    return 0;
 }
 
 /* (This function and write_flows are verified also if the kernel has no types of fq_pie: `has_fq_pie` is a constant for the verifier.) */
 
-/* Writes a flow of fq_pie and its packets. Returns 1 if the ring is full, and 0 otherwise. */
-__noinline int write_flow(u32 place, u64 flow, u32 number, u32 list) {
+/* Writes a flow of fq_pie and its packets. A flow of NO_LIST is not written if it is in a list. Returns the next flow of the list. */
+__noinline u64 write_flow(u32 place, u64 flow, u32 number, u32 list) {
     struct queue *queue = &queues[place % WATCH_PLACES];
-    struct watch_flow *record;
-    u64 packets = 0;
+    struct watch_flow *record = next_record(queue);
+    u32 deficit, backlog, qlen;
+    u64 next, packets;
     if (!has_fq_pie)
         return 0;
-    record = bpf_ringbuf_reserve(&ring, sizeof *record, 0);
-    if (record == NULL)
-        return 1;
-    fill_head(&record->head, queue, WATCH_FLOW, queue->seq - 1, NOW);
-    record->head.flow = number;
-    READ(record->vars, flow, fq_pie_flow, vars);
-    READ(record->deficit, flow, fq_pie_flow, deficit);
-    READ(record->backlog, flow, fq_pie_flow, backlog);
-    READ(record->qlen, flow, fq_pie_flow, qlen);
+    bpf_probe_read_kernel(&record->vars, bpf_core_type_size(struct fq_pie_flow), (void *)(flow + OFFSET(fq_pie_flow, vars)));
+    deficit = COPIED(&record->vars, fq_pie_flow, deficit, vars);
+    backlog = COPIED(&record->vars, fq_pie_flow, backlog, vars);
+    qlen = COPIED(&record->vars, fq_pie_flow, qlen, vars);
+    next = (u64)COPIED(&record->vars, fq_pie_flow, flowchain.next, vars);
+    packets = (u64)COPIED(&record->vars, fq_pie_flow, head, vars);
+    if (list == NO_LIST && next != flow + OFFSET(fq_pie_flow, flowchain))
+        return next;
+    head_of_part(&record->head, queue, WATCH_FLOW, number);
+    record->deficit = deficit;
+    record->backlog = backlog;
+    record->qlen = qlen;
     record->list = list;
-    write(record);
-    READ(packets, flow, fq_pie_flow, head);
-    return packets != 0 ? write_packets(place, packets, 0, number, 0) : 0;
+    hold(queue);
+    if (packets != 0)
+        write_packets(place, packets, 0, number, 0);
+    return next;
 }
 
-/* Writes the next flow of a list. */
+/* Writes the next flow of a list. Returns 1 at its end, or if the ring is full. */
 static long write_listed(u32 number, struct walk *walk) {
     u64 flow = walk->next - OFFSET(fq_pie_flow, flowchain);
-    if (walk->next == walk->end)
+    if (walk->next == walk->end || queues[walk->place % WATCH_PLACES].is_broken)
         return 1;
-    if (write_flow(walk->place, flow, (flow - walk->flows) / bpf_core_type_size(struct fq_pie_flow), walk->list) != 0) {
-        walk->is_full = 1;
-        return 1;
-    }
-    READ(walk->next, flow, fq_pie_flow, flowchain.next);
+    walk->next = write_flow(walk->place, flow, (flow - walk->flows) / bpf_core_type_size(struct fq_pie_flow), walk->list);
     return 0;
 }
 
-/* Writes a flow that is in no list, if its state is not the initial one. */
+/* Writes a flow that is in no list, if its state is not the initial one. Returns 1 if the ring is full. */
 static long write_unlisted(u32 number, struct walk *walk) {
-    u64 flow = walk->flows + (u64)number * bpf_core_type_size(struct fq_pie_flow), next = 0;
-    struct watch_vars vars;
-    READ(next, flow, fq_pie_flow, flowchain.next);
-    if (next != flow + OFFSET(fq_pie_flow, flowchain))
-        return 0;
-    READ(vars, flow, fq_pie_flow, vars);
-    if (vars.dq_tstamp == ~0ull && (vars.qdelay | vars.qdelay_old | vars.prob | vars.accu_prob | vars.backlog_old) == 0)
-        return 0;
-    if (write_flow(walk->place, flow, number, NO_LIST) != 0) {
-        walk->is_full = 1;
+    struct queue *queue = &queues[walk->place % WATCH_PLACES];
+    u64 flow = walk->flows + (u64)number * bpf_core_type_size(struct fq_pie_flow);
+    struct watch_vars *vars = next_record(queue);
+    if (queue->is_broken)
         return 1;
-    }
+    READ(*vars, flow, fq_pie_flow, vars);
+    if (vars->dq_tstamp == ~0ull && (vars->qdelay | vars->qdelay_old | vars->prob | vars->accu_prob | vars->backlog_old) == 0)
+        return 0;
+    write_flow(walk->place, flow, number, NO_LIST);
     return 0;
 }
 
-/* Writes the flows of a list, the first of which is `next`; or the flows of no list, `end` in number. Returns 1 if the ring is full, and 0 otherwise. */
+/* Writes the flows of a list, the first of which is `next`; or the flows of no list, `end` in number. */
 __noinline int write_flows(u32 place, u64 next, u64 end, u32 list) {
     struct queue *queue = &queues[place % WATCH_PLACES];
     struct walk walk = walk_of(queue, next, end);
@@ -123,24 +127,23 @@ __noinline int write_flows(u32 place, u64 next, u64 end, u32 list) {
         bpf_loop(end < MOST_FLOWS ? (u32)end : MOST_FLOWS, write_unlisted, &walk, 0);
     else
         bpf_loop(MOST_FLOWS, write_listed, &walk, 0);
-    return walk.is_full;
+    return 0;
 }
 
-/* Writes the packets that were returned to a queue. Returns 1 if the ring is full, and 0 otherwise. */
+/* Writes the packets that were returned to a queue. */
 __noinline int write_returned(u32 place) {
     struct queue *queue = &queues[place % WATCH_PLACES];
     u64 next = 0;
-    int is_full;
     READ(next, queue->sch, Qdisc, gso_skb.next);
-    is_full = write_packets(place, next, queue->sch + OFFSET(Qdisc, gso_skb), WATCH_FLOW_NONE, 1);
+    write_packets(place, next, queue->sch + OFFSET(Qdisc, gso_skb), WATCH_FLOW_NONE, 1);
     READ(next, queue->sch, Qdisc, skb_bad_txq.next);
-    return is_full | write_packets(place, next, queue->sch + OFFSET(Qdisc, skb_bad_txq), WATCH_FLOW_NONE, 1);
+    return write_packets(place, next, queue->sch + OFFSET(Qdisc, skb_bad_txq), WATCH_FLOW_NONE, 1);
 }
 
-/* Returns true if the ring has a place for a queue with this number of packets and flows. */
-static __always_inline bool has_place(u32 waiting, u32 flows) {
+/* Returns true if the ring has a place for a queue with this number of packets and flows. `is_needed`: steps are lost until it has. */
+static __always_inline bool has_place(u32 waiting, u32 flows, bool is_needed) {
     u64 needed = ((u64)waiting + 2 * (u64)flows + 8) * (WATCH_MOST + 8), size = bpf_ringbuf_query(&ring, BPF_RB_RING_SIZE);
-    if (size < needed)
+    if (size < needed && is_needed)
         ring_needed = needed;
     return size >= needed + bpf_ringbuf_query(&ring, BPF_RB_AVAIL_DATA);
 }
@@ -155,46 +158,51 @@ static __always_inline bool lacks_clock(struct queue *queue) {
     return true;
 }
 
-/* Writes the queue at a place as it is before its next step: WATCH_RESUME, its flows and its packets, if the ring has a place for them. Until then,
- * steps are lost. The caller has the queue's lock. */
+/* Writes the queue at a place as it is before its next step: WATCH_RESUME, its flows and its packets, if the ring has a place for them and the queue is not
+ * reset. Until then, a broken queue loses its steps. The caller has the queue's lock. */
 __noinline int resume(u32 at) {
     struct queue *queue = &queues[at % WATCH_PLACES];
     u64 own = queue->sch + OFFSET(Qdisc, privdata), next = 0;
-    u32 flows = 0, waiting = 0, is_full;
+    u32 flows = 0, waiting = 0;
+    if (queue->is_resetting != 0) /* on another processor, without the lock */
+        return 0;
+    queue->is_due = false;
     flush(queue->place);
     if (is_fq_pie(queue))
         READ(flows, own, fq_pie_sched_data, flows_cnt);
     READ(waiting, queue->sch, Qdisc, q.qlen);
-    if (lacks_clock(queue) || !has_place(waiting, flows))
+    if (lacks_clock(queue) || !has_place(waiting, flows, queue->is_broken || queue->segment != segment))
         return 0;
     if (!write_lost(queue))
         return 0;
     struct watch_whole *record = bpf_ringbuf_reserve(&ring, sizeof *record, 0);
     if (record == NULL)
         return 0;
-    fill_head(&record->head, queue, WATCH_RESUME, queue->seq++, NOW);
+    queue->resumed = NOW;
+    fill_head(&record->head, queue, WATCH_RESUME, queue->seq++, queue->resumed);
     read_whole(record, queue);
     queue->segment = segment;
     queue->waiting_memory = 0;
-    is_full = write_returned(queue->place);
+    queue->is_broken = false; /* `hold` sets it if the ring is full */
+    write_returned(queue->place);
     if (is_fq_pie(queue)) {
         READ(next, own, fq_pie_sched_data, new_flows.next);
-        is_full |= write_flows(queue->place, next, own + OFFSET(fq_pie_sched_data, new_flows), NEW_FLOWS);
+        write_flows(queue->place, next, own + OFFSET(fq_pie_sched_data, new_flows), NEW_FLOWS);
         READ(next, own, fq_pie_sched_data, old_flows.next);
-        is_full |= write_flows(queue->place, next, own + OFFSET(fq_pie_sched_data, old_flows), OLD_FLOWS);
-        is_full |= write_flows(queue->place, 0, flows, NO_LIST);
+        write_flows(queue->place, next, own + OFFSET(fq_pie_sched_data, old_flows), OLD_FLOWS);
+        write_flows(queue->place, 0, flows, NO_LIST);
         record->kept_memory = queue->memory - queue->waiting_memory;
     } else {
         READ(next, queue->sch, Qdisc, q.head);
-        is_full |= write_packets(queue->place, next, 0, WATCH_FLOW_NONE, 0);
+        write_packets(queue->place, next, 0, WATCH_FLOW_NONE, 0);
     }
+    flush(queue->place);
     write(record);
-    queue->is_broken = is_full != 0;
     return 0;
 }
 
-/* Resumes the queue if steps were lost, or if a segment begins. */
+/* Resumes the queue if steps were lost, if a segment begins, or if the program in user space wants it. */
 static __always_inline void resume_if_due(struct queue *queue) {
-    if (queue->is_broken || queue->segment != segment)
+    if (queue->is_broken || queue->is_due || queue->segment != segment)
         resume(queue->place);
 }

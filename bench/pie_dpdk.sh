@@ -13,7 +13,7 @@
 # and sends. In the other part all available processors receive and enqueue, and one dequeues and sends. The kinds take
 # turns. Prints the median of the runs and in brackets the greatest, and for ratios the median of those of each turn and
 # in brackets that of the greatest, as the table of docs/PERFORMANCE.md. It needs libdpdk
-# (bindings/dpdk/install.sh) and the libraries, which bindings/c/library.py builds.
+# (tests/install.sh bindings/dpdk) and the libraries, which bindings/c/library.py builds.
 # usage: bench/pie_dpdk.sh [SECONDS [RUNS [PRIORITY]]]
 #   SECONDS     of each run, 1 by default; RUNS: of each kind, 9 by default. This takes some 150 seconds
 #   PRIORITY    a real-time priority (chrt), for example 50. Each run then has its processors for itself. Take runs of

@@ -5,7 +5,7 @@
 # Each burst comes 10 us after the one before. The probability is 0, so that no header is read but for a record, then 1, 10
 # and 50 per cent: then the stage draws random words, reads headers if it marks, and marks ECN-capable packets below 10 per cent.
 # Writes bench/dpdk_counts.csv, from which tests/documents/performance.py computes the table of docs/PERFORMANCE.md. It needs
-# libdpdk (bindings/dpdk/install.sh) and the libraries, which bindings/c/library.py builds.
+# libdpdk (tests/install.sh bindings/dpdk) and the libraries, which bindings/c/library.py builds.
 #
 # usage: bench/pie_dpdk_count.sh [FILE]      FILE: instead of bench/dpdk_counts.csv
 set -eu

@@ -2,7 +2,7 @@
 # Measures a million arrivals to a link of 100 Mbit/s at 8 per cent overload: from numpy arrays by `Queue.offer`
 # (bindings/python), and by the same loop in a C program (bench/pie_python.c). The two take turns, each with new
 # memory. Prints the least and the median processor time for an event. The exit status is 1 if the answers differ.
-# usage: bench/pie_python.sh [RUNS]     9; after `rt lib` in crates/pie_c. bindings/python/install.sh installs what it takes
+# usage: bench/pie_python.sh [RUNS]     9; after `rt lib` in crates/pie_c. tests/install.sh bindings/python installs what it takes
 set -eu
 . "$(dirname "$0")/shared.sh"
 cd "$here/.."

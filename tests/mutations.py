@@ -15,7 +15,9 @@ reported as NOT RUN.
 With --read, nothing is proved: it names each mutation that the prover can't read, for example because a type changed. Such a mutation fails the gate
 on the day of its share.
 
-usage: tests/mutations.py [--jobs N] [--read] [CRATE | CRATE/NAME ..]    such as pie_book, or pie_book/departs_half; all by default
+With --changed, it tries those of files that differ from the last commit.
+
+usage: tests/mutations.py [--jobs N] [--read] [--changed] [CRATE | CRATE/NAME ..]   such as pie_book, or pie_book/departs_half; all by default
        tests/mutations.py [--jobs N] --share [DAY]                       DAY: a number of days, in place of the commit's day"""
 import argparse
 import functools
@@ -381,6 +383,12 @@ def shared(groups):
     return shares
 
 
+def changed_files():
+    """Returns the files that differ from the last commit."""
+    ran = subprocess.run(["git", "-C", ROOT, "diff", "--name-only", "HEAD"], stdout=subprocess.PIPE, text=True, check=True)
+    return {ROOT / name for name in ran.stdout.split()}
+
+
 def commit_day():
     ran = subprocess.run(["git", "-C", ROOT, "log", "-1", "--format=%ct"], stdout=subprocess.PIPE, stderr=subprocess.DEVNULL, check=False)
     return int(ran.stdout) // DAY if ran.returncode == 0 else None
@@ -403,10 +411,17 @@ def main():
     parser.add_argument("--jobs", type=int, default=os.cpu_count())
     parser.add_argument("--share", type=int, nargs="?", const=-1)
     parser.add_argument("--read", action="store_true")
+    parser.add_argument("--changed", action="store_true")
     parser.add_argument("names", nargs="*")
     given = parser.parse_args()
     rt = shutil.which("rt")
     mutations = named(given.names)
+    if given.changed:
+        files = changed_files()
+        mutations = [it for it in mutations if files & {it.folder / file for file, _, _ in it.steps()}]
+        if not mutations:
+            print(f"{ME}: no mutation changes a file that differs from the last commit")
+            return 0
     if given.share is not None:
         day = commit_day() if given.share < 0 else given.share
         share = shared(batches(mutations))[day % SHARES] if day is not None else []

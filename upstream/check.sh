@@ -35,7 +35,7 @@ lacks() {
 
 if [ "$version" = ns3 ]; then
     lacks g++ git bzip2
-    [ -e /usr/include/ns3.37/ns3/pie-queue-disc.h ] || [ -e /usr/include/ns3/pie-queue-disc.h ] || { echo "NOT RUN: $me: no libns3-dev here (bindings/ns3/install.sh)"; exit 0; }
+    [ -e /usr/include/ns3.37/ns3/pie-queue-disc.h ] || [ -e /usr/include/ns3/pie-queue-disc.h ] || { echo "NOT RUN: $me: no libns3-dev here (tests/install.sh bindings/ns3)"; exit 0; }
     if [ ! -e "$work/ns3" ]; then
         mkdir -p "$work/apt"/{lists,archives}/partial "$work/apt/sources" "$work/download"
         touch "$work/apt/status"

@@ -9,9 +9,9 @@ set -eu
 cd "$(dirname "$0")/../.."
 me=bindings/bpf/check.sh
 for program in clang-19 bpftool; do
-    PATH=$PATH:/usr/sbin command -v $program > /dev/null || { echo "NOT RUN: $me: no $program here (bindings/bpf/install.sh)"; exit 0; }
+    PATH=$PATH:/usr/sbin command -v $program > /dev/null || { echo "NOT RUN: $me: no $program here (tests/install.sh bindings/bpf)"; exit 0; }
 done
-[ -e /usr/include/bpf/libbpf.h ] || { echo "NOT RUN: $me: no libbpf here (bindings/bpf/install.sh)"; exit 0; }
+[ -e /usr/include/bpf/libbpf.h ] || { echo "NOT RUN: $me: no libbpf here (tests/install.sh bindings/bpf)"; exit 0; }
 work=$(mktemp -d)
 trap 'rm -rf "$work"' EXIT
 make -s -C bindings/bpf OUT="$work" CLANG='clang-19 -Werror' CFLAGS='-O2 -Werror' 2> "$work/warnings" || { cat "$work/warnings" >&2; exit 1; }

@@ -8,9 +8,9 @@ console=ttyS0 machine='-cpu Nehalem,+rdrand'
 requires() {
     local program
     for program in "qemu-system-$processor" busybox tc ip cpio zstd python3 clang-19 bpftool "$@"; do
-        PATH=$PATH:/usr/sbin command -v "$program" > /dev/null || { echo "NOT RUN: $me: no $program here (bindings/bpf/install.sh)"; exit 0; }
+        PATH=$PATH:/usr/sbin command -v "$program" > /dev/null || { echo "NOT RUN: $me: no $program here (tests/install.sh bindings/bpf)"; exit 0; }
     done
-    [ -e /usr/include/bpf/libbpf.h ] || { echo "NOT RUN: $me: no libbpf here (bindings/bpf/install.sh)"; exit 0; }
+    [ -e /usr/include/bpf/libbpf.h ] || { echo "NOT RUN: $me: no libbpf here (tests/install.sh bindings/bpf)"; exit 0; }
     [ -e "$root/kernel/vmlinuz" ] || { echo "NOT RUN: $me: no kernel in $root (bindings/bpf/packages.sh downloads it)"; exit 0; }
 }
 

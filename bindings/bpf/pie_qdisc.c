@@ -1,8 +1,5 @@
 /* pie-qdisc: attaches the queue discipline of pie_qdisc.bpf.c to devices, changes, shows and records its queues. */
-#include "qdisc_link.h"
-#include "qdisc_maps.h"
-#include "qdisc_options.h"
-#include "qdisc_record.h"
+#include "pie_qdisc.h"
 
 #include <bpf/bpf.h>
 #include <errno.h>

@@ -1,4 +1,4 @@
-#include "qdisc_options.h"
+#include "pie_qdisc.h"
 
 #include <errno.h>
 #include <stdio.h>

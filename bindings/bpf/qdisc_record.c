@@ -1,4 +1,4 @@
-#include "qdisc_record.h"
+#include "pie_qdisc.h"
 
 #include <bpf/bpf.h>
 #include <bpf/libbpf.h>

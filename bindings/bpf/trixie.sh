@@ -14,7 +14,7 @@ set -eu
 cd "$(dirname "$0")/../.."
 me=bindings/bpf/trixie.sh
 for program in mmdebstrap mke2fs dpkg-buildpackage dh qemu-system-x86_64 zstd python3 clang-19 bpftool; do
-    PATH=$PATH:/usr/sbin command -v $program > /dev/null || { echo "NOT RUN: $me: no $program here (bindings/bpf/install.sh, bindings/linux/install.sh)"; exit 0; }
+    PATH=$PATH:/usr/sbin command -v $program > /dev/null || { echo "NOT RUN: $me: no $program here (tests/install.sh bindings/bpf, bindings/linux/install.sh)"; exit 0; }
 done
 work=${KEEP:-$(mktemp -d)}
 [ -n "${KEEP-}" ] || trap 'rm -rf "$work"' EXIT

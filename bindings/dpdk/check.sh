@@ -9,8 +9,8 @@
 set -u
 here=$(cd "$(dirname "$0")" && pwd)
 cd "$here" || exit 1
-if ! missing=$(./install.sh --check); then
-    echo "NOT RUN: bindings/dpdk: no stage, for want of $(tr '\n' ' ' <<<"$missing")(bindings/dpdk/install.sh)"
+if ! missing=$(../../tests/install.sh --check bindings/dpdk); then
+    echo "NOT RUN: bindings/dpdk: no stage, for want of $(tr '\n' ' ' <<<"$missing")(tests/install.sh bindings/dpdk)"
     exit 0
 fi
 pie=../../crates/pie/out/pie

@@ -547,7 +547,7 @@ def main():
         real_time()
         return
     if shutil.which("promtool") is None:
-        print("NOT RUN: bindings/dpdk/fwd_test.py: no promtool here, so nothing else than this script read the metrics (bindings/dpdk/install.sh)")
+        print("NOT RUN: bindings/dpdk/fwd_test.py: no promtool here, so nothing else than this script read the metrics (tests/install.sh bindings/dpdk)")
     with ThreadPoolExecutor(max_workers=3) as pool:
         print("; ".join(pool.map(lambda it: it(), (full_speed, flight, interrupt, paced, segments, telemetry, queues, flows, device_full, refused))))
 

@@ -1,12 +1,8 @@
 /* pie-fwd: forwards packets between two ports. Those to port 1 pass a PIE stage and are shaped to a rate.
  * `pie-fwd -- --help` describes the options. */
-#include "fwd_flight.h"
-#include "fwd_flows.h"
-#include "fwd_history.h"
+#include "fwd_files.h"
 #include "fwd_options.h"
-#include "fwd_pace.h"
 #include "fwd_queues.h"
-#include "fwd_records.h"
 #include "fwd_report.h"
 #include "metrics.h"
 #include "output.h"

@@ -6,7 +6,7 @@
  */
 #include "stage_test.h"
 
-#include "fwd_pace.h"
+#include "fwd_queues.h"
 #include "stage_packet.h"
 #include "stage_words.h"
 

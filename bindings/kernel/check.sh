@@ -120,5 +120,5 @@ done
 if [ -n "$built" ]; then
     echo "bindings/kernel: the module builds without warnings for$built"
 else
-    echo "NOT RUN: bindings/kernel: no headers of a kernel here (bindings/kernel/install.sh), so the module was not built"
+    echo "NOT RUN: bindings/kernel: no headers of a kernel here (tests/install.sh bindings/kernel), so the module was not built"
 fi

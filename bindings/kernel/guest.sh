@@ -14,7 +14,7 @@ else
 fi
 for program in $needed "qemu-system-$processor" cpio "$cc" python3 strings; do
     if ! command -v $program > /dev/null; then
-        echo "NOT RUN: $me: no $program here (bindings/kernel/install.sh)"
+        echo "NOT RUN: $me: no $program here (tests/install.sh bindings/kernel)"
         exit 0
     fi
 done

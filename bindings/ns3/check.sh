@@ -9,8 +9,8 @@ set -u
 here=$(cd "$(dirname "$0")" && pwd)
 top=$here/../..
 program=$(realpath -m "${1:-$top/crates/pie/out/pie}")
-if ! missing=$("$here/install.sh" --check); then
-    echo "NOT RUN: bindings/ns3: no simulation, for want of $(tr '\n' ' ' <<<"$missing")(bindings/ns3/install.sh)"
+if ! missing=$("$here/../../tests/install.sh" --check bindings/ns3); then
+    echo "NOT RUN: bindings/ns3: no simulation, for want of $(tr '\n' ' ' <<<"$missing")(tests/install.sh bindings/ns3)"
     exit 0
 fi
 work=$(mktemp -d)

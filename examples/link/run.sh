@@ -16,13 +16,13 @@ if [ $# -lt 2 ] || [ "$1" = --help ]; then
     [ "${1:-}" = --help ]
     exit
 fi
-if ! missing=$("$here/install.sh" --check); then
+if ! missing=$("$here/../../tests/install.sh" --check examples/link); then
     if "$here/../../bench/uml/helps.sh" "$missing"; then
         make -s -C "$here" && exec "$here/../../bench/uml/run.sh" "$here/run.sh" "$@"
         exit 1
     fi
     echo "$missing"
-    echo "examples/link/run.sh: the above is missing, so nothing was run; examples/link/install.sh installs what Debian has of it"
+    echo "examples/link/run.sh: the above is missing, so nothing was run; tests/install.sh examples/link installs what Debian has of it"
     exit 1
 fi
 program=$1 folder=$2 seconds=${3:-20} flows=${4:-4}

@@ -1,11 +1,10 @@
 /* The packets of a capture, sent through a link of a given rate whose queue PIE manages, at the times of the capture. The clock is the
  * capture's: a departure, an update and an arrival come in the order of their moments, and at the same moment in this order. */
-#include "commented.h"
+#include "capture.h"
 #include "flow.h"
-#include "frame.h"
-#include "history.h"
 #include "options.h"
 #include "output.h"
+#include "pie_text.h"
 
 #include <errno.h>
 #include <inttypes.h>
@@ -26,6 +25,12 @@ struct counts {
     uint64_t frames, refused;
     uint64_t passed_over, others, cut, wrong; /* excluded by the filter, of other protocols, cut, of a wrong length */
     uint64_t large, backwards;                /* packets above USUAL_MTU; frames earlier than one before them */
+};
+
+/* The history of a run, in the format of docs/FORMATS.md: the library writes the text of each event. */
+struct history {
+    struct output output;
+    struct pie_history text;
 };
 
 struct replay {
@@ -51,6 +56,35 @@ struct capture {
     uint64_t start, last; /* times of the first and of the previous frame, in ns since 1970 */
     struct output commented;
 };
+
+/* Opens the file ("-": standard output), and writes the opening. Returns false if that fails. */
+static bool open_history(struct history *history, const char *name, bool is_forced, const struct pie_opening *opening) {
+    unsigned char line[PIE_RECORD_ROOM];
+    if (!open_output(&history->output, name, OUTPUT_WHOLE, is_forced))
+        return false;
+    history->text = (struct pie_history){0};
+    size_t count = pie_text_opening(&history->text, opening, line, sizeof line);
+    return count != 0 && fwrite(line, 1, count, history->output.file) == count;
+}
+
+/* Writes that the wall-clock time at this moment is `unix_time` (nanoseconds since 1970). Returns
+ * false if that fails. */
+static bool write_time(struct history *history, uint64_t moment, uint64_t unix_time) {
+    unsigned char line[PIE_RECORD_ROOM];
+    size_t count = pie_text_clock(&history->text, moment, unix_time, line, sizeof line);
+    return count != 0 && fwrite(line, 1, count, history->output.file) == count;
+}
+
+/* Writes the record of an event, after its call. */
+static void write_event(struct history *history, const struct pie_event *event) {
+    unsigned char line[PIE_RECORD_ROOM];
+    fwrite(line, 1, pie_text_event(&history->text, event, NULL, line, sizeof line), history->output.file);
+}
+
+/* Closes the file, which then has its name. Returns false with errno if anything could not be written. */
+static bool close_history(struct history *history) {
+    return close_output(&history->output);
+}
 
 static void die(const char *name, const char *why) {
     fprintf(stderr, "replay: %s: %s\n", name, why);

@@ -11,7 +11,7 @@ If a page speaks of files that its reader has, PREPARED has the script that make
 The copy contains the built program and library, the files that make builds over them in bindings/dpdk and
 bindings/ns3, and stand-ins for `rt` and the gate, which the gate tries anyway: `rt try` and `rt run` run the built
 program, `rt lib` checks the built library, `.ci/run` does nothing. With --rt the real `rt` is used. A command that
-is not installed, or for whose folder install.sh --check reports a missing program, is printed as NOT RUN.
+is not installed, or for whose folder tests/install.sh --check reports a missing program, is printed as NOT RUN.
 
 usage: tests/documents/pages.py [--rt] [PAGE..]
 needs: program, library
@@ -41,7 +41,7 @@ NOT_RUN = {
     "bench/uml/README.md": {"bench/steps/install.sh": "builds a Linux and measures for hours"},
     "bindings/bpf/README.md": {"# pie-qdisc attach": KERNEL},
     "bindings/dpdk/README.md": {"$ dpdk-telemetry.py": "needs a program of DPDK that runs"},
-    "bindings/kernel/README.md": {"dpkg-buildpackage": KERNEL, "bindings/kernel/install.sh": KERNEL, "$ tc -s qdisc": KERNEL},
+    "bindings/kernel/README.md": {"dpkg-buildpackage": KERNEL, "tests/install.sh bindings/kernel": KERNEL, "$ tc -s qdisc": KERNEL},
     "bindings/linux/README.md": {"# tc qdisc add": KERNEL},
     "dist/README.md": {"dist/make.sh": "proves and builds every library"},
     "docs/DEVELOPING.md": {"rt check": "a list, which proves", ".ci/quick": "a list; the gate runs its scripts"},
@@ -188,14 +188,15 @@ def commands(block):
 
 
 def missing(command, copy, words):
-    """Returns the programs missing for a command: by install.sh --check of a folder that it names, for other
+    """Returns the programs missing for a command: by tests/install.sh --check of a folder that it names, for other
     commands by `type`."""
     for word in re.sub(r"#.*", "", command).split():
         place = copy / word.strip("()")
         for folder in (place, place.parent):
-            if "/" in word and copy in folder.parents and (folder / "install.sh").exists():
-                done = subprocess.run([folder / "install.sh", "--check"], env=words, capture_output=True, text=True, check=False)
-                if done.returncode:
+            if "/" in word and copy in folder.parents and folder.is_dir():
+                name = str(folder.relative_to(copy))
+                done = subprocess.run([copy / "tests/install.sh", "--check", name], env=words, capture_output=True, text=True, check=False)
+                if done.returncode == 1:
                     return " ".join(done.stdout.replace("missing: ", "").split())
     for word in re.findall(r"(?:^|[;&|(])\s*([\w-]+)(?=\s|$)", re.sub(r"#.*|\\\n", "", command), re.M):
         if subprocess.run(["bash", "-c", f"type {word}"], env=words, capture_output=True, check=False).returncode:
@@ -239,7 +240,7 @@ def main():
     for name in set(NOT_RUN) - {str(page.relative_to(ROOT)) for page in pages(PAGES)}:
         check(False, f"NOT_RUN names a page that is not there: {name}")
     for name in MADE:
-        if subprocess.run([ROOT / name / "install.sh", "--check"], capture_output=True, check=False).returncode == 0:
+        if subprocess.run([ROOT / "tests/install.sh", "--check", name], capture_output=True, check=False).returncode == 0:
             made = subprocess.run(["flock", ROOT / name, "make", "-s", "-C", ROOT / name], capture_output=True, text=True, check=False)
             check(made.returncode == 0, f"make -C {name} ends with status {made.returncode}:\n{made.stderr[-2000:]}")
     with tempfile.TemporaryDirectory() as work:

@@ -159,7 +159,7 @@ def main():
     for row, ratio, here, other in (it for section in sections for it in ratios_of(section)):
         tried += 1
         check(agrees(ratio, here, other), f"{PAGE}: {here} to {other} is {float(here) / float(other):.2f}, and not {ratio}: {row}")
-    check(tried > 20, f"{PAGE}: only {tried} ratios were found")
+    check(tried > 12, f"{PAGE}: only {tried} ratios were found")
     check(not agrees("1.46", "40.5", "31.0"), "a wrong ratio passes")
     print(f"{NAME}: {tried} ratios of {PAGE} are the quotients of their figures")
 

@@ -578,7 +578,7 @@ def run_ssh(work, names):
     """Checks docs/OPERATING.md's commands over SSH, with three servers on loopback addresses: all histories, which every host sees, and some that are
     sent."""
     if not shutil.which("parallel") or not shutil.which("rsync") or not os.path.exists("/usr/sbin/sshd"):
-        print("NOT RUN: tests/fleet/fleet.py: no GNU parallel, no rsync or no sshd here (fleet/install.sh), so nothing went over SSH")
+        print("NOT RUN: tests/fleet/fleet.py: no GNU parallel, no rsync or no sshd here (tests/install.sh fleet), so nothing went over SSH")
         return
     ssh, hosts = f"{work}/ssh", [f"127.0.0.{number}" for number in (2, 3, 4)]
     os.makedirs(ssh, mode=0o700)
@@ -617,6 +617,6 @@ def by_parallel(what, work, folder, hosts, words, names):
 
 if __name__ == "__main__":
     if not PYTHON:
-        print("NOT RUN: tests/fleet/fleet.py: no Python with Dask's distributed here (fleet/install.sh)")
+        print("NOT RUN: tests/fleet/fleet.py: no Python with Dask's distributed here (tests/install.sh fleet)")
         sys.exit(0)
     sys.exit(main())

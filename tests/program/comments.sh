@@ -42,7 +42,7 @@ refuse() {
     cmp "$work/made.pcap" "$work/made.copy" && cmp "$work/history" "$work/history.copy" || fail "$name: a file was lost"
 }
 
-if missing=$("$replay/install.sh" --check) && make -s -C "$replay" > "$work/build.log" 2>&1; then
+if missing=$("$top/tests/install.sh" --check examples/replay) && make -s -C "$replay" > "$work/build.log" 2>&1; then
     "$replay/made.py" "$work/whole.pcap" && editcap -r -F pcap "$work/whole.pcap" "$work/made.pcap" 1-6000 && "$replay/out/replay" --rate 50mbit --ecn -o "$work/history" "$work/made.pcap" 'ip or ip6' 2> /dev/null || exit 1
     grep -q -E '^arrive,.*,mark$' "$work/history" || fail "nothing was marked"
     compare replayed "$work/history" "$work/made.pcap"

@@ -35,8 +35,7 @@ from pathlib import Path
 
 sys.path.insert(0, str(Path(__file__).resolve().parents[1] / "shared"))
 from checks import ROOT, check, finish, refusing  # noqa: E402
-from refused import ONCE_AND_ON, in_turn  # noqa: E402
-from running import MEMORY, TRACE, read_fault, write_fault  # noqa: E402
+from running import MEMORY, ONCE_AND_ON, TRACE, in_turn, read_fault, write_fault  # noqa: E402
 from running import run as run_program  # noqa: E402
 from running import without_lacks  # noqa: E402
 

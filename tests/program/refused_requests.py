@@ -17,8 +17,7 @@ import tempfile
 
 sys.path.insert(0, f"{os.path.dirname(os.path.abspath(__file__))}/../shared")
 from checks import NAME, check, finish, refusing  # noqa: E402
-from refused import ONCE_AND_ON, STEP, in_turn  # noqa: E402
-from running import MEMORY, READERS, TRACE, read_fault, run, write_fault  # noqa: E402
+from running import MEMORY, ONCE_AND_ON, READERS, STEP, TRACE, in_turn, read_fault, run, write_fault  # noqa: E402
 
 FAULTS = {"REFUSE_MEMORY": MEMORY, "REFUSE_READ": read_fault(errno.EIO), "REFUSE_WRITE": write_fault(errno.EIO)}
 

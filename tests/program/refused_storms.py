@@ -12,8 +12,7 @@ import tempfile
 
 sys.path.insert(0, f"{os.path.dirname(os.path.abspath(__file__))}/../shared")
 from checks import NAME, check, finish, refusing  # noqa: E402
-from refused import ONCE_AND_ON, STEP, in_turn  # noqa: E402
-from running import MEMORY, run, write_fault  # noqa: E402
+from running import MEMORY, ONCE_AND_ON, STEP, in_turn, run, write_fault  # noqa: E402
 
 THREAD = b"pie: a thread could not be started\n"
 

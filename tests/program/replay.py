@@ -391,7 +391,7 @@ def outputs(tool):
 
 def main():
     if not shutil.which(os.environ.get("CC", "cc")) or not shutil.which("make") or not Path("/usr/include/pcap/pcap.h").exists():
-        print(f"NOT RUN: {ME}: no C compiler, make and libpcap here (examples/replay/install.sh)")
+        print(f"NOT RUN: {ME}: no C compiler, make and libpcap here (tests/install.sh examples/replay)")
         return
     with tempfile.TemporaryDirectory() as folder:
         tool = Tool(Path(folder))

@@ -7,11 +7,14 @@
 expect 'a version' 0 'pie 0.1.0\n' '' '' --version
 expect 'a version, in short' 0 'pie 0.1.0\n' '' '' -V
 
-# Each help must be the stored text: help/NAME.txt for `pie NAME --help`, NAME.short.txt for `pie NAME -h`, and
-# pie.txt and pie.short.txt for `pie --help` and `pie -h`. A short one fits on a screen of 80 by 24, with the next prompt.
+# Each help must be the stored text, a section of help.txt: `== NAME` for `pie NAME --help`, `== NAME.short` for
+# `pie NAME -h`, and `== pie` and `== pie.short` for `pie --help` and `pie -h`. A short one fits on a screen of 80 by
+# 24, with the next prompt.
+mkdir "$work/help"
+awk -v to="$work/help/" '/^== / { file = to $2 ".txt"; next } { print > file }' "$here/help.txt"
 # help NAME WORDS..
 help() {
-    local want=$here/help/$1.txt
+    local want=$work/help/$1.txt
     shift
     "$program" "$@" < /dev/null > "$work/output" 2> "$work/errors"
     local got=$?
@@ -31,10 +34,10 @@ for name in run audit explain cut migrate storm params what-if advise; do
     help "$name" help "$name"
 done
 
-for text in "$here"/help/*.short.txt; do
+for text in "$work"/help/*.short.txt; do
     lines=$(wc -l < "$text") columns=$(wc -L < "$text")
     if [ "$lines" -gt 23 ] || [ "$columns" -gt 80 ]; then
-        echo "$script: $text has $lines lines, and $columns columns"
+        echo "$script: $(basename "$text") has $lines lines, and $columns columns"
         failed=1
     fi
 done

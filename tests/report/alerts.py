@@ -103,7 +103,7 @@ def main():
     for name in sorted(metrics):
         check(re.search(rf"\b(pie_)?{name.removeprefix('pie_')}\b", written), f"nobody writes {name}")
     if shutil.which("promtool") is None:
-        print(f"NOT RUN: {NAME}: no promtool here, so no alert fired (report/install.sh)")
+        print(f"NOT RUN: {NAME}: no promtool here, so no alert fired (tests/install.sh report)")
         return finish()
     tests = [{"interval": "1m", "name": what, "input_series": series(changes), "promql_expr_test": [firing(minute) for minute in range(60)]} for what, changes in SILENT]
     for name, severity, changes, minute in CASES:

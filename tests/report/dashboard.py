@@ -148,7 +148,7 @@ def hold_places(panels):
 def parse(queries):
     """Checks that promtool accepts each query, with values for Grafana's variables."""
     if shutil.which("promtool") is None:
-        print(f"NOT RUN: {NAME}: no promtool here, so nothing else than this script read the queries (report/install.sh)")
+        print(f"NOT RUN: {NAME}: no promtool here, so nothing else than this script read the queries (tests/install.sh report)")
         return
     rules = [{"record": f"it:{place}", "expr": query.replace("$__rate_interval", "1m").replace("$link", ".*").replace("$queue", ".*")}
              for place, query in enumerate(queries)]

@@ -272,7 +272,7 @@ def hold_faults(folder):
 
 def main():
     if shutil.which("tshark") is None:
-        print(f"NOT RUN: {NAME}: no tshark here, so no capture was read (report/install.sh)")
+        print(f"NOT RUN: {NAME}: no tshark here, so no capture was read (tests/install.sh report)")
         return finish()
     with tempfile.TemporaryDirectory() as place:
         folder = Path(place)

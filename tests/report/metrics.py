@@ -86,7 +86,7 @@ def families(text):
 def lint():
     """Checks that promtool finds no fault in any text."""
     if shutil.which("promtool") is None:
-        print(f"NOT RUN: {NAME}: no promtool here, so nothing else than this script read the metrics (report/install.sh)")
+        print(f"NOT RUN: {NAME}: no promtool here, so nothing else than this script read the metrics (tests/install.sh report)")
         return
     for text in linted:
         done = subprocess.run(["promtool", "check", "metrics"], input=text, capture_output=True, text=True, check=False)

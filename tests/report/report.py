@@ -184,7 +184,7 @@ def browser():
         webdriver = None
     chromium, driver = shutil.which("chromium"), shutil.which("chromedriver")
     if not (webdriver and chromium and driver):
-        print(f"NOT RUN: {NAME}: no page was opened, for want of chromium, chromium-driver or python3-selenium (report/install.sh)")
+        print(f"NOT RUN: {NAME}: no page was opened, for want of chromium, chromium-driver or python3-selenium (tests/install.sh report)")
         return None
     options = webdriver.ChromeOptions()
     options.binary_location = chromium

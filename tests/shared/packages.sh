@@ -1,5 +1,5 @@
-# Shared by the install scripts of adapters and measures. An install script describes its purpose in its head, on a
-# line `for:`, sources this file, names its requirements by `programs` and `required`, and then calls `packages`.
+# Shared by tests/install.sh and the install.sh of some folders, which describe their purpose on a line `for:`, source
+# this file, name their requirements by `programs` and `required`, and then call `packages`.
 #   install.sh              installs the Debian packages that are missing
 #   install.sh --missing    prints the Debian packages that are missing
 #   install.sh --check      prints a line for each requirement that is missing; the exit status is 1 if one is
@@ -45,7 +45,7 @@ packages() {
         return
     fi
     if [ "$(id -u)" != 0 ]; then
-        echo "$script: packages are installed by root: sudo $0" >&2
+        echo "$script: packages are installed by root: sudo $0${folder:+ $folder}" >&2
         exit 1
     fi
     export DEBIAN_FRONTEND=noninteractive

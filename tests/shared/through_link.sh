@@ -4,7 +4,7 @@
 # If a program is missing, the script ends with a line NOT RUN.
 link=$top/examples/link
 inside=()
-if ! missing=$("$link/install.sh" --check); then
+if ! missing=$("$top/tests/install.sh" --check examples/link); then
     ! "$top/bench/uml/helps.sh" "$missing" || inside=("$top/bench/uml/run.sh")
 fi
 for command in "$@"; do

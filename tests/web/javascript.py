@@ -352,7 +352,7 @@ def main():
             compare("Chromium", in_chromium(package, work, path), lines, texts)
             print(f"{NAME}: Chromium: the same results, of a history with checksum {hashlib.sha256(''.join(texts).encode()).hexdigest()[:12]}")
         else:
-            print(f"NOT RUN: {NAME}: no Chromium here, so the package did not run in it (report/install.sh)")
+            print(f"NOT RUN: {NAME}: no Chromium here, so the package did not run in it (tests/install.sh report)")
     finish()
 
 

@@ -753,7 +753,7 @@ def check_browsers(work, wasm, given, wanted, text, large):
     is_here = {Chromium: shutil.which("chromium") and shutil.which("chromedriver") and importlib.util.find_spec("selenium"), Firefox: shutil.which("firefox-esr") or shutil.which("firefox")}
     for kind, found in is_here.items():
         if not found:
-            print(f"NOT RUN: {NAME}: no {kind.name} here, so the page was not opened by it (report/install.sh)")
+            print(f"NOT RUN: {NAME}: no {kind.name} here, so the page was not opened by it (tests/install.sh report)")
             continue
         browser = kind(work)
         try:

@@ -7,24 +7,16 @@ use std::io::ErrorKind;
 use std::process::ExitCode;
 use std::{env, io};
 
-fn main(mut rt: HostRuntime) -> ExitCode {
+fn main(rt: HostRuntime) -> ExitCode {
     let words: Vec<String> = match words(&rt) {
         Some(words) => words,
         None => return ExitCode::from(1),
     };
-    let (alloc, input) = (rt.alloc(), rt.stdin());
     let mut output = Output::standard(rt.stdout());
-    let mut errors = rt.stderr();
-    let end = command(
-        &mut rt,
-        alloc,
-        words.as_slice(),
-        input,
-        &mut output,
-        &mut errors,
-    );
+    let (input, errors) = (rt.stdin(), rt.stderr());
+    let end = command(&rt, &rt, words.as_slice(), input, &mut output, errors);
     let is_closed = output.is_closed();
-    end.report(output.reason(), is_closed, &mut errors);
+    end.report(output.reason(), is_closed, errors);
     ExitCode::from(end.status(is_closed))
 }
 

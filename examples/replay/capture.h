@@ -1,10 +1,12 @@
-/* The IP packet in a frame of a capture. */
-#ifndef REPLAY_FRAME_H
-#define REPLAY_FRAME_H
+/* Captures: the IP packet in a frame, and a capture written as pcapng, with comments. */
+#ifndef REPLAY_CAPTURE_H
+#define REPLAY_CAPTURE_H
 
+#include <pcap/pcap.h>
 #include <stdbool.h>
 #include <stddef.h>
 #include <stdint.h>
+#include <stdio.h>
 
 struct ip_packet {
     const uint8_t *bytes; /* the packet, from its IP header on */
@@ -24,5 +26,16 @@ bool is_known_link(int link);
  * contains no IP packet, FRAME_CUT if length and ECN field were not captured, FRAME_WRONG if the lengths in the header
  * are impossible. */
 int read_frame(int link, const uint8_t *bytes, size_t caught, size_t length, struct ip_packet *packet);
+
+/* ---- a capture with comments */
+
+#define LONGEST_COMMENT 1024 /* bytes */
+
+/* Writes the header before the frames: one section, one interface of this link type (DLT_ of libpcap), times in
+ * nanoseconds. */
+bool write_interface(FILE *file, int link, uint32_t longest);
+
+/* Writes a frame of this moment, in ns since 1970, with a comment unless that is empty. */
+bool write_frame(FILE *file, const struct pcap_pkthdr *header, uint64_t moment, const uint8_t *bytes, const char *comment);
 
 #endif

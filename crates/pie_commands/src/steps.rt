@@ -11,8 +11,8 @@ use crate::line::{lead, parts, say, say_parts, say_text};
 use crate::progress::ProgressReader;
 use pie_explain::{Digest, EventChoice, ExplainFault, Selection, SummariesOnly};
 use pie_linux_history::{
-    Beside, Differences, PacketWords, StepPieces, StepsAudit, StepsCounts, StepsExplained, StepsFault,
-    StepsFinding, report,
+    Beside, Differences, PacketWords, StepPieces, StepsAudit, StepsCounts, StepsExplained,
+    StepsFault, StepsFinding, report,
 };
 use std::alloc::Global;
 use std::io::Stderr;
